@@ -1,0 +1,5 @@
+pub mod Delimiters
+pub mod Markers
+pub mod Walking
+pub mod Finding
+mod Quotes

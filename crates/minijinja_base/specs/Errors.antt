@@ -1,0 +1,27 @@
+-- What a refusal says.
+use Rattle.std.specs.Prelude.{◌≡◌, Option, None}
+use Rattle.std.specs.Borrow.{Bor}
+use Rattle.minijinja_base.specs.Values.{Text}
+use Rattle.minijinja_base.specs.declared.error.Error.{Error}
+use Rattle.minijinja_base.specs.declared.error.ErrorKind.{ErrorKind}
+use Rattle.minijinja_base.specs.declared.error.ErrorKind.TheVariants.{OutOfMemory}
+use Rattle.minijinja_base.specs.declared.error.Detail.{Detail}
+use Rattle.minijinja_base.specs.declared.tokens.Span.{Span}
+
+abbrev pub kind_of : Error → ErrorKind
+kind_of e = e.kind
+
+abbrev pub detail_of : Error → Detail
+detail_of e = e.detail
+
+abbrev pub name_of : Error → Option (Bor Text)
+name_of e = e.name
+
+abbrev pub span_of : Error → Option Span
+span_of e = e.span
+
+-- memory was refused: that has no name and no place
+pub record IsOutOfMemory (e : Error) : Type 0 where
+  pub kind : kind_of e ≡ OutOfMemory
+  pub name : name_of e ≡ None
+  pub span : span_of e ≡ None

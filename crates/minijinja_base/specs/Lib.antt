@@ -1,0 +1,12 @@
+pub mod Values
+pub mod ValueContents
+pub mod Quotes
+pub mod ValueWords
+pub mod TokenWords
+pub mod SpanWords
+pub mod Tokens
+pub mod Errors
+pub mod Syntax
+pub mod SyntaxFields
+pub mod Markers
+pub mod Positions
