@@ -1,0 +1,10 @@
+pub mod Counting
+pub mod Scanning
+pub mod Integers
+pub mod Steps
+pub mod InsideSteps
+pub mod OutsideSteps
+pub mod OneCut
+pub mod SomeCut
+pub mod Slices
+pub mod Order

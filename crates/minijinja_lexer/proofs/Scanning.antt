@@ -1,0 +1,107 @@
+-- Runs of bytes and of characters at the front of a text.
+use Rattle.std.proofs.Common.{◌≡◌, ℕ, zero, suc, get_or-drop, length-drop, ◌+◌, ◌-◌, ◌<◌, ◌≤◌, ◌≢◌, Bool, true, false, cond, List, [], ◌∷◌, ◌++◌, length, drop, get_or, refl, ap, sym, ◌∙◌, arith, subst, length-append}
+use Rattle.std.specs.List.{prefix_len}
+use Rattle.std.specs.Str.{IsUtf8, IsCharBoundary, chars}
+use Rattle.std.specs.Char.{len_utf8, encode_utf8, is_ascii_digit, is_ascii_whitespace}
+use Rattle.std.proofs.lemmas.List.Sums.{prefix_len_passes}
+use Rattle.std.proofs.lemmas.Bool.Decides.{nat_tests}
+use Rattle.std.proofs.lemmas.Str.{chars-nil, IsCharBoundary-start, IsCharBoundary-after_ascii, IsCharBoundary-before_ascii, IsCharBoundary-from_drop, chars_past_char, drop_past_char, IsUtf8-past_char, length-encode, len_utf8_bounds}
+use Rattle.std.specs.Prelude.{IsTrue, ◌||◌, ◌==◌}
+use Rattle.unicode_ident.specs.Ident.{is_xid_continue}
+use Rattle.minijinja_base.specs.Values.{Text}
+use Rattle.minijinja_lexer.specs.TokenAt.{is_quote, name_len, continues_name}
+
+-- a run of bytes below 128 ends between characters
+pub ascii_run : (p : ℕ → Bool) (bs : Text) → ((b : ℕ) → p b ≡ true → b < 128) → IsUtf8 bs → prefix_len p bs ≤ length bs → IsCharBoundary bs (prefix_len p bs)
+ascii_run p bs low u le = at_end (prefix_len p bs) refl
+  where
+    at_end : (n : ℕ) → n ≡ prefix_len p bs → IsCharBoundary bs n
+    at_end zero e = IsCharBoundary-start bs u
+    at_end (suc n) e =
+        let k : n < prefix_len p bs = omega arith in
+        let h : n < length bs = omega arith in
+        let f : n + 1 ≡ suc n = omega arith in
+        subst (λ m. IsCharBoundary bs m) f (IsCharBoundary-after_ascii bs n u h (low (get_or bs n 0) (prefix_len_passes p bs n 0 k)))
+
+pub digit_low : (b : ℕ) → is_ascii_digit b ≡ true → b < 128
+digit_low b h = grind (arith, nat_tests)
+
+pub space_low : (b : ℕ) → is_ascii_whitespace b ≡ true → b < 128
+space_low b h = grind (arith, nat_tests)
+
+-- len bytes of the text are characters that a name goes on with, and rest follows
+pub record NameRun (text : Text) (len : ℕ) (rest : Text) : Type 0 where
+  pub counted : len + name_len (chars rest) ≡ name_len (chars text)
+  pub there : drop len text ≡ rest
+  pub lens : len + length rest ≡ length text
+  pub utf8 : IsUtf8 rest
+
+pub name_start : (text : Text) → IsUtf8 text → NameRun text 0 text
+name_start text u = record { counted = omega arith; there = refl; lens = omega arith; utf8 = u }
+
+name_cons : (c : ℕ) (cs : List ℕ) → continues_name c ≡ true → name_len (c ∷ cs) ≡ len_utf8 c + name_len cs
+name_cons c cs h = ap (λ t. cond t (len_utf8 c + name_len cs) 0) h
+
+name_none : (c : ℕ) (cs : List ℕ) → continues_name c ≡ false → name_len (c ∷ cs) ≡ 0
+name_none c cs h = ap (λ t. cond t (len_utf8 c + name_len cs) 0) h
+
+pub name_step : (text : Text) (len : ℕ) (rest after : Text) (c : ℕ) → NameRun text len rest → rest ≡ encode_utf8 c ++ after → continues_name c ≡ true → NameRun text (len + len_utf8 c) after
+name_step text len rest after c run e h =
+    let chars_are : chars rest ≡ c ∷ chars after = chars_past_char rest after c run.utf8 e in
+    let name_is : name_len (chars rest) ≡ len_utf8 c + name_len (chars after) = ap name_len chars_are ∙ name_cons c (chars after) h in
+    let len_is : length rest ≡ len_utf8 c + length after = ap length e ∙ length-append (encode_utf8 c) after ∙ ap (λ n. n + length after) (length-encode c) in
+    record {
+      counted = omega (arith, name_is, run.counted);
+      there = drop_past_char text after len c (run.there ∙ e);
+      lens = omega (arith, len_is, run.lens);
+      utf8 = IsUtf8-past_char rest after c run.utf8 e;
+    }
+
+pub name_stop : (text : Text) (len : ℕ) (rest after : Text) (c : ℕ) → NameRun text len rest → rest ≡ encode_utf8 c ++ after → continues_name c ≡ false → len ≡ name_len (chars text)
+name_stop text len rest after c run e h =
+    let name_is : name_len (chars rest) ≡ 0 = ap name_len (chars_past_char rest after c run.utf8 e) ∙ name_none c (chars after) h in
+    omega (arith, name_is, run.counted)
+
+pub name_end : (text : Text) (len : ℕ) (rest : Text) → NameRun text len rest → length rest ≡ 0 → len ≡ name_len (chars text)
+name_end text len [] run h = let none : name_len (chars []) ≡ 0 = ap name_len chars-nil in omega (arith, run.counted, none)
+name_end text len (b ∷ bs) run h = absurd (omega (arith, h))
+
+pub name_boundary : (text : Text) (len : ℕ) (rest : Text) → NameRun text len rest → IsCharBoundary text len
+name_boundary text len rest run = IsCharBoundary-from_drop text len (omega (arith, run.lens)) (subst IsUtf8 (sym run.there) run.utf8)
+
+pub quote_low : (b : ℕ) → is_quote b ≡ true → b < 128
+quote_low b h = grind (arith, nat_tests)
+
+-- past the closing quote
+pub quoted_end : (text rest : Text) (n q : ℕ) → IsUtf8 text → rest ≡ drop 1 text → n < length rest → get_or rest n 0 ≡ q → q < 128 → IsCharBoundary text (n + 2)
+quoted_end text rest n q u e h f low =
+    let l : length rest ≡ length text - 1 = ap length e ∙ length-drop 1 text in
+    let r : get_or text (1 + n) 0 ≡ q = sym (get_or-drop 1 text n 0) ∙ sym (ap (λ s. get_or s n 0) e) ∙ f in
+    let s : 1 + n + 1 ≡ n + 2 = omega arith in
+    subst (λ m. IsCharBoundary text m) s (IsCharBoundary-after_ascii text (1 + n) u (omega arith) (omega (arith, r)))
+
+pub begins_some : (text after : Text) (c : ℕ) → IsUtf8 text → text ≡ encode_utf8 c ++ after → continues_name c ≡ true → 0 < name_len (chars text)
+begins_some text after c u e h =
+    let name_is : name_len (chars text) ≡ len_utf8 c + name_len (chars after) = ap name_len (chars_past_char text after c u e) ∙ name_cons c (chars after) h in
+    let b = len_utf8_bounds c in
+    omega (arith, name_is, b.0)
+
+pub begins_continues : (x : Bool) (c : ℕ) → (IsTrue x → IsTrue (is_xid_continue c)) → IsTrue (x || (c == 95)) → continues_name c ≡ true
+begins_continues true c f h = ap (λ t. t || (c == 95)) (f refl)
+begins_continues false c f h = or_right (is_xid_continue c) (c == 95) h
+  where
+    or_right : (a b : Bool) → b ≡ true → (a || b) ≡ true
+    or_right true b e = refl
+    or_right false b e = e
+
+-- between the quotes
+pub quoted_inside : (text rest : Text) (n q : ℕ) → IsUtf8 text → rest ≡ drop 1 text → n < length rest → get_or rest n 0 ≡ q → q < 128 → get_or text 0 0 ≡ q → (0 + 1 ≤ n + 2 - 1) × IsCharBoundary text (0 + 1) × IsCharBoundary text (n + 2 - 1)
+quoted_inside text rest n q u e h f low g =
+    let l : length rest ≡ length text - 1 = ap length e ∙ length-drop 1 text in
+    let r : get_or text (1 + n) 0 ≡ q = sym (get_or-drop 1 text n 0) ∙ sym (ap (λ s. get_or s n 0) e) ∙ f in
+    let s : 1 + n ≡ n + 2 - 1 = omega arith in
+    (omega arith, IsCharBoundary-after_ascii text 0 u (omega arith) (omega (arith, g)), subst (λ m. IsCharBoundary text m) s (IsCharBoundary-before_ascii text (1 + n) (omega arith) (omega (arith, r))))
+
+-- of the quote and the backslash it is the quote
+pub not_backslash : (b q : ℕ) → (b == q || b == 92) ≡ true → b ≢ 92 → b ≡ q
+not_backslash b q h n = grind (arith, nat_tests)

@@ -1,0 +1,12 @@
+pub mod Stream
+pub mod Place
+pub mod AtCursor
+pub mod TokenAt
+pub mod Cut
+pub mod Places
+pub mod TextTokens
+pub mod Found
+pub mod States
+pub mod AtTokenizer
+pub mod Relation
+pub mod Slices

@@ -1,0 +1,123 @@
+//! A place in a text, whose line and column are kept as it moves.
+ghost use Rattle.std.specs.Prelude.{◌≡◌, ℕ, ◌+◌, ◌<◌, ◌≤◌, length};
+
+use crate::count::after;
+use minijinja_base::tokens::Span;
+use std::marker::Model;
+
+/// A place between characters. The line counts from 1 and the column from 0, in characters; both stop at 65535.
+#[derive(Drop)]
+pub(crate) struct Cursor<'s> {
+    text: &'s str,
+    at: usize,
+    line: u16,
+    column: u16,
+}
+
+impl<'s> Model for Cursor<'s> {
+    ghost use Rattle.minijinja_lexer.specs.Place.{Place};
+
+    ghost Value = { Place };
+
+    ghost use Rattle.minijinja_lexer.specs.AtCursor.{cursor_view, IsCursor};
+
+    ghost view = { cursor_view };
+
+    ghost invariant = { IsCursor };
+}
+
+impl<'s> Cursor<'s> {
+    ghost use Rattle.std.specs.Prelude.{◌≡◌, ℕ, ◌+◌, ◌<◌, ◌≤◌, ◌^◌, length, take};
+    ghost use Rattle.std.specs.Str.{IsCharBoundary};
+    ghost use Rattle.minijinja_base.specs.Positions.{span_at, line_after, column_after};
+    ghost use Rattle.minijinja_lexer.specs.Place.{Place};
+    ghost use Rattle.minijinja_lexer.specs.TextTokens.{refusal_span};
+
+    pub(crate) fn new(text: &'s str) -> Self
+        requires { length text.now < 2 ^ 32 }
+        ensures { result ≡ record { text = text.now; at = 0 } }
+    {
+        Cursor {
+            text,
+            at: 0,
+            line: 1,
+            column: 0,
+        }
+    }
+
+    pub(crate) fn text(&self) -> &'s str
+        ensures { result.now ≡ self.now.text }
+    {
+        self.text
+    }
+
+    pub(crate) fn at(&self) -> usize
+        ensures value { result ≡ self.now.at }
+        ensures boundary { IsCharBoundary self.now.text result }
+    {
+        self.at
+    }
+
+    /// The line, the column and the byte where it stands.
+    fn position(&self) -> (u16, u16, u32)
+        ensures line { result.0 ≡ line_after (take self.now.at self.now.text) }
+        ensures column { result.1 ≡ column_after (take self.now.at self.now.text) }
+        ensures offset { result.2 ≡ self.now.at }
+    {
+        (self.line, self.column, self.at as u32)
+    }
+
+    /// Moves on to a place.
+    fn advance(&mut self, to: usize)
+        requires onwards { self.old.at ≤ to }
+        requires boundary { IsCharBoundary self.old.text to }
+        ensures { self.new ≡ record { text = self.old.text; at = to } }
+    {
+        let (line, column) = after(self.text, self.at, to, self.line, self.column);
+        self.line = line;
+        self.column = column;
+        self.at = to;
+    }
+
+    /// Moves over a stretch, and answers its span.
+    pub(crate) fn span(&mut self, start: usize, stop: usize) -> Span
+        requires onwards { self.old.at ≤ start }
+        requires ordered { start ≤ stop }
+        requires start_boundary { IsCharBoundary self.old.text start }
+        requires stop_boundary { IsCharBoundary self.old.text stop }
+        ensures span { result ≡ span_at self.old.text start stop }
+        ensures place { self.new ≡ record { text = self.old.text; at = stop } }
+    {
+        self.advance(start);
+        let (start_line, start_col, start_offset) = self.position();
+        self.advance(stop);
+        let (end_line, end_col, end_offset) = self.position();
+        Span {
+            start_line,
+            start_col,
+            start_offset,
+            end_line,
+            end_col,
+            end_offset,
+        }
+    }
+
+    /// Moves on to where the text is refused, and answers the refusal's span.
+    pub(crate) fn refusal(&mut self, place: usize) -> Span
+        requires onwards { self.old.at ≤ place }
+        requires boundary { IsCharBoundary self.old.text place }
+        ensures span { result ≡ refusal_span self.old.text place }
+        ensures place { self.new ≡ record { text = self.old.text; at = place } }
+    {
+        self.advance(place);
+        let (line, column, offset) = self.position();
+        Span {
+            start_line: line,
+            start_col: column,
+            start_offset: offset,
+            end_line: line,
+            end_col: column.saturating_add(1),
+            end_offset: offset.saturating_add(1),
+        }
+    }
+}

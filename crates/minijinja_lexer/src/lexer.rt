@@ -1,0 +1,114 @@
+//! The tokenizer. A clause sees the tokens to come.
+ghost use Rattle.std.specs.Prelude.{◌≡◌, ◌<◌, ◌^◌, length, IfErr, if◌then◌else◌};
+ghost use Rattle.minijinja_base.specs.Errors.{kind_of};
+ghost use Rattle.minijinja_base.specs.declared.error.ErrorKind.TheVariants.{SyntaxError};
+ghost use Rattle.minijinja_lexer.specs.Stream.{Answers, IsNamed};
+ghost use Rattle.minijinja_lexer.specs.TextTokens.{text_of, tokens_of_template, tokens_of_expression};
+
+use crate::cursor::Cursor;
+use crate::fault::refusal;
+use crate::inside::step_inside;
+use crate::outside::step_outside;
+use crate::source::text_of;
+use crate::step::{State, Step};
+use crate::turn::Tag;
+use minijinja_base::error::Error;
+pub use minijinja_base::syntax::StartMarker;
+use minijinja_base::syntax::SyntaxConfig;
+use minijinja_base::tokens::{Span, Token};
+use std::alloc::Global;
+use std::marker::Model;
+
+/// Cuts a text into tokens that borrow it.
+#[derive(Drop)]
+pub struct Tokenizer<'s, 'c> {
+    filename: &'s str,
+    cursor: Cursor<'s>,
+    state: State,
+    syntax: &'c SyntaxConfig,
+    alloc: Global,
+}
+
+impl<'s, 'c> Model for Tokenizer<'s, 'c> {
+    ghost use Rattle.minijinja_lexer.specs.Stream.{Lexing};
+
+    ghost Value = { Lexing };
+
+    ghost use Rattle.minijinja_lexer.specs.AtTokenizer.{tokenizer_view};
+
+    ghost view = { tokenizer_view };
+}
+
+impl<'s, 'c> Tokenizer<'s, 'c> {
+    /// The tokens of a template, or of one expression. The allocator is kept for tokens that need memory.
+    #[tactic(auto, unfolding(crate::specs::TextTokens::tokens_of_template, crate::specs::TextTokens::tokens_of_expression))]
+    pub fn new(
+        alloc: Global,
+        input: &'s str,
+        filename: &'s str,
+        in_expr: bool,
+        syntax: &'c SyntaxConfig,
+    ) -> Self
+        requires { length input.now < 2 ^ 32 }
+        ensures filename { result.filename ≡ filename.now }
+        ensures source { result.source ≡ text_of input.now }
+        ensures stream { result.stream ≡ (if in_expr then tokens_of_expression syntax.now input.now else tokens_of_template syntax.now input.now) }
+    {
+        let state = if in_expr {
+            State::Inside(Tag::Variable, true)
+        } else {
+            State::Outside
+        };
+        Tokenizer {
+            filename,
+            cursor: Cursor::new(text_of(input)),
+            state,
+            syntax,
+            alloc,
+        }
+    }
+
+    /// The name of the source.
+    pub fn filename(&self) -> &'s str
+        ensures { result.now ≡ self.now.filename }
+    {
+        self.filename
+    }
+
+    /// The text: the source after its end was stripped.
+    pub fn source(&self) -> &'s str
+        ensures { result.now ≡ self.now.source }
+    {
+        self.cursor.text()
+    }
+
+    /// The next token and where it stands, `None` at the end and from then on, or the refusal and from then on.
+    pub fn next_token(&mut self) -> Result<Option<(Token<'s>, Span)>, Error<'s>>
+        ensures answers { Answers self.old.stream result self.new.stream }
+        ensures cause { IfErr result (λ e. kind_of e ≡ SyntaxError) }
+        ensures named { IfErr result (λ e. IsNamed self.old.filename e) }
+        ensures filename { self.new.filename ≡ self.old.filename }
+        ensures source { self.new.source ≡ self.old.source }
+    {
+        let step = match self.state {
+            State::Outside => step_outside(self.syntax, &mut self.cursor),
+            State::Inside(tag, whole) => { step_inside(self.syntax, &mut self.cursor, tag, whole) }
+            State::Over => Step::Over,
+            State::Failed(fault, span) => Step::Failed(fault, span),
+        };
+        match step {
+            Step::Token(token, span, state) => {
+                self.state = state;
+                Ok(Some((token, span)))
+            }
+            Step::Over => {
+                self.state = State::Over;
+                Ok(None)
+            }
+            Step::Failed(fault, span) => {
+                self.state = State::Failed(fault, span);
+                Err(refusal(fault, self.filename, span))
+            }
+        }
+    }
+}

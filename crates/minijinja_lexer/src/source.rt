@@ -1,0 +1,24 @@
+//! The text of a source.
+ghost use Rattle.std.specs.Prelude.{◌≡◌, ◌<◌, ◌≤◌, length};
+ghost use Rattle.std.specs.Io.BufRead.{strip_last};
+ghost use Rattle.minijinja_lexer.specs.TextTokens as spec;
+
+fn without_last(text: &str, byte: u8) -> &str
+    requires { byte < 128 }
+    ensures value { result.now ≡ strip_last byte text.now }
+    ensures length { length result.now ≤ length text.now }
+{
+    match text.as_bytes().last() {
+        Some(last) if *last == byte => &text[..text.len() - 1],
+        _ => text,
+    }
+}
+
+/// The source without one final `\n`, and then without one final `\r`.
+#[tactic(auto, unfolding(crate::specs::TextTokens::text_of))]
+pub(crate) fn text_of(source: &str) -> &str
+    ensures value { result.now ≡ spec.text_of source.now }
+    ensures length { length result.now ≤ length source.now }
+{
+    without_last(without_last(source, b'\n'), b'\r')
+}

@@ -1,0 +1,21 @@
+//! One step of the tokenizer.
+use crate::fault::Fault;
+use crate::turn::Tag;
+use minijinja_base::tokens::{Span, Token};
+
+/// Where the tokenizer stands: a tag may be the whole text.
+#[derive(Clone, Copy)]
+pub(crate) enum State {
+    Outside,
+    Inside(Tag, bool),
+    Over,
+    Failed(Fault, Span),
+}
+
+/// What a step gives: a token, its span and the state after it.
+#[derive(Drop)]
+pub(crate) enum Step<'s> {
+    Token(Token<'s>, Span, State),
+    Over,
+    Failed(Fault, Span),
+}
