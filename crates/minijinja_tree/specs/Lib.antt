@@ -1,0 +1,4 @@
+pub mod Nodes
+pub mod Tree
+pub mod Erasure
+pub mod WellFormed

@@ -1,0 +1,6 @@
+//! The tree of a template.
+#![tactic(auto)]
+
+pub mod ast;
+#[cfg(test)]
+mod tests;
