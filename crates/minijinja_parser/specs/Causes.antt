@@ -1,0 +1,12 @@
+-- Why a text is refused.
+use Rattle.std.specs.Prelude.{◌≡◌, ◌⊎◌}
+use Rattle.minijinja_base.specs.Errors.{kind_of}
+use Rattle.minijinja_base.specs.declared.error.Error.{Error}
+use Rattle.minijinja_base.specs.declared.error.ErrorKind.TheVariants.{OutOfMemory, SourceTooLong, SyntaxError}
+
+-- memory ran out, or the source is too long
+abbrev pub IsLimit : Error → Type 0
+IsLimit e = (kind_of e ≡ OutOfMemory) ⊎ (kind_of e ≡ SourceTooLong)
+
+abbrev pub IsCause : Error → Type 0
+IsCause e = (kind_of e ≡ SyntaxError) ⊎ IsLimit e

@@ -1,0 +1,23 @@
+-- What a private function of the parser returns, in terms of reading. These definitions need not be believed: the public
+-- clauses rest on what is proved of them.
+use Rattle.std.specs.Prelude.{◌≡◌, ◌≢◌, Option, Some, None, Result, Ok, Err}
+use Rattle.minijinja_base.specs.Errors.{kind_of}
+use Rattle.minijinja_base.specs.declared.error.Error.{Error}
+use Rattle.minijinja_base.specs.declared.error.ErrorKind.TheVariants.{OutOfMemory, SyntaxError}
+use Rattle.minijinja_lexer.specs.Stream.{Stream, finished}
+use Rattle.minijinja_parser.specs.Grammar.{Tokens}
+use Rattle.minijinja_parser.specs.Ahead.{Ahead, left}
+
+-- what was read is returned, and nothing is read where the function fails, unless memory ran out or the tokens end refused
+abbrev pub Gives : {X A : Type 0} → (X → A) → Result X Error → Ahead → Option (A × Tokens) → Type 0
+Gives view (Ok x) new read = read ≡ Some (view x, left new)
+Gives view (Err e) new read = kind_of e ≢ OutOfMemory → new.stream.ending ≡ finished → read ≡ None
+
+-- the same of a function that reads all of the tokens
+abbrev pub GivesAll : {X A : Type 0} → (X → A) → Result X Error → Stream → Option A → Type 0
+GivesAll view (Ok x) s read = (read ≡ Some (view x)) × (s.ending ≡ finished)
+GivesAll view (Err e) s read = kind_of e ≢ OutOfMemory → s.ending ≡ finished → read ≡ None
+
+-- a failure is for want of memory, or a syntax error
+abbrev pub IsFailure : Error → Type 0
+IsFailure e = kind_of e ≢ OutOfMemory → kind_of e ≡ SyntaxError

@@ -1,0 +1,11 @@
+pub mod Rules
+pub mod Words
+pub mod Grammar
+pub mod Derived
+pub mod Reading
+pub mod Ahead
+pub mod Gives
+pub mod Causes
+pub mod NodeSpans
+pub mod Over
+pub mod AtTokenStream
