@@ -1,0 +1,9 @@
+pub mod Runs
+pub mod Lengths
+pub mod Simulation
+pub mod Balance
+pub mod Whole
+pub mod Hints
+pub mod OneByOne
+pub mod Templates
+pub mod Examples

@@ -1,0 +1,35 @@
+-- What a generator shows of itself.
+use Rattle.std.specs.Prelude.{◌≡◌, ℕ, ◌≤◌, ◌^◌, List, Option, length}
+use Rattle.std.specs.Borrow.{Bor}
+use Rattle.std.specs.BTreeMap.{BTreeMap}
+use Rattle.minijinja_base.specs.Values.{Text}
+use Rattle.minijinja_base.specs.Errors.{kind_of}
+use Rattle.minijinja_base.specs.declared.error.Error.{Error}
+use Rattle.minijinja_base.specs.declared.error.ErrorKind.TheVariants.{TooManyInstructions}
+use Rattle.minijinja_code.specs.Code.{Instr, code_of}
+use Rattle.minijinja_code.specs.declared.codegen.CodeGenerator.{CodeGenerator}
+use Rattle.minijinja_code.specs.declared.instructions.Instructions.{Instructions}
+
+-- the list so far
+abbrev pub list_of : {V F : Type 0} → CodeGenerator V F → Instructions V F
+list_of g = g.instructions
+
+-- its instructions over what values hold
+abbrev pub generated : {V F C : Type 0} → (V → C) → CodeGenerator V F → List (Instr C)
+generated c g = code_of c (list_of g)
+
+-- the blocks' lists, by name
+abbrev pub blocks_of : {V F : Type 0} → CodeGenerator V F → BTreeMap (Bor Text) (Instructions V F)
+blocks_of g = g.blocks
+
+-- the bytes of the data nodes so far, where they number under 2 ^ 64
+abbrev pub counted_bytes : {V F : Type 0} → CodeGenerator V F → ℕ
+counted_bytes g = g.raw_template_bytes
+
+-- the refusal that it answers from now on
+abbrev pub refusal_of : {V F : Type 0} → CodeGenerator V F → Option Error
+refusal_of g = g.refusal
+
+-- a refusal for want of room comes only where the list would have 2 ^ 32 instructions or more
+abbrev pub OnlyWhereTooLong : {C : Type 0} → Error → List (Instr C) → Type 0
+OnlyWhereTooLong e code = kind_of e ≡ TooManyInstructions → 2 ^ 32 ≤ length code

@@ -1,0 +1,21 @@
+-- What a list of instructions shows of itself.
+use Rattle.std.specs.Prelude.{◌≡◌, ◌⊎◌, List}
+use Rattle.minijinja_base.specs.Values.{Text}
+use Rattle.minijinja_base.specs.Errors.{kind_of}
+use Rattle.minijinja_base.specs.declared.error.Error.{Error}
+use Rattle.minijinja_base.specs.declared.error.ErrorKind.TheVariants.{OutOfMemory, TooManyInstructions}
+use Rattle.minijinja_code.specs.declared.instructions.Instruction.{Instruction}
+use Rattle.minijinja_code.specs.declared.instructions.Instructions.{Instructions}
+
+abbrev pub instructions_of : {V F : Type 0} → Instructions V F → List (Instruction V F)
+instructions_of code = code.instructions.items
+
+abbrev pub name_of : {V F : Type 0} → Instructions V F → Text
+name_of code = code.name.now
+
+abbrev pub source_of : {V F : Type 0} → Instructions V F → Text
+source_of code = code.source.now
+
+-- an instruction is refused for want of memory or of room
+abbrev pub IsAddError : Error → Type 0
+IsAddError e = (kind_of e ≡ OutOfMemory) ⊎ (kind_of e ≡ TooManyInstructions)

@@ -1,0 +1,10 @@
+pub mod InstructionLists
+pub mod Events
+pub mod Meaning
+pub mod Code
+pub mod Layout
+pub mod Machine
+pub mod Brackets
+pub mod Correct
+pub mod Hint
+pub mod Generator

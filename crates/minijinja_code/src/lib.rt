@@ -1,0 +1,7 @@
+//! From the tree of a template to its instructions.
+#![tactic(auto)]
+
+pub mod codegen;
+pub mod instructions;
+#[cfg(test)]
+mod tests;
