@@ -1,0 +1,61 @@
+//! From a source text to its instructions.
+ghost use Rattle.std.specs.Prelude.{◌≡◌, ◌≤◌, ◌^◌, length, IfErr, IfOk, IsErrAnd, MatchResult, ⊤};
+ghost use Rattle.minijinja_base.specs.Errors.{kind_of};
+ghost use Rattle.minijinja_base.specs.declared.error.ErrorKind.TheVariants.{SyntaxError, SourceTooLong, TooManyInstructions};
+ghost use Rattle.minijinja_parser.specs.Derived.{IsDerived};
+ghost use Rattle.minijinja_compiler.specs.Headline.{IsCompiled, HasTooLongCode, IsLimit, IsCause};
+
+use minijinja_base::error::Error;
+use minijinja_base::syntax::SyntaxConfig;
+use minijinja_base::value::TemplateValue;
+use minijinja_code::codegen::CodeGenerator;
+use minijinja_code::instructions::Instructions;
+use minijinja_parser::parser::parse;
+use std::alloc::Global;
+use std::collections::BTreeMap;
+
+/// The code of a template. It borrows the source alone.
+#[derive(Drop)]
+pub struct Compiled<'s, V: TemplateValue> {
+    /// The template's own instructions.
+    pub instructions: Instructions<'s, V>,
+    /// The instructions of each block, by its name.
+    pub blocks: BTreeMap<&'s str, Instructions<'s, V>>,
+    /// How large a buffer the output may want, in bytes: the least power of two at or over twice the bytes outside of tags.
+    pub buffer_size_hint: usize,
+}
+
+/// Compiles a template, whose source has this name.
+///
+/// A text that the grammar does not derive is a syntax error, with its place. Other refusals are those of memory, of a source
+/// of 2^32 bytes or more and of a list of 2^32 instructions or more.
+pub fn compile<'s, V: TemplateValue>(
+    alloc: Global,
+    source: &'s str,
+    filename: &'s str,
+    syntax: &SyntaxConfig,
+) -> Result<Compiled<'s, V>, Error<'s>>
+    // The code is that of the one tree of the text, and does what the tree means.
+    ensures compiled { IfOk result (IsCompiled V.functions V.contents syntax.now source.now filename.now) }
+
+    // A text is refused as a syntax error exactly where the grammar derives no tree of it.
+    ensures refused { IfErr result (λ e. kind_of e ≡ SyntaxError → (t : _) → IsDerived V.functions syntax.now source.now t → ⊥) }
+    ensures accepted { (t : _) → IsDerived V.functions syntax.now source.now t → MatchResult result (λ _. ⊤) IsLimit }
+
+    // A source is too long exactly from 2^32 bytes on, and code only where the tree's has 2^32 instructions or more.
+    ensures too_long { 2 ^ 32 ≤ length source.now → IsErrAnd result (λ e. kind_of e ≡ SourceTooLong) }
+    ensures too_long_only { IfErr result (λ e. kind_of e ≡ SourceTooLong → 2 ^ 32 ≤ length source.now) }
+    ensures too_many_only { IfErr result (λ e. kind_of e ≡ TooManyInstructions → HasTooLongCode V.functions syntax.now source.now) }
+    ensures causes { IfErr result IsCause }
+{
+    let template = parse(alloc, source, filename, syntax)?;
+    let mut generator = CodeGenerator::new(alloc, filename, source);
+    generator.compile_stmt(&template)?;
+    let buffer_size_hint = generator.buffer_size_hint();
+    let (instructions, blocks) = generator.finish();
+    Ok(Compiled {
+        instructions,
+        blocks,
+        buffer_size_hint,
+    })
+}
