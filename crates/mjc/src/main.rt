@@ -1,0 +1,46 @@
+//! The program `mjc`, which shows what a template compiles to.
+#![tactic(auto)]
+
+pub mod fault;
+mod print;
+pub mod run;
+mod source;
+#[cfg(test)]
+mod tests;
+mod usage;
+
+use fault::Fault;
+use run::{refuse, run};
+use source::Source;
+use std::env;
+use std::io::{self, BufWriter};
+use std::process::ExitCode;
+
+/// Runs with the words and the streams of the process.
+fn start(rt: &HostRuntime) -> io::Result<u8> {
+    let alloc = rt.alloc();
+    let words: Vec<String> = env::args(rt)?.skip(1).collect(alloc)?;
+    let args: Vec<&str> = words.iter().map(|word| word.as_str()).collect(alloc)?;
+    let mut file = Source::open(rt, usage::file_named(&args));
+    let mut out = BufWriter::new(alloc, rt.stdout())?;
+    let mut err = rt.stderr();
+    let status = run(
+        alloc,
+        &args,
+        &mut file,
+        &mut io::empty(),
+        &mut out,
+        &mut err,
+    );
+    // What could not be written is not tried again.
+    let _ = out.into_parts();
+    Ok(status)
+}
+
+fn main(rt: HostRuntime) -> ExitCode {
+    let status = match start(&rt) {
+        Ok(status) => status,
+        Err(error) => refuse(&mut rt.stderr(), Fault::of_words(&error)),
+    };
+    ExitCode::from(status)
+}

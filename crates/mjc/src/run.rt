@@ -1,0 +1,97 @@
+//! One run of the program, on any readers and writers.
+ghost use Rattle.std.specs.Prelude.{◌≡◌, ◌≤◌, IfOk, IfSome, IsErr, IsErrOf, OnOk, string_bytes};
+ghost use Rattle.std.specs.Io.KnownBytes.{IsAtEnd};
+ghost use Rattle.mjc.specs.Usage.{IsUsage};
+ghost use Rattle.mjc.specs.Reading.{IsNoText};
+ghost use Rattle.mjc.specs.Fault.{status_of};
+
+use crate::fault::Fault;
+use crate::print::print_code;
+use crate::usage::file_named;
+use minijinja_compiler::compile::compile;
+use minijinja_compiler::syntax::SyntaxConfig;
+use minijinja_compiler::value::Value;
+use std::alloc::Global;
+use std::io::{self, Read, Write};
+
+/// Runs a command and gives the status of the process: 0 when all went well, 1 when the text is refused or memory runs
+/// out, and 2 for bad usage and for what cannot be read or written. `args` are the words behind the program's name, `file`
+/// is the file that they name, and no command reads `answers`. What went wrong is one line on `err`, and a failing write
+/// there changes nothing.
+pub fn run<R: Read, Q: Read, W: Write, X: Write>(
+    alloc: Global,
+    args: &[&str],
+    file: &mut R,
+    answers: &mut Q,
+    out: &mut W,
+    err: &mut X,
+) -> u8
+    ensures status { result ≤ 2 }
+    ensures misused { ¬ IsUsage args.now → result ≡ 2 }
+
+    // Bad usage reads nothing and prints nothing on `out`.
+    ensures unread { ¬ IsUsage args.now → file.new ≡ file.old }
+    ensures unwritten { ¬ IsUsage args.now → out.new ≡ out.old }
+    ensures answers { answers.new ≡ answers.old }
+
+    // A file that is no text fails, and nothing is printed of it. What succeeds has read all of the file.
+    ensures unreadable { IsNoText (R.remaining file.old) → 1 ≤ result }
+    ensures unprinted { IsNoText (R.remaining file.old) → out.new ≡ out.old }
+    ensures whole { result ≡ 0 → IsAtEnd (R.remaining file.new) }
+{
+    let _ = answers;
+    match run_command(alloc, args, file, out) {
+        Ok(()) => 0,
+        Err(fault) => refuse(err, fault),
+    }
+}
+
+/// Says on `err` why a run ends, and gives the status of the process.
+pub fn refuse<X: Write>(err: &mut X, fault: Fault<'_>) -> u8
+    ensures { result ≡ status_of fault.entry }
+{
+    let _ = writeln!(err, "{fault}");
+    fault.status()
+}
+
+fn run_command<'a, R: Read, W: Write>(
+    alloc: Global,
+    args: &[&'a str],
+    file: &mut R,
+    out: &mut W,
+) -> Result<(), Fault<'a>>
+    ensures misused { ¬ IsUsage args.now → IsErrOf result Fault.Usage }
+    ensures unread { ¬ IsUsage args.now → file.new ≡ file.old }
+    ensures unwritten { ¬ IsUsage args.now → out.new ≡ out.old }
+    ensures unreadable { IsNoText (R.remaining file.old) → IsErr result }
+    ensures unprinted { IsNoText (R.remaining file.old) → out.new ≡ out.old }
+    ensures whole { OnOk result (IsAtEnd (R.remaining file.new)) }
+{
+    let path = file_named(args).ok_or(Fault::Usage)?;
+    let text = read_text(alloc, file).map_err(|error| Fault::of_read(&error, path))?;
+    print_template(alloc, path, &text, out)
+}
+
+/// The whole of a reader, which has to be UTF-8.
+fn read_text<R: Read>(alloc: Global, reader: &mut R) -> io::Result<String>
+    ensures text { IfOk result (λ text. IfSome (R.remaining reader.old) (λ bytes. string_bytes text ≡ bytes)) }
+    ensures unreadable { IsNoText (R.remaining reader.old) → IsErr result }
+    ensures whole { OnOk result (IsAtEnd (R.remaining reader.new)) }
+{
+    let mut text = String::new(alloc);
+    reader.read_to_string(&mut text)?;
+    Ok(text)
+}
+
+/// Compiles the text of a path and writes its code.
+fn print_template<'a, W: Write>(
+    alloc: Global,
+    path: &'a str,
+    text: &str,
+    out: &mut W,
+) -> Result<(), Fault<'a>> {
+    let code = compile::<Value>(alloc, text, path, &SyntaxConfig::default()).map_err(
+        |error| Fault::of_refusal(&error),
+    )?;
+    print_code(out, &code).map_err(|error| Fault::of_write(&error))
+}
