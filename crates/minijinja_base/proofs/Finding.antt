@@ -3,15 +3,14 @@ use Rattle.std.proofs.Common.{◌≡◌, ℕ, ◌+◌, ◌-◌, ◌<◌, ◌≤�
 use Rattle.std.specs.Prelude.{is_some, ◌⊎◌}
 use Rattle.std.proofs.lemmas.Bool.{cases_lt}
 use Rattle.minijinja_base.specs.Values.{Text}
-use Rattle.minijinja_base.specs.Syntax.{Syntax, start_of, IsBuildable}
+use Rattle.minijinja_base.specs.Syntax.{Syntax, start_of}
 use Rattle.minijinja_base.specs.Markers.{marker_at, next_marker, found_at, found_marker, FindsMarker, NoMarkerBetween, IsMarkerAt}
 use Rattle.minijinja_base.specs.declared.syntax.StartMarker.{StartMarker}
-use Rattle.minijinja_base.proofs.Delimiters.{stands_past}
-use Rattle.minijinja_base.proofs.Markers.{AtMarker, marker_holds, no_marker_is, none_from}
-use Rattle.minijinja_base.proofs.Walking.{next_marker-within, next_marker-before, next_marker-stops}
+use Rattle.minijinja_base.proofs.Markers.{AtMarker, eligible_past, marker_holds, no_marker_is, none_from}
+use Rattle.minijinja_base.proofs.Walking.{next_marker-here, next_marker-over, next_marker-within, next_marker-before, next_marker-stops}
 
-pub none_between : (s : Syntax) (text : Text) (at : ℕ) → IsBuildable s → NoMarkerBetween s text at (next_marker s text at)
-none_between s text at built p h l = none_from s text p (marker_at s text p) (marker_holds s text p built) (next_marker-before s text at p h l)
+pub none_between : (s : Syntax) (text : Text) (at : ℕ) → NoMarkerBetween s text at (next_marker s text at)
+none_between s text at p h l = none_from s text p (marker_at s text p) (marker_holds s text p) (next_marker-before s text at p h l)
 
 finds_by : (s : Syntax) (text : Text) (at place : ℕ) (m : Option StartMarker) → at ≤ place → NoMarkerBetween s text at place → (place ≡ length text) ⊎ (is_some m ≡ true) → AtMarker s text place m → FindsMarker s text at (found_at s at place m)
 unfolding AtMarker
@@ -21,13 +20,13 @@ finds_by s text at place (Some m) le none stops h =
     (subst (λ n. IsMarkerAt s text n m) (sym e) h, refl, subst (λ n. NoMarkerBetween s text at n) (sym e) none)
 
 -- the marker that is computed is the one that is described
-pub finds : (s : Syntax) (text : Text) (at : ℕ) → IsBuildable s → at ≤ length text → FindsMarker s text at (found_marker s text at)
-finds s text at built h =
+pub finds : (s : Syntax) (text : Text) (at : ℕ) → at ≤ length text → FindsMarker s text at (found_marker s text at)
+finds s text at h =
     let place : ℕ = next_marker s text at in
-    finds_by s text at place (marker_at s text place) (next_marker-within s text at h).0 (none_between s text at built) (next_marker-stops s text at h) (marker_holds s text place built)
+    finds_by s text at place (marker_at s text place) (next_marker-within s text at h).0 (none_between s text at) (next_marker-stops s text at h) (marker_holds s text place)
 
-pub none_past : (s : Syntax) (text : Text) (p : ℕ) → IsBuildable s → length text ≤ p → marker_at s text p ≡ None
-none_past s text p built h = no_marker_is s text p (λ m. stands_past (start_of s m) text p (built.starts m) h)
+pub none_past : (s : Syntax) (text : Text) (p : ℕ) → length text ≤ p → marker_at s text p ≡ None
+none_past s text p h = no_marker_is s text p (λ m. eligible_past s text p m h)
 
 -- the next marker stands at the first place where one does
 pub next_marker_is : (s : Syntax) (text : Text) (at stop : ℕ) → at ≤ stop → stop ≤ length text → NoMarkerBetween s text at stop → (stop ≡ length text) ⊎ (is_some (marker_at s text stop) ≡ true) → next_marker s text at ≡ stop
@@ -51,14 +50,13 @@ next_marker_is s text at stop le within none here =
     omega (arith, not_less, not_more)
 
 -- the values that the code has
-pub found_some : (s : Syntax) (text : Text) (at place len : ℕ) (m : StartMarker) → IsBuildable s → at ≤ length text → place ≡ next_marker s text at → Some m ≡ marker_at s text place → len ≡ length (start_of s m) → FindsMarker s text at (Some (place - at, m, len))
-found_some s text at place len m built h p e l =
-    subst (FindsMarker s text at)
-    (sym (ap (λ n. Some (place - at, m, n)) l ∙ ap (found_at s at place) e ∙ ap (λ p. found_at s at p (marker_at s text p)) p))
-    (finds s text at built h)
+found_is : (s : Syntax) (text : Text) (offset place : ℕ) (m : StartMarker) → next_marker s text offset ≡ place → marker_at s text place ≡ Some m → found_marker s text offset ≡ Some (place - offset, m, length (start_of s m))
+found_is s text offset place m p e = ap (λ q. found_at s offset q (marker_at s text q)) p ∙ ap (found_at s offset place) e
 
-pub found_none : (s : Syntax) (text : Text) (at place : ℕ) → IsBuildable s → at ≤ length text → place ≡ next_marker s text at → None ≡ marker_at s text place → FindsMarker s text at None
-found_none s text at place built h p e =
-    subst (FindsMarker s text at)
-    (sym (ap (found_at s at place) e ∙ ap (λ p. found_at s at p (marker_at s text p)) p))
-    (finds s text at built h)
+pub found_here : (s : Syntax) (text : Text) (offset place : ℕ) (m : StartMarker) → next_marker s text place ≡ next_marker s text offset → Some m ≡ marker_at s text place → found_marker s text offset ≡ Some (place - offset, m, length (start_of s m))
+found_here s text offset place m same e = found_is s text offset place m (sym same ∙ next_marker-here s text place (ap is_some (sym e))) (sym e)
+
+pub found_nowhere : (s : Syntax) (text : Text) (offset place : ℕ) → next_marker s text place ≡ next_marker s text offset → length text ≤ place → found_marker s text offset ≡ None
+found_nowhere s text offset place same past =
+    let end : next_marker s text offset ≡ place = sym same ∙ next_marker-over s text place past in
+    ap (λ q. found_at s offset q (marker_at s text q)) end ∙ ap (found_at s offset place) (none_past s text place past)

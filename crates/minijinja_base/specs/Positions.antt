@@ -8,6 +8,7 @@ use Rattle.minijinja_base.specs.declared.tokens.Span.{Span}
 abbrev pub slice : Text → (start stop : ℕ) → Text
 slice text start stop = take (stop - start) (drop start text)
 
+-- `\n`
 abbrev pub is_newline : ℕ → Bool
 is_newline b = b == 10
 

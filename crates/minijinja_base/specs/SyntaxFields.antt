@@ -1,16 +1,20 @@
--- The syntax that a `SyntaxConfig` holds.
-use Rattle.minijinja_base.specs.Syntax.{Syntax, IsBuildable}
-use Rattle.minijinja_base.specs.declared.syntax.SyntaxConfig.TheInside.{Inside}
+-- The syntax that the fields of a `SyntaxConfig` or a builder hold.
+use Rattle.std.specs.Cow.{cow_str_bytes}
+use Rattle.minijinja_base.specs.Syntax.{Syntax}
+use Rattle.minijinja_base.specs.declared.syntax.Settings.{Settings}
 
-abbrev pub syntax_of : Inside → Syntax
+-- each field as a syntax has it, the texts as bytes
+abbrev pub syntax_of : Settings → Syntax
 syntax_of a = record {
-  block_start = a.block_start.now;
-  block_end = a.block_end.now;
-  variable_start = a.variable_start.now;
-  variable_end = a.variable_end.now;
-  comment_start = a.comment_start.now;
-  comment_end = a.comment_end.now;
+  block_start = cow_str_bytes a.block_start;
+  block_end = cow_str_bytes a.block_end;
+  variable_start = cow_str_bytes a.variable_start;
+  variable_end = cow_str_bytes a.variable_end;
+  comment_start = cow_str_bytes a.comment_start;
+  comment_end = cow_str_bytes a.comment_end;
+  line_statement = cow_str_bytes a.line_statement;
+  line_comment = cow_str_bytes a.line_comment;
+  trim_blocks = a.trim_blocks;
+  lstrip_blocks = a.lstrip_blocks;
+  keep_trailing_newline = a.keep_trailing_newline;
 }
-
-abbrev pub IsSyntaxConfig : Inside → Type 0
-IsSyntaxConfig a = IsBuildable (syntax_of a)

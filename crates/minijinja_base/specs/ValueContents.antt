@@ -6,12 +6,14 @@ use Rattle.minijinja_base.specs.declared.value.Value.{Value}
 use Rattle.minijinja_base.specs.declared.value.Value.TheVariants as value
 use Rattle.minijinja_base.specs.declared.value.ValueFault.{ValueFault}
 
+-- nothing, a truth value, an integer or a text
 pub data Contents : Type 0 where
   none : Contents
   truth : Bool → Contents
   integer : ℤ → Contents
   text : Text → Contents
 
+-- what a value holds, a text as its bytes
 abbrev pub contents_of : Value → Contents
 contents_of value.None = none
 contents_of (value.Bool b) = truth b
@@ -29,5 +31,6 @@ is_true (integer n) = is_nonzero n
     is_nonzero _ = not false
 is_true (text t) = not (length t == 0)
 
+-- what the functions of `Value` do with contents
 abbrev pub value_functions : Functions Contents ValueFault
 value_functions = record { none = none; of_bool = truth; of_u64 = λ n. integer (pos n); of_str = text; is_true = is_true }

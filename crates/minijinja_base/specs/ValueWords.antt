@@ -7,6 +7,7 @@ use Rattle.minijinja_base.specs.Quotes.{quoted}
 use Rattle.minijinja_base.specs.declared.value.Value.{Value}
 use Rattle.minijinja_base.specs.declared.value.Value.TheVariants.{None, Bool, Int, String}
 
+-- a value as the literal for it, a text between quotes and with escapes
 abbrev pub value_words : Value → Text
 value_words None = codes "none"
 value_words (Bool true) = codes "true"

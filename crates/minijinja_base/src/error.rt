@@ -42,11 +42,21 @@ impl fmt::Display for ErrorKind {
 /// What exactly is wrong, in words that its `Display` gives.
 #[derive(Clone, Copy, Debug)]
 pub enum Detail<'s> {
+    /// A delimiter is empty, or two start delimiters or prefixes are equal.
+    InvalidDelimiter,
     /// A character begins no token.
     UnexpectedCharacter,
     /// A string has no end.
     UnterminatedString,
-    /// An integer is 2^64 or more.
+    /// A string has an escape that means nothing.
+    BadEscape,
+    /// A number has no digits behind its prefix.
+    MissingDigits,
+    /// A number has a digit that its radix does not have.
+    DigitOutOfRange,
+    /// A number ends in an underscore.
+    TrailingUnderscore,
+    /// An integer is 2^128 or more.
     IntegerTooLarge,
     /// A number reads as a float.
     FloatLiteral,
@@ -69,8 +79,13 @@ pub enum Detail<'s> {
 impl fmt::Display for Detail<'_> {
     fn fmt<W: fmt::Write>(&self, f: &mut fmt::Formatter<W>) -> fmt::Result {
         match self {
+            Detail::InvalidDelimiter => write!(f, "invalid delimiter"),
             Detail::UnexpectedCharacter => write!(f, "unexpected character"),
             Detail::UnterminatedString => write!(f, "unexpected end of string"),
+            Detail::BadEscape => write!(f, "invalid string escape"),
+            Detail::MissingDigits => write!(f, "a number has no digits"),
+            Detail::DigitOutOfRange => write!(f, "a digit is out of the number's radix"),
+            Detail::TrailingUnderscore => write!(f, "'_' may not occur at end of number"),
             Detail::IntegerTooLarge => write!(f, "integer too large"),
             Detail::FloatLiteral => write!(f, "float literals are not supported"),
             Detail::UnexpectedEnd(wanted) => write!(
@@ -97,6 +112,7 @@ pub struct Error<'s> {
 }
 
 impl<'s> Error<'s> {
+    /// A refusal with these parts: the name of the source and the span where they are known.
     pub fn new(
         kind: ErrorKind,
         detail: Detail<'s>,
@@ -177,6 +193,20 @@ impl fmt::Display for Error<'_> {
 }
 
 impl Error<'_> {
+    ghost use Rattle.minijinja_base.specs.Errors.{IsInvalidDelimiter};
+
+    /// A syntax that cannot be built: no name and no span.
+    pub(crate) fn invalid_delimiter() -> Self
+        ensures { IsInvalidDelimiter result }
+    {
+        Error::new(
+            ErrorKind::InvalidDelimiter,
+            Detail::InvalidDelimiter,
+            None,
+            None,
+        )
+    }
+
     fn out_of_memory() -> Self
         ensures kind { kind_of result ≡ OutOfMemory }
         ensures span { span_of result ≡ None }

@@ -5,7 +5,7 @@ ghost use Rattle.minijinja_base.specs.SpanWords.{span_words};
 
 use std::fmt;
 
-/// A token of a template. Its texts are slices of the source.
+/// A token of a template. Its texts are slices of the source, but for a decoded string.
 #[derive(Debug, Drop)]
 pub enum Token<'s> {
     /// Text outside of tags.
@@ -20,14 +20,64 @@ pub enum Token<'s> {
     BlockEnd,
     /// An identifier.
     Ident(&'s str),
-    /// A string, without its quotes.
+    /// A string without escapes and without its quotes.
     Str(&'s str),
-    /// An integer.
+    /// A string with escapes, decoded.
+    String(String),
+    /// An integer under 2^64.
     Int(u64),
-    /// A `.`.
+    /// An integer from 2^64 to 2^128 - 1.
+    Int128(Box<u128>),
+    /// `+`
+    Plus,
+    /// `-`
+    Minus,
+    /// `*`
+    Mul,
+    /// `/`
+    Div,
+    /// `//`
+    FloorDiv,
+    /// `**`
+    Pow,
+    /// `%`
+    Mod,
+    /// `.`
     Dot,
-    /// A `=`.
+    /// `,`
+    Comma,
+    /// `:`
+    Colon,
+    /// `~`
+    Tilde,
+    /// `=`
     Assign,
+    /// `|`
+    Pipe,
+    /// `==`
+    Eq,
+    /// `!=`
+    Ne,
+    /// `>`
+    Gt,
+    /// `>=`
+    Gte,
+    /// `<`
+    Lt,
+    /// `<=`
+    Lte,
+    /// `[`
+    BracketOpen,
+    /// `]`
+    BracketClose,
+    /// `(`
+    ParenOpen,
+    /// `)`
+    ParenClose,
+    /// `{`
+    BraceOpen,
+    /// `}`
+    BraceClose,
 }
 
 impl fmt::Display for Token<'_> {
@@ -41,10 +91,33 @@ impl fmt::Display for Token<'_> {
             Token::BlockStart => write!(f, "start of block"),
             Token::BlockEnd => write!(f, "end of block"),
             Token::Ident(_) => write!(f, "identifier"),
-            Token::Str(_) => write!(f, "string"),
-            Token::Int(_) => write!(f, "integer"),
+            Token::Str(_) | Token::String(_) => write!(f, "string"),
+            Token::Int(_) | Token::Int128(_) => write!(f, "integer"),
+            Token::Plus => write!(f, "`+`"),
+            Token::Minus => write!(f, "`-`"),
+            Token::Mul => write!(f, "`*`"),
+            Token::Div => write!(f, "`/`"),
+            Token::FloorDiv => write!(f, "`//`"),
+            Token::Pow => write!(f, "`**`"),
+            Token::Mod => write!(f, "`%`"),
             Token::Dot => write!(f, "`.`"),
+            Token::Comma => write!(f, "`,`"),
+            Token::Colon => write!(f, "`:`"),
+            Token::Tilde => write!(f, "`~`"),
             Token::Assign => write!(f, "`=`"),
+            Token::Pipe => write!(f, "`|`"),
+            Token::Eq => write!(f, "`==`"),
+            Token::Ne => write!(f, "`!=`"),
+            Token::Gt => write!(f, "`>`"),
+            Token::Gte => write!(f, "`>=`"),
+            Token::Lt => write!(f, "`<`"),
+            Token::Lte => write!(f, "`<=`"),
+            Token::BracketOpen => write!(f, "`[`"),
+            Token::BracketClose => write!(f, "`]`"),
+            Token::ParenOpen => write!(f, "`(`"),
+            Token::ParenClose => write!(f, "`)`"),
+            Token::BraceOpen => write!(f, "`{{`"),
+            Token::BraceClose => write!(f, "`}}`"),
         }
     }
 }
