@@ -10,7 +10,7 @@ use Rattle.minijinja_lexer.specs.Place.{next_line, next_column}
 pub count_append : (p : ℕ → Bool) (xs ys : Text) → count_by p (xs ++ ys) ≡ count_by p xs + count_by p ys
 count_append p xs ys = sum_by-append (λ x. cond (p x) 1 0) xs ys
 
-count_one : (p : ℕ → Bool) (b : ℕ) → count_by p (b ∷ []) ≡ cond (p b) 1 0
+pub count_one : (p : ℕ → Bool) (b : ℕ) → count_by p (b ∷ []) ≡ cond (p b) 1 0
 count_one p b = omega arith
 
 line_counts : (n : ℕ) (t : Bool) → min 65535 (1 + (n + cond t 1 0)) ≡ cond t (min 65535 (min 65535 (1 + n) + 1)) (min 65535 (1 + n))

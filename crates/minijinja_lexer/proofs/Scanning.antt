@@ -1,15 +1,29 @@
 -- Runs of bytes and of characters at the front of a text.
-use Rattle.std.proofs.Common.{◌≡◌, ℕ, zero, suc, get_or-drop, length-drop, ◌+◌, ◌-◌, ◌<◌, ◌≤◌, ◌≢◌, Bool, true, false, cond, List, [], ◌∷◌, ◌++◌, length, drop, get_or, refl, ap, sym, ◌∙◌, arith, subst, length-append}
+use Rattle.std.proofs.Common.{◌≡◌, ℕ, zero, suc, get_or-drop, length-drop, ◌+◌, ◌-◌, ◌<◌, ◌≤◌, Bool, true, false, cond, List, [], ◌∷◌, ◌++◌, length, drop, get_or, refl, ap, sym, ◌∙◌, arith, subst, length-append, ⊎_elim}
 use Rattle.std.specs.List.{prefix_len}
 use Rattle.std.specs.Str.{IsUtf8, IsCharBoundary, chars}
 use Rattle.std.specs.Char.{len_utf8, encode_utf8, is_ascii_digit, is_ascii_whitespace}
+use Rattle.std.proofs.lemmas.List.{get_or_past}
+use Rattle.std.proofs.lemmas.Bool.{cases_lt}
 use Rattle.std.proofs.lemmas.List.Sums.{prefix_len_passes}
 use Rattle.std.proofs.lemmas.Bool.Decides.{nat_tests}
 use Rattle.std.proofs.lemmas.Str.{chars-nil, IsCharBoundary-start, IsCharBoundary-after_ascii, IsCharBoundary-before_ascii, IsCharBoundary-from_drop, chars_past_char, drop_past_char, IsUtf8-past_char, length-encode, len_utf8_bounds}
 use Rattle.std.specs.Prelude.{IsTrue, ◌||◌, ◌==◌}
 use Rattle.unicode_ident.specs.Ident.{is_xid_continue}
 use Rattle.minijinja_base.specs.Values.{Text}
-use Rattle.minijinja_lexer.specs.TokenAt.{is_quote, name_len, continues_name}
+use Rattle.minijinja_lexer.specs.AsciiEnds.{EndsInAscii}
+use Rattle.minijinja_lexer.specs.Names.{name_len, continues_name}
+use Rattle.minijinja_lexer.specs.Quoted.{is_quote}
+
+-- a byte that is no 0 stands in the text
+pub get_some : (bs : Text) (i : ℕ) → 0 < get_or bs i 0 → i < length bs
+get_some bs i h = ⊎_elim (λ l. l) (λ le. absurd (omega (arith, get_or_past bs i 0 le, h))) (cases_lt i (length bs))
+
+-- what ends in an ASCII byte ends between characters
+pub ascii_end : (bs : Text) (n : ℕ) → IsUtf8 bs → EndsInAscii bs n → IsCharBoundary bs n
+ascii_end bs n u e =
+    let f : n - 1 + 1 ≡ n = omega (arith, e.some) in
+    subst (λ m. IsCharBoundary bs m) f (IsCharBoundary-after_ascii bs (n - 1) u (omega (arith, e.some, e.within)) e.last)
 
 -- a run of bytes below 128 ends between characters
 pub ascii_run : (p : ℕ → Bool) (bs : Text) → ((b : ℕ) → p b ≡ true → b < 128) → IsUtf8 bs → prefix_len p bs ≤ length bs → IsCharBoundary bs (prefix_len p bs)
@@ -95,13 +109,9 @@ begins_continues false c f h = or_right (is_xid_continue c) (c == 95) h
     or_right false b e = e
 
 -- between the quotes
-pub quoted_inside : (text rest : Text) (n q : ℕ) → IsUtf8 text → rest ≡ drop 1 text → n < length rest → get_or rest n 0 ≡ q → q < 128 → get_or text 0 0 ≡ q → (0 + 1 ≤ n + 2 - 1) × IsCharBoundary text (0 + 1) × IsCharBoundary text (n + 2 - 1)
-quoted_inside text rest n q u e h f low g =
+pub quoted_inside_places : (text rest : Text) (n q : ℕ) → IsUtf8 text → rest ≡ drop 1 text → n < length rest → get_or rest n 0 ≡ q → q < 128 → get_or text 0 0 ≡ q → (0 + 1 ≤ n + 2 - 1) × IsCharBoundary text (0 + 1) × IsCharBoundary text (n + 2 - 1)
+quoted_inside_places text rest n q u e h f low g =
     let l : length rest ≡ length text - 1 = ap length e ∙ length-drop 1 text in
     let r : get_or text (1 + n) 0 ≡ q = sym (get_or-drop 1 text n 0) ∙ sym (ap (λ s. get_or s n 0) e) ∙ f in
     let s : 1 + n ≡ n + 2 - 1 = omega arith in
     (omega arith, IsCharBoundary-after_ascii text 0 u (omega arith) (omega (arith, g)), subst (λ m. IsCharBoundary text m) s (IsCharBoundary-before_ascii text (1 + n) (omega arith) (omega (arith, r))))
-
--- of the quote and the backslash it is the quote
-pub not_backslash : (b q : ℕ) → (b == q || b == 92) ≡ true → b ≢ 92 → b ≡ q
-not_backslash b q h n = grind (arith, nat_tests)

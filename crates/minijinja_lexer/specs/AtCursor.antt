@@ -1,10 +1,11 @@
--- The model of `Cursor`: a place. This specifies private functions, and need not be believed.
+-- The model of `Cursor`: a place. These definitions specify private functions, and need not be believed.
 use Rattle.std.specs.Prelude.{◌≡◌, ◌<◌, ◌^◌, take, length}
 use Rattle.std.specs.Str.{IsCharBoundary}
 use Rattle.minijinja_base.specs.Positions.{line_after, column_after}
 use Rattle.minijinja_lexer.specs.declared.cursor.Cursor.TheInside.{Inside}
 use Rattle.minijinja_lexer.specs.Place.{Place}
 
+-- its text, and where it is
 abbrev pub cursor_view : Inside → Place
 cursor_view a = record { text = a.text.now; at = a.at }
 

@@ -1,8 +1,22 @@
 pub mod Stream
 pub mod Place
 pub mod AtCursor
+pub mod Bytes
+pub mod Symbols
+pub mod Names
+pub mod Numbers
+pub mod Escapes
+pub mod Quoted
+pub mod Faults
+pub mod AsciiEnds
 pub mod TokenAt
+pub mod TokenPlaces
+pub mod NumberPlaces
+pub mod Brackets
+pub mod Whitespace
+pub mod Raw
 pub mod Cut
+pub mod RawPlaces
 pub mod Places
 pub mod TextTokens
 pub mod Found
@@ -10,3 +24,4 @@ pub mod States
 pub mod AtTokenizer
 pub mod Relation
 pub mod Slices
+pub mod Columns

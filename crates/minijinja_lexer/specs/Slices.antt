@@ -1,16 +1,22 @@
 -- The text of a token is the slice of the text at its span, and spans are in order.
-use Rattle.std.specs.Prelude.{◌≡◌, ℕ, ◌+◌, ◌-◌, ◌<◌, ◌≤◌, List, [], ◌∷◌}
+use Rattle.std.specs.Prelude.{◌≡◌, ℕ, ◌+◌, ◌-◌, ◌≤◌, List, [], ◌∷◌, ◌++◌, length, Some, IsSome}
 use Rattle.minijinja_base.specs.Values.{Text}
+use Rattle.minijinja_base.specs.Syntax.{Syntax}
 use Rattle.minijinja_base.specs.Positions.{slice, span_at}
-use Rattle.minijinja_base.specs.Tokens.{Tok, template_data, ident, str}
+use Rattle.minijinja_base.specs.Tokens.{Tok, template_data, ident, str, string}
 use Rattle.minijinja_base.specs.declared.tokens.Span.{Span}
+use Rattle.minijinja_lexer.specs.Escapes.{unescaped}
+use Rattle.minijinja_lexer.specs.Raw.{endraw_at}
+use Rattle.minijinja_lexer.specs.Cut.{Segment, raw}
 use Rattle.minijinja_lexer.specs.Stream.{SpannedTok}
+use Rattle.minijinja_lexer.specs.declared.raw.RawBlock.{RawBlock}
 
--- data and an identifier are the slice at the span, a string is it without the quotes
+-- data and an identifier are the slice at the span, a string is it without the quotes, a decoded one what that means
 abbrev pub IsSliceAt : Text → Span → Tok → Type 0
 IsSliceAt text span (template_data t) = t ≡ slice text span.start_offset span.end_offset
 IsSliceAt text span (ident t) = t ≡ slice text span.start_offset span.end_offset
 IsSliceAt text span (str t) = t ≡ slice text (span.start_offset + 1) (span.end_offset - 1)
+IsSliceAt text span (string t) = Some t ≡ unescaped (slice text (span.start_offset + 1) (span.end_offset - 1))
 IsSliceAt text span _ = Unit {0}
 
 -- each token is such a slice, and its span's lines and columns are those of its offsets
@@ -18,7 +24,28 @@ abbrev pub AreSlices : Text → List SpannedTok → Type 0
 AreSlices text [] = Unit {0}
 AreSlices text (t ∷ ts) = IsSliceAt text t.1 t.0 × (t.1 ≡ span_at text t.1.start_offset t.1.end_offset) × AreSlices text ts
 
--- no span is empty, and each begins where the one before it ends, or later
+-- the text is a part of what stands between a raw block's tags, and behind that stands an endraw tag
+pub record IsRawText (s : Syntax) (text : Text) (block : RawBlock) (t : Text) : Type 0 where
+  pub from : ℕ
+  pub to : ℕ
+  pub start : block.begin ≤ from
+  pub ordered : from ≤ to
+  pub end : to ≤ block.end
+  pub part : t ≡ slice text from to
+  pub endraw : IsSome (endraw_at s text (block.end + length s.block_start))
+
+-- A raw block has one token, such a text with the span of what stands between the tags. The tokens of any other segment
+-- are the slices at their spans.
+abbrev pub AreSegmentSlices : Syntax → Text → Segment → List SpannedTok → Type 0
+AreSegmentSlices s text (raw start block) ts = (t : Text) × (ts ≡ (template_data t, span_at text block.begin block.end) ∷ []) × IsRawText s text block t
+AreSegmentSlices s text _ ts = AreSlices text ts
+
+-- the tokens are those of the segments, one segment after another
+abbrev pub AreCutSlices : Syntax → Text → List Segment → List SpannedTok → Type 0
+AreCutSlices s text [] ts = ts ≡ []
+AreCutSlices s text (g ∷ gs) ts = (first : List SpannedTok) × (later : List SpannedTok) × (ts ≡ first ++ later) × AreSegmentSlices s text g first × AreCutSlices s text gs later
+
+-- each span begins where the one before it ends, or later, and may be empty
 abbrev pub AreInOrder : ℕ → List SpannedTok → Type 0
 AreInOrder place [] = Unit {0}
-AreInOrder place (t ∷ ts) = (place ≤ t.1.start_offset) × (t.1.start_offset < t.1.end_offset) × AreInOrder t.1.end_offset ts
+AreInOrder place (t ∷ ts) = (place ≤ t.1.start_offset) × (t.1.start_offset ≤ t.1.end_offset) × AreInOrder t.1.end_offset ts

@@ -1,24 +1,26 @@
 -- The tokens that are to come, and how they end.
-use Rattle.std.specs.Prelude.{◌≡◌, List, [], ◌∷◌, ◌++◌, map, Option, Some, None, Result, Ok, Err}
+use Rattle.std.specs.Prelude.{◌≡◌, ◌⊎◌, List, [], ◌∷◌, ◌++◌, map, Option, Some, None, Result, Ok, Err}
+use Rattle.minijinja_base.specs.Tokens.{Tok, tok_of, string, int128}
 use Rattle.std.specs.Borrow.{Bor}
 use Rattle.std.specs.Option.{option_map}
-use Rattle.minijinja_base.specs.Tokens.{Tok, tok_of}
-use Rattle.minijinja_base.specs.Errors.{kind_of, name_of, span_of}
+use Rattle.minijinja_base.specs.Errors.{kind_of, name_of, span_of, IsOutOfMemory}
 use Rattle.minijinja_base.specs.Values.{Text}
 use Rattle.minijinja_base.specs.declared.tokens.Token.{Token}
 use Rattle.minijinja_base.specs.declared.tokens.Span.{Span}
 use Rattle.minijinja_base.specs.declared.error.Error.{Error}
 use Rattle.minijinja_base.specs.declared.error.ErrorKind.{ErrorKind}
+use Rattle.minijinja_base.specs.declared.error.ErrorKind.TheVariants.{SyntaxError, BadEscape, OutOfMemory}
 
 -- a token and where it stands
 abbrev pub SpannedTok : Type 0
 SpannedTok = Tok × Span
 
--- after its last token a text is over, or refused with a kind, somewhere
+-- after its last token a text is over, or refused with a kind, and somewhere unless for want of memory
 pub data Ending : Type 0 where
   finished : Ending
-  refused : ErrorKind → Span → Ending
+  refused : ErrorKind → Option Span → Ending
 
+-- tokens that are to come, and how they end
 pub record Stream : Type 0 where
   pub tokens : List SpannedTok
   pub ending : Ending
@@ -31,30 +33,57 @@ toks s = map (λ t. t.0) s.tokens
 abbrev pub before : List SpannedTok → Stream → Stream
 before ts later = record { tokens = ts ++ later.tokens; ending = later.ending }
 
+-- no tokens are to come, but that ending
 abbrev pub ended : Ending → Stream
 ended e = record { tokens = []; ending = e }
 
+-- memory was refused
+abbrev pub out_of_memory : Stream
+out_of_memory = ended (refused OutOfMemory None)
+
+-- the token that a `Token` is, and where it stands
 abbrev pub spanned_tok : Token × Span → SpannedTok
 spanned_tok t = (tok_of t.0, t.1)
 
--- the refusal is of this kind and stands there
-pub record Refuses (e : Error) (ending : Ending) : Type 0 where
-  pub span : Span
-  pub place : span_of e ≡ Some span
-  pub is : ending ≡ refused (kind_of e) span
+-- the kinds of a tokenizer's refusals
+abbrev pub IsTokenizerKind : ErrorKind → Type 0
+IsTokenizerKind kind = (kind ≡ SyntaxError) ⊎ (kind ≡ BadEscape) ⊎ (kind ≡ OutOfMemory)
 
--- What a call answers of the tokens to come: the first of them, the end, or the refusal. After those two nothing changes.
+-- the refusal has the name of the source
+abbrev pub IsNamed : Text → Error → Type 0
+IsNamed filename e = option_map (λ (name : Bor Text). name.now) (name_of e) ≡ Some filename
+
+-- a decoded string and an integer from 2 ^ 64 on own memory
+abbrev pub OwnsMemory : Tok → Type 0
+OwnsMemory (string t) = Unit {0}
+OwnsMemory (int128 n) = Unit {0}
+OwnsMemory _ = ⊥
+
+-- the next token does
+abbrev pub NeedsMemory : List SpannedTok → Type 0
+NeedsMemory [] = ⊥
+NeedsMemory (t ∷ ts) = OwnsMemory t.0
+
+-- the refusal is what the tokens end with, none is left, and so it stays
+pub record Refuses (old : Stream) (e : Error) (new : Stream) : Type 0 where
+  pub none_left : old.tokens ≡ []
+  pub is : old.ending ≡ refused (kind_of e) (span_of e)
+  pub same : new ≡ old
+
+-- memory was refused for a token that needs it, and is from then on
+pub record RunsOut (old : Stream) (e : Error) (new : Stream) : Type 0 where
+  pub error : IsOutOfMemory e
+  pub needed : NeedsMemory old.tokens
+  pub over : new ≡ out_of_memory
+
+-- What a call answers of the tokens to come: the first of them, the end, or a refusal. After those two nothing changes.
 abbrev pub Answers : Stream → Result (Option (Token × Span)) Error → Stream → Type 0
 Answers old (Ok (Some t)) new = old ≡ before (spanned_tok t ∷ []) new
 Answers old (Ok None) new = (old ≡ ended finished) × (new ≡ old)
-Answers old (Err e) new = Refuses e old.ending × (old.tokens ≡ []) × (new ≡ old)
+Answers old (Err e) new = Refuses old e new ⊎ RunsOut old e new
 
 -- what a tokenizer says of itself: the name of its source, its text, and the tokens to come
 pub record Lexing : Type 0 where
   pub filename : Text
   pub source : Text
   pub stream : Stream
-
--- the refusal has the name of the source
-abbrev pub IsNamed : Text → Error → Type 0
-IsNamed filename e = option_map (λ (name : Bor Text). name.now) (name_of e) ≡ Some filename

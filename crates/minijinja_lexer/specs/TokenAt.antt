@@ -1,74 +1,58 @@
--- One token inside a tag: what stands at the front of a text and how many bytes it takes, or why it is refused and how
--- many bytes on.
-use Rattle.std.specs.Prelude.{ℕ, ◌+◌, ◌^◌, Bool, false, not, ◌||◌, nat_lt, ◌==◌, if◌then◌else◌, List, [], ◌∷◌, length, take, drop, slice_index, Result, Ok, Err}
-use Rattle.std.specs.List.{prefix_len}
-use Rattle.std.specs.Char.{is_ascii_digit, len_utf8}
+-- One token inside a tag: what stands at a place of a text and where it stops, or why and where it is refused.
+use Rattle.std.specs.Prelude.{ℕ, ◌+◌, ◌-◌, ◌^◌, Bool, ◌&&◌, nat_lt, ◌==◌, if◌then◌else◌, drop, slice_index, Option, Some, None, Result, Ok, Err}
+use Rattle.std.specs.Char.{is_ascii_digit}
 use Rattle.std.specs.Str.{chars}
-use Rattle.std.specs.Str.Parse.{digits_value}
-use Rattle.unicode_ident.specs.Ident.{is_xid_start, is_xid_continue}
 use Rattle.minijinja_base.specs.Values.{Text}
+use Rattle.minijinja_lexer.specs.Bytes.{period}
+use Rattle.minijinja_lexer.specs.Symbols.{symbol_front}
+use Rattle.minijinja_lexer.specs.Names.{begins_name, name_len}
+use Rattle.minijinja_lexer.specs.Numbers.{number}
+use Rattle.minijinja_lexer.specs.Quoted.{is_quote, quoted}
+use Rattle.minijinja_lexer.specs.declared.symbol.Symbol as symbol
 use Rattle.minijinja_lexer.specs.declared.scan.Sort.{Sort}
-use Rattle.minijinja_lexer.specs.declared.scan.Sort.TheVariants.{Ident, Str, Int, Dot, Assign}
+use Rattle.minijinja_lexer.specs.declared.scan.Sort.TheVariants.{Ident, Int, Int128, Symbol}
 use Rattle.minijinja_lexer.specs.declared.fault.Fault.{Fault}
-use Rattle.minijinja_lexer.specs.declared.fault.Fault.TheVariants.{UnexpectedCharacter, UnterminatedString, IntegerTooLarge, FloatLiteral}
+use Rattle.minijinja_lexer.specs.declared.fault.Fault.TheVariants.{UnexpectedCharacter}
 
--- " and '
-abbrev pub is_quote : ℕ → Bool
-is_quote b = b == 34 || b == 39
-
--- . e and E: behind digits they make a float
-abbrev pub is_float_mark : ℕ → Bool
-is_float_mark b = b == 46 || b == 101 || b == 69
-
--- an XID_Start character or _, and an XID_Continue character or _
-abbrev pub starts_name : ℕ → Bool
-starts_name c = is_xid_start c || c == 95
-
-abbrev pub continues_name : ℕ → Bool
-continues_name c = is_xid_continue c || c == 95
-
--- the bytes of the characters at the front that a name may go on with
-abbrev pub name_len : List ℕ → ℕ
-name_len [] = 0
-name_len (c ∷ cs) = if continues_name c then len_utf8 c + name_len cs else 0
-
--- the characters begin an identifier
-abbrev pub begins_name : List ℕ → Bool
-begins_name [] = false
-begins_name (c ∷ cs) = starts_name c
-
--- an identifier
+-- an identifier at the front; what begins none is refused where it stands
 abbrev pub name : Text → Result (Sort × ℕ) (Fault × ℕ)
 name text = if begins_name (chars text) then Ok (Ident, name_len (chars text)) else Err (UnexpectedCharacter, 0)
 
--- the bytes before the next such quote or backslash
-abbrev pub quoted_len : ℕ → Text → ℕ
-quoted_len quote text = prefix_len (λ b. not (b == quote || b == 92)) text
+-- an integer under 2 ^ 64, and one from there on
+abbrev pub int_sort : ℕ → Sort
+int_sort value = if nat_lt value (2 ^ 64) then Int value else Int128 value
 
--- The first quote or backslash behind the first quote decides: the quote ends the string, the backslash is refused where
--- it stands. Where neither follows, the string has no end, which is refused at the end of the text.
-abbrev pub quoted : Text → Result (Sort × ℕ) (Fault × ℕ)
-quoted text =
-    let n = quoted_len (slice_index text 0) (drop 1 text) in
-    if nat_lt n (length (drop 1 text))
-    then (if slice_index (drop 1 text) n == 92 then Err (UnexpectedCharacter, n + 1) else Ok (Str, n + 2))
-    else Err (UnterminatedString, length text)
+-- an integer and its length, or its refusal
+abbrev pub integer : Result (ℕ × ℕ) (Fault × ℕ) → Result (Sort × ℕ) (Fault × ℕ)
+integer (Ok n) = Ok (int_sort n.0, n.1)
+integer (Err f) = Err f
 
--- the number that the digits at the front write; a float, and 2^64 and more, are refused behind the digits
-abbrev pub integer : Text → Result (Sort × ℕ) (Fault × ℕ)
-integer text =
-    let n = prefix_len is_ascii_digit text in
-    let value = digits_value 10 (take n text) in
-    if is_float_mark (slice_index text n) then Err (FloatLiteral, n)
-    else if nat_lt value (2 ^ 64) then Ok (Int value, n)
-    else Err (IntegerTooLarge, n)
-
--- . is 46 and = is 61; what begins no token is refused where it stands
-unfoldable pub token_front : Text → Result (Sort × ℕ) (Fault × ℕ)
-token_front text =
-    let b = slice_index text 0 in
-    if b == 46 then Ok (Dot, 1)
-    else if b == 61 then Ok (Assign, 1)
-    else if is_quote b then quoted text
-    else if is_ascii_digit b then integer text
+-- a string, a number or an identifier at the front
+abbrev pub word_front : Bool → Text → Result (Sort × ℕ) (Fault × ℕ)
+word_front behind_dot text =
+    if is_quote (slice_index text 0) then quoted text
+    else if is_ascii_digit (slice_index text 0) then integer (number behind_dot text)
     else name text
+
+-- the symbol, or what stands there where it is none
+abbrev pub symbol_or : Option (symbol.Symbol × ℕ) → Result (Sort × ℕ) (Fault × ℕ) → Result (Sort × ℕ) (Fault × ℕ)
+symbol_or (Some s) other = Ok (Symbol s.0, s.1)
+symbol_or None other = other
+
+-- The token at the front and its length, or why it is refused and how many bytes on. `behind_dot` says whether a dot
+-- stands right before it.
+unfoldable pub token_front : Bool → Text → Result (Sort × ℕ) (Fault × ℕ)
+token_front behind_dot text = symbol_or (symbol_front text) (word_front behind_dot text)
+
+-- a dot stands right before the place
+abbrev pub is_behind_dot : Text → ℕ → Bool
+is_behind_dot text at = nat_lt 0 at && slice_index text (at - 1) == period
+
+-- lengths from a place on are places
+abbrev pub placed : ℕ → Result (Sort × ℕ) (Fault × ℕ) → Result (Sort × ℕ) (Fault × ℕ)
+placed at (Ok t) = Ok (t.0, at + t.1)
+placed at (Err f) = Err (f.0, at + f.1)
+
+-- the token at a place and where it stops, or why and where it is refused
+unfoldable pub token_at : Text → ℕ → Result (Sort × ℕ) (Fault × ℕ)
+token_at text at = placed at (token_front (is_behind_dot text at) (drop at text))

@@ -2,6 +2,7 @@
 ghost use Rattle.std.specs.Prelude.{◌≡◌, ℕ, ◌+◌, ◌<◌, ◌≤◌, length};
 
 use crate::count::after;
+use crate::fault::Fault;
 use minijinja_base::tokens::Span;
 use std::marker::Model;
 
@@ -31,7 +32,7 @@ impl<'s> Cursor<'s> {
     ghost use Rattle.std.specs.Str.{IsCharBoundary};
     ghost use Rattle.minijinja_base.specs.Positions.{span_at, line_after, column_after};
     ghost use Rattle.minijinja_lexer.specs.Place.{Place};
-    ghost use Rattle.minijinja_lexer.specs.TextTokens.{refusal_span};
+    ghost use Rattle.minijinja_lexer.specs.TextTokens.{refusal_span, fault_span};
 
     pub(crate) fn new(text: &'s str) -> Self
         requires { length text.now < 2 ^ 32 }
@@ -68,7 +69,7 @@ impl<'s> Cursor<'s> {
     }
 
     /// Moves on to a place.
-    fn advance(&mut self, to: usize)
+    pub(crate) fn advance(&mut self, to: usize)
         requires onwards { self.old.at ≤ to }
         requires boundary { IsCharBoundary self.old.text to }
         ensures { self.new ≡ record { text = self.old.text; at = to } }
@@ -118,6 +119,21 @@ impl<'s> Cursor<'s> {
             end_line: line,
             end_col: column.saturating_add(1),
             end_offset: offset.saturating_add(1),
+        }
+    }
+
+    /// Moves on to where a token that begins at `start` is refused, and answers the refusal's span.
+    pub(crate) fn fault_span(&mut self, fault: Fault, start: usize, place: usize) -> Span
+        requires onwards { self.old.at ≤ start }
+        requires ordered { start ≤ place }
+        requires start_boundary { IsCharBoundary self.old.text start }
+        requires place_boundary { IsCharBoundary self.old.text place }
+        ensures span { result ≡ fault_span self.old.text fault start place }
+        ensures place { self.new ≡ record { text = self.old.text; at = place } }
+    {
+        match fault {
+            Fault::BadEscape => self.span(start, place),
+            _ => self.refusal(place),
         }
     }
 }

@@ -1,7 +1,7 @@
 //! Why a text is refused.
 ghost use Rattle.std.specs.Prelude.{◌≡◌, Some};
 ghost use Rattle.minijinja_base.specs.Errors.{kind_of, name_of, span_of};
-ghost use Rattle.minijinja_base.specs.declared.error.ErrorKind.TheVariants.{SyntaxError};
+ghost use Rattle.minijinja_lexer.specs.Faults.{fault_kind};
 
 use minijinja_base::error::{Detail, Error, ErrorKind};
 use minijinja_base::tokens::Span;
@@ -11,8 +11,18 @@ use minijinja_base::tokens::Span;
 pub(crate) enum Fault {
     UnexpectedCharacter,
     UnterminatedString,
+    /// A string with an escape that means nothing.
+    BadEscape,
+    /// A number with no digits.
+    MissingDigits,
+    /// A digit that the number's radix does not have.
+    DigitOutOfRange,
+    /// A number that ends in an underscore.
+    TrailingUnderscore,
     IntegerTooLarge,
     FloatLiteral,
+    UnclosedComment,
+    UnclosedRaw,
     /// Text behind the end of an expression.
     TextGoesOn,
 }
@@ -21,21 +31,31 @@ fn detail<'s>(fault: Fault) -> Detail<'s> {
     match fault {
         Fault::UnexpectedCharacter => Detail::UnexpectedCharacter,
         Fault::UnterminatedString => Detail::UnterminatedString,
+        Fault::BadEscape => Detail::BadEscape,
+        Fault::MissingDigits => Detail::MissingDigits,
+        Fault::DigitOutOfRange => Detail::DigitOutOfRange,
+        Fault::TrailingUnderscore => Detail::TrailingUnderscore,
         Fault::IntegerTooLarge => Detail::IntegerTooLarge,
         Fault::FloatLiteral => Detail::FloatLiteral,
+        Fault::UnclosedComment => Detail::UnexpectedEnd("end of comment"),
+        Fault::UnclosedRaw => Detail::UnexpectedEnd("end of raw block"),
         Fault::TextGoesOn => Detail::UnexpectedToken("end of input"),
     }
 }
 
+fn kind(fault: Fault) -> ErrorKind
+    ensures { result ≡ fault_kind fault }
+{
+    match fault {
+        Fault::BadEscape => ErrorKind::BadEscape,
+        _ => ErrorKind::SyntaxError,
+    }
+}
+
 pub(crate) fn refusal<'s>(fault: Fault, filename: &'s str, span: Span) -> Error<'s>
-    ensures kind { kind_of result ≡ SyntaxError }
+    ensures kind { kind_of result ≡ fault_kind fault }
     ensures name { name_of result ≡ Some filename.entry }
     ensures span { span_of result ≡ Some span }
 {
-    Error::new(
-        ErrorKind::SyntaxError,
-        detail(fault),
-        Some(filename),
-        Some(span),
-    )
+    Error::new(kind(fault), detail(fault), Some(filename), Some(span))
 }

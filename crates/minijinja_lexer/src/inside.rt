@@ -1,36 +1,51 @@
 //! A step inside a tag.
 ghost use Rattle.std.specs.Prelude.{◌≡◌, ℕ, ◌≤◌, length};
+ghost use Rattle.std.specs.Str.{IsCharBoundary};
 ghost use Rattle.minijinja_base.specs.Syntax.{Syntax};
-ghost use Rattle.minijinja_lexer.specs.Places.{TurnPlaces};
+ghost use Rattle.minijinja_lexer.specs.Places.{ClosePlaces};
 ghost use Rattle.minijinja_lexer.specs.TextTokens.{stream_in, close_stream, behind_expression};
-ghost use Rattle.minijinja_lexer.specs.States.{Steps, behind, stream_from};
+ghost use Rattle.minijinja_lexer.specs.States.{Steps, StateFits, behind, stream_from};
 
 use crate::cursor::Cursor;
 use crate::fault::Fault;
 use crate::step::{State, Step};
-use crate::turn::{Close, Tag, Turn, end_token, token_of, turn_at};
+use crate::turn::{Close, Tag, Turn, close_over, end_token, opened_by, shut_by, token_of, turn_at};
 use minijinja_base::syntax::SyntaxConfig;
+use std::alloc::Global;
 
-/// The next token of a tag, which may be the whole text.
+/// The next token of a tag with so many brackets opened and shut, which may be the whole text.
 pub(crate) fn step_inside<'s>(
+    alloc: Global,
     syntax: &SyntaxConfig,
     cursor: &mut Cursor<'s>,
     tag: Tag,
+    opened: usize,
+    shut: usize,
     whole: bool,
 ) -> Step<'s>
+    requires opened { opened ≤ cursor.old.at }
+    requires shut { shut ≤ cursor.old.at }
     ensures text { cursor.new.text ≡ cursor.old.text }
-    ensures steps { Steps syntax.now (stream_in syntax.now cursor.old.text tag (behind syntax.now cursor.old.text whole) cursor.old.at) result cursor.new }
+    ensures steps { Steps syntax.now (stream_in syntax.now cursor.old.text tag (behind syntax.now cursor.old.text whole) opened shut cursor.old.at) result cursor.new }
 {
     let text = cursor.text();
     let at = cursor.at();
     if at == text.len() {
-        return Step::Over;
+        return step_end(cursor, tag, whole, close_over(at, at, tag));
     }
-    match turn_at(syntax, text, tag, at) {
+    match turn_at(syntax, text, tag, opened, shut, at) {
         Turn::Token(lexeme) => {
-            let token = token_of(text, at, lexeme);
+            let Ok(token) = token_of(alloc, text, at, lexeme) else {
+                return Step::NoMemory;
+            };
+            let state = State::Inside(
+                tag,
+                opened + opened_by(lexeme.sort),
+                shut + shut_by(lexeme.sort),
+                whole,
+            );
             let span = cursor.span(lexeme.start, lexeme.stop);
-            Step::Token(token, span, State::Inside(tag, whole))
+            Step::Token(token, span, state)
         }
         Turn::End(close) => step_end(cursor, tag, whole, close),
     }
@@ -38,30 +53,35 @@ pub(crate) fn step_inside<'s>(
 
 /// The end of a tag.
 fn step_end<'s>(cursor: &mut Cursor<'s>, tag: Tag, whole: bool, close: Close) -> Step<'s>
-    requires { TurnPlaces cursor.old.text cursor.old.at (Turn.End close) }
+    requires { ClosePlaces cursor.old.text cursor.old.at close }
     ensures text { cursor.new.text ≡ cursor.old.text }
     ensures steps { (s : Syntax) → Steps s (close_stream cursor.old.text tag (behind s cursor.old.text whole) close) result cursor.new }
 {
     match close {
-        Close::Closed(start, stop) => {
+        Close::Closed(start, stop, after) => {
             let span = cursor.span(start, stop);
-            let state = if whole {
-                state_behind(cursor)
-            } else {
-                State::Outside
-            };
+            let state = state_behind(cursor, whole, after);
             Step::Token(end_token(tag), span, state)
         }
         Close::Broken => Step::Over,
-        Close::Refused(fault, place) => Step::Failed(fault, cursor.refusal(place)),
+        Close::Refused(fault, start, place) => {
+            Step::Failed(fault, cursor.fault_span(fault, start, place))
+        }
     }
 }
 
-/// The state behind a tag that is the whole text: a text that goes on is refused.
-fn state_behind(cursor: &mut Cursor<'_>) -> State
-    ensures place { cursor.new ≡ cursor.old }
-    ensures state { (s : Syntax) → stream_from s cursor.old result ≡ behind_expression cursor.old.text cursor.old.at }
+/// The state behind a tag, whose tail is skipped. Behind one that is the whole text, a text that goes on is refused.
+fn state_behind(cursor: &mut Cursor<'_>, whole: bool, after: usize) -> State
+    requires onwards { cursor.old.at ≤ after }
+    requires boundary { IsCharBoundary cursor.old.text after }
+    ensures text { cursor.new.text ≡ cursor.old.text }
+    ensures state { (s : Syntax) → stream_from s cursor.new result ≡ behind s cursor.old.text whole cursor.old.at after }
+    ensures fits { StateFits cursor.new result }
 {
+    if !whole {
+        cursor.advance(after);
+        return State::Outside;
+    }
     let at = cursor.at();
     if at == cursor.text().len() {
         State::Over

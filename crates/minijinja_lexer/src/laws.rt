@@ -1,30 +1,50 @@
 //! Laws of the definitions.
-ghost use Rattle.std.specs.Prelude.{◌≡◌, ℕ, List};
+ghost use Rattle.std.specs.Prelude.{◌≡◌, ℕ, List, min, take};
+ghost use Rattle.std.specs.Str.{IsUtf8, IsCharBoundary};
+ghost use Rattle.minijinja_base.specs.Positions.{column_after};
 ghost use Rattle.minijinja_base.specs.Values.{Text};
 ghost use Rattle.minijinja_base.specs.Syntax.{Syntax, IsBuildable};
-ghost use Rattle.minijinja_lexer.specs.Cut.{Segment, cut_at};
-ghost use Rattle.minijinja_lexer.specs.Relation.{IsCut};
-ghost use Rattle.minijinja_lexer.specs.Slices.{AreSlices, AreInOrder};
+ghost use Rattle.minijinja_lexer.specs.Columns.{chars_since_newline};
+ghost use Rattle.minijinja_lexer.specs.Cut.{Inner, Segment, inner_at, cut_at};
+ghost use Rattle.minijinja_lexer.specs.Relation.{IsCut, IsExpression};
+ghost use Rattle.minijinja_lexer.specs.Slices.{AreSlices, AreCutSlices, AreInOrder};
 ghost use Rattle.minijinja_lexer.specs.TextTokens.{text_of, tokens_of_template, tokens_of_expression};
+ghost use Rattle.minijinja_lexer.specs.declared.turn.Tag.TheVariants.{Variable};
 
 /// A text has one cut.
 pub fn one_cut()
     ensures { (s : Syntax) (text : Text) (gs hs : List Segment) → IsBuildable s → IsCut s text 0 gs → IsCut s text 0 hs → gs ≡ hs }
 {}
 
-/// And it has one.
+/// The computed cut is one.
 pub fn some_cut()
     ensures { (s : Syntax) (text : Text) → IsBuildable s → IsCut s text 0 (cut_at s text 0) }
 {}
 
-/// The text of a token is the slice of the text at its span, and the span's lines and columns are those of its offsets.
+/// A text has one reading as an expression.
+pub fn one_expression()
+    ensures { (s : Syntax) (text : Text) (i j : Inner) → IsBuildable s → IsExpression s text i → IsExpression s text j → i ≡ j }
+{}
+
+/// The computed reading is one.
+pub fn some_expression()
+    ensures { (s : Syntax) (text : Text) → IsExpression s text (inner_at s text Variable 0 0 0) }
+{}
+
+/// The text of a token is the slice of the text at its span, but for a raw block's, which is a part of that; and the
+/// span's lines and columns are those of its offsets.
 pub fn are_slices()
-    ensures template { (s : Syntax) (source : Text) → AreSlices (text_of source) (tokens_of_template s source).tokens }
-    ensures expression { (s : Syntax) (source : Text) → AreSlices (text_of source) (tokens_of_expression s source).tokens }
+    ensures template { (s : Syntax) (source : Text) → AreCutSlices s (text_of s source) (cut_at s (text_of s source) 0) (tokens_of_template s source).tokens }
+    ensures expression { (s : Syntax) (source : Text) → AreSlices (text_of s source) (tokens_of_expression s source).tokens }
 {}
 
 /// Spans are in order and do not overlap.
 pub fn are_in_order()
     ensures template { (s : Syntax) (source : Text) → IsBuildable s → AreInOrder 0 (tokens_of_template s source).tokens }
     ensures expression { (s : Syntax) (source : Text) → IsBuildable s → AreInOrder 0 (tokens_of_expression s source).tokens }
+{}
+
+/// A column counts the characters since the last newline, and stops at 65535.
+pub fn columns_count_chars()
+    ensures { (text : Text) (at : ℕ) → IsUtf8 text → IsCharBoundary text at → column_after (take at text) ≡ min 65535 (chars_since_newline (take at text)) }
 {}

@@ -1,8 +1,9 @@
 //! The tokenizer. A clause sees the tokens to come.
-ghost use Rattle.std.specs.Prelude.{◌≡◌, ◌<◌, ◌^◌, length, IfErr, if◌then◌else◌};
+ghost use Rattle.std.specs.Prelude.{◌≡◌, ◌≢◌, ◌<◌, ◌^◌, length, IfErr, if◌then◌else◌};
 ghost use Rattle.minijinja_base.specs.Errors.{kind_of};
-ghost use Rattle.minijinja_base.specs.declared.error.ErrorKind.TheVariants.{SyntaxError};
-ghost use Rattle.minijinja_lexer.specs.Stream.{Answers, IsNamed};
+ghost use Rattle.minijinja_base.specs.declared.error.ErrorKind.TheVariants.{OutOfMemory};
+ghost use Rattle.minijinja_lexer.specs.Stream.{Answers, IsNamed, IsTokenizerKind};
+ghost use Rattle.minijinja_lexer.specs.States.{StateFits, Steps, stream_from};
 ghost use Rattle.minijinja_lexer.specs.TextTokens.{text_of, tokens_of_template, tokens_of_expression};
 
 use crate::cursor::Cursor;
@@ -16,8 +17,30 @@ use minijinja_base::error::Error;
 pub use minijinja_base::syntax::StartMarker;
 use minijinja_base::syntax::SyntaxConfig;
 use minijinja_base::tokens::{Span, Token};
-use std::alloc::Global;
+use std::alloc::{AllocError, Global};
 use std::marker::Model;
+
+/// A step from a state.
+fn next_step<'s>(
+    alloc: Global,
+    syntax: &SyntaxConfig,
+    cursor: &mut Cursor<'s>,
+    state: State,
+) -> Step<'s>
+    requires { StateFits cursor.old state }
+    ensures text { cursor.new.text ≡ cursor.old.text }
+    ensures steps { Steps syntax.now (stream_from syntax.now cursor.old state) result cursor.new }
+{
+    match state {
+        State::Outside => step_outside(syntax, cursor),
+        State::Inside(tag, opened, shut, whole) => {
+            step_inside(alloc, syntax, cursor, tag, opened, shut, whole)
+        }
+        State::Over => Step::Over,
+        State::Failed(fault, span) => Step::Failed(fault, span),
+        State::NoMemory => Step::NoMemory,
+    }
+}
 
 /// Cuts a text into tokens that borrow it.
 #[derive(Drop)]
@@ -34,9 +57,11 @@ impl<'s, 'c> Model for Tokenizer<'s, 'c> {
 
     ghost Value = { Lexing };
 
-    ghost use Rattle.minijinja_lexer.specs.AtTokenizer.{tokenizer_view};
+    ghost use Rattle.minijinja_lexer.specs.AtTokenizer.{tokenizer_view, IsTokenizer};
 
     ghost view = { tokenizer_view };
+
+    ghost invariant = { IsTokenizer };
 }
 
 impl<'s, 'c> Tokenizer<'s, 'c> {
@@ -51,17 +76,17 @@ impl<'s, 'c> Tokenizer<'s, 'c> {
     ) -> Self
         requires { length input.now < 2 ^ 32 }
         ensures filename { result.filename ≡ filename.now }
-        ensures source { result.source ≡ text_of input.now }
+        ensures source { result.source ≡ text_of syntax.now input.now }
         ensures stream { result.stream ≡ (if in_expr then tokens_of_expression syntax.now input.now else tokens_of_template syntax.now input.now) }
     {
         let state = if in_expr {
-            State::Inside(Tag::Variable, true)
+            State::Inside(Tag::Variable, 0, 0, true)
         } else {
             State::Outside
         };
         Tokenizer {
             filename,
-            cursor: Cursor::new(text_of(input)),
+            cursor: Cursor::new(text_of(syntax, input)),
             state,
             syntax,
             alloc,
@@ -82,20 +107,16 @@ impl<'s, 'c> Tokenizer<'s, 'c> {
         self.cursor.text()
     }
 
-    /// The next token and where it stands, `None` at the end and from then on, or the refusal and from then on.
+    /// The next token and where it stands, `None` at the end and from then on, or a refusal, and the same from then on.
+    /// A decoded string and an integer from 2^64 on take memory; where that is refused the tokenizer ends by it.
     pub fn next_token(&mut self) -> Result<Option<(Token<'s>, Span)>, Error<'s>>
         ensures answers { Answers self.old.stream result self.new.stream }
-        ensures cause { IfErr result (λ e. kind_of e ≡ SyntaxError) }
-        ensures named { IfErr result (λ e. IsNamed self.old.filename e) }
+        ensures cause { IfErr result (λ e. IsTokenizerKind (kind_of e)) }
+        ensures named { IfErr result (λ e. kind_of e ≢ OutOfMemory → IsNamed self.old.filename e) }
         ensures filename { self.new.filename ≡ self.old.filename }
         ensures source { self.new.source ≡ self.old.source }
     {
-        let step = match self.state {
-            State::Outside => step_outside(self.syntax, &mut self.cursor),
-            State::Inside(tag, whole) => { step_inside(self.syntax, &mut self.cursor, tag, whole) }
-            State::Over => Step::Over,
-            State::Failed(fault, span) => Step::Failed(fault, span),
-        };
+        let step = next_step(self.alloc, self.syntax, &mut self.cursor, self.state);
         match step {
             Step::Token(token, span, state) => {
                 self.state = state;
@@ -108,6 +129,10 @@ impl<'s, 'c> Tokenizer<'s, 'c> {
             Step::Failed(fault, span) => {
                 self.state = State::Failed(fault, span);
                 Err(refusal(fault, self.filename, span))
+            }
+            Step::NoMemory => {
+                self.state = State::NoMemory;
+                Err(Error::from(AllocError))
             }
         }
     }

@@ -1,61 +1,162 @@
 //! A step outside any tag.
-ghost use Rattle.std.specs.Prelude.{◌≡◌, ℕ, ◌+◌, ◌<◌, ◌≤◌, length, slice_index, if◌then◌else◌};
+ghost use Rattle.std.specs.Prelude.{◌≡◌, ℕ, ◌+◌, ◌<◌, ◌≤◌, Option, length};
 ghost use Rattle.std.specs.Str.{IsCharBoundary};
+ghost use Rattle.minijinja_base.specs.Markers.{marker_at, IsMarkerPlace};
 ghost use Rattle.minijinja_base.specs.Syntax.{start_of};
-ghost use Rattle.minijinja_base.specs.Markers.{marker_at};
-ghost use Rattle.minijinja_lexer.specs.Cut.{is_control, marker_of};
+ghost use Rattle.minijinja_lexer.specs.Cut as spec;
 ghost use Rattle.minijinja_lexer.specs.TextTokens.{stream_at};
-ghost use Rattle.minijinja_lexer.specs.States.{Steps};
+ghost use Rattle.minijinja_lexer.specs.RawPlaces.{RawBlockPlaces};
+ghost use Rattle.minijinja_lexer.specs.States.{Steps, RawSteps};
+ghost use Rattle.minijinja_lexer.specs.Raw.{raw_at};
+ghost use Rattle.minijinja_lexer.specs.Whitespace.{control_len, control_behind};
 ghost use Rattle.minijinja_lexer.specs.Found.{IsFound};
 
 use crate::cursor::Cursor;
+use crate::data::kept_stop;
 use crate::fault::Fault;
-use crate::scan::byte_at;
+use crate::find::{next_delimiter, next_line_end};
+use crate::raw::{RawBlock, raw_at, raw_block};
 use crate::step::{State, Step};
 use crate::turn::{Tag, start_token};
+use crate::whitespace::{
+    Control, control_at, control_behind, control_len, past_line_end, past_tail,
+};
 use minijinja_base::syntax::{StartMarker, SyntaxConfig};
 use minijinja_base::tokens::Token;
 
-/// The segment that stands at a place.
+/// The segment that stands at a place: data up to a place, with where it is kept to; a comment up to a place; a raw
+/// block; a tag whose marker ends at a place; or what has no end.
 #[derive(Clone, Copy)]
 enum Found {
-    Plain(usize),
+    Data(usize, usize),
+    Skipped(usize),
+    Raw(RawBlock),
     Tag(Tag, usize),
-    Stopped(usize),
+    Unclosed(Fault),
 }
 
-fn is_control(b: u8) -> bool
-    ensures { result ≡ is_control b }
+/// The control before a comment's end delimiter.
+fn tail_control(text: &str, body: usize, end: usize) -> Control
+    ensures { result ≡ spec.tail_control text.now body end }
 {
-    b == b'-' || b == b'+'
-}
-
-/// A tag whose marker ends at `body`.
-fn tag_at(text: &str, tag: Tag, body: usize) -> Found
-    ensures { result ≡ (if is_control (slice_index text.now body) then Found.Stopped body else Found.Tag tag body) }
-{
-    if is_control(byte_at(text.as_bytes(), body)) {
-        Found::Stopped(body)
+    if body < end {
+        control_at(text, end - 1)
     } else {
-        Found::Tag(tag, body)
+        Control::Absent
+    }
+}
+
+/// The comment with this body.
+fn comment_at(syntax: &SyntaxConfig, text: &str, at: usize, body: usize) -> Found
+    requires moves { at < body }
+    requires boundary { IsCharBoundary text.now body }
+    requires segment { spec.segment_at syntax.now text.now at ≡ spec.comment_at syntax.now text.now at body }
+    ensures { IsFound syntax.now text.now at result }
+{
+    let delimiter = syntax.comment_delimiters().1;
+    let end = next_delimiter(text, body, delimiter);
+    if end == text.len() {
+        return Found::Unclosed(Fault::UnclosedComment);
+    }
+    let control = tail_control(text, body, end);
+    Found::Skipped(past_tail(
+        syntax,
+        StartMarker::Comment,
+        control,
+        text,
+        end + delimiter.len(),
+    ))
+}
+
+/// The line comment with this body.
+fn line_comment_at(syntax: &SyntaxConfig, text: &str, at: usize, body: usize) -> Found
+    requires moves { at < body }
+    requires boundary { IsCharBoundary text.now body }
+    requires segment { spec.segment_at syntax.now text.now at ≡ spec.line_comment_at text.now at body }
+    ensures { IsFound syntax.now text.now at result }
+{
+    Found::Skipped(past_line_end(text, next_line_end(text, body)))
+}
+
+/// The block tag with this body, or the raw block that it begins.
+fn block_at(syntax: &SyntaxConfig, text: &str, at: usize, body: usize) -> Found
+    requires moves { at < body }
+    requires boundary { IsCharBoundary text.now body }
+    requires segment { spec.segment_at syntax.now text.now at ≡ spec.block_to syntax.now text.now at body (raw_at syntax.now text.now body) }
+    ensures { IsFound syntax.now text.now at result }
+{
+    let Some((control, begin)) = raw_at(syntax, text, body) else {
+        return Found::Tag(Tag::Block, body);
+    };
+    match raw_block(syntax, text, begin, control) {
+        Some(block) => Found::Raw(block),
+        None => Found::Unclosed(Fault::UnclosedRaw),
+    }
+}
+
+/// Where the marker at a place ends, with its control.
+fn body_of(text: &str, at: usize, marker: StartMarker, len: usize) -> usize
+    requires { IsCharBoundary text.now (at + len) }
+    ensures value { result ≡ at + len + control_len (control_behind text.now (at + len) marker) }
+    ensures boundary { IsCharBoundary text.now result }
+{
+    at + len + control_len(control_behind(text, at + len, marker))
+}
+
+/// The segment that the marker of a length at a place begins.
+fn marked_at(syntax: &SyntaxConfig, text: &str, at: usize, marker: StartMarker, len: usize) -> Found
+    requires marker { marker_at syntax.now text.now at ≡ Option.Some marker }
+    requires len { len ≡ length (start_of syntax.now marker) }
+    requires some { 0 < len }
+    requires boundary { IsCharBoundary text.now (at + len) }
+    ensures { IsFound syntax.now text.now at result }
+{
+    let body = body_of(text, at, marker, len);
+    match marker {
+        StartMarker::Variable => Found::Tag(Tag::Variable, body),
+        StartMarker::Block => block_at(syntax, text, at, body),
+        StartMarker::Comment => comment_at(syntax, text, at, body),
+        StartMarker::LineStatement => Found::Tag(Tag::Line, body),
+        StartMarker::LineComment => line_comment_at(syntax, text, at, body),
     }
 }
 
 fn found_at(syntax: &SyntaxConfig, text: &str, at: usize) -> Found
-    requires { at < length text.now }
+    requires within { at < length text.now }
+    requires boundary { IsCharBoundary text.now at }
     ensures { IsFound syntax.now text.now at result }
 {
     let Some((ahead, marker, len)) = syntax.find_marker(text, at) else {
-        return Found::Plain(text.len());
+        return Found::Data(text.len(), text.len());
     };
-    if ahead > 0 {
-        return Found::Plain(at + ahead);
+    if ahead == 0 {
+        return marked_at(syntax, text, at, marker, len);
     }
-    match marker {
-        StartMarker::Variable => tag_at(text, Tag::Variable, at + len),
-        StartMarker::Block => tag_at(text, Tag::Block, at + len),
-        StartMarker::Comment => Found::Stopped(at),
-    }
+    let stop = at + ahead;
+    Found::Data(stop, kept_stop(syntax, text, at, stop, marker, len))
+}
+
+/// The token of a raw block.
+fn step_raw<'s>(cursor: &mut Cursor<'s>, text: &'s str, block: RawBlock) -> Step<'s>
+    requires text { text.now ≡ cursor.old.text }
+    requires onwards { cursor.old.at ≤ block.begin }
+    requires places { RawBlockPlaces text.now block.begin block }
+    ensures { RawSteps cursor.old.text block result cursor.new }
+{
+    let RawBlock {
+        begin,
+        start,
+        stop,
+        end,
+        after,
+    } = block;
+    let span = cursor.span(begin, end);
+    cursor.advance(after);
+    Step::Token(
+        Token::TemplateData(&text[start..stop]),
+        span,
+        State::Outside,
+    )
 }
 
 /// The next token outside any tag.
@@ -64,19 +165,27 @@ pub(crate) fn step_outside<'s>(syntax: &SyntaxConfig, cursor: &mut Cursor<'s>) -
     ensures steps { Steps syntax.now (stream_at syntax.now cursor.old.text cursor.old.at) result cursor.new }
 {
     let text = cursor.text();
-    let at = cursor.at();
-    if at == text.len() {
-        return Step::Over;
-    }
-    match found_at(syntax, text, at) {
-        Found::Plain(stop) => {
-            let span = cursor.span(at, stop);
-            Step::Token(Token::TemplateData(&text[at..stop]), span, State::Outside)
+    while cursor.at() < text.len() {
+        let at = cursor.at();
+        match found_at(syntax, text, at) {
+            Found::Data(stop, kept) => {
+                if kept != at {
+                    let span = cursor.span(at, kept);
+                    cursor.advance(stop);
+                    return Step::Token(Token::TemplateData(&text[at..kept]), span, State::Outside);
+                }
+                cursor.advance(stop);
+            }
+            Found::Skipped(stop) => cursor.advance(stop),
+            Found::Raw(block) => return step_raw(cursor, text, block),
+            Found::Tag(tag, body) => {
+                let span = cursor.span(at, body);
+                return Step::Token(start_token(tag), span, State::Inside(tag, 0, 0, false));
+            }
+            Found::Unclosed(fault) => {
+                return Step::Failed(fault, cursor.refusal(text.len()));
+            }
         }
-        Found::Tag(tag, body) => {
-            let span = cursor.span(at, body);
-            Step::Token(start_token(tag), span, State::Inside(tag, false))
-        }
-        Found::Stopped(place) => Step::Failed(Fault::UnexpectedCharacter, cursor.refusal(place)),
     }
+    Step::Over
 }

@@ -1,63 +1,36 @@
-//! One token at the front of a text.
-ghost use Rattle.std.specs.Prelude.{◌≡◌, ℕ, ◌+◌, ◌<◌, ◌≤◌, ◌==◌, ◌||◌, not, length, slice_index, MatchResult, IsTrue, true};
-ghost use Rattle.std.specs.Char.{is_ascii_digit, is_ascii_whitespace};
+//! One token at a place of a text.
+ghost use Rattle.std.specs.Prelude.{◌≡◌, ℕ, ◌+◌, ◌<◌, ◌≤◌, length, slice_index};
+ghost use Rattle.std.specs.Char.{is_ascii_whitespace};
 ghost use Rattle.std.specs.List.{prefix_len};
 ghost use Rattle.std.specs.Str.{IsCharBoundary, chars};
 ghost use Rattle.minijinja_lexer.specs.TokenAt as spec;
-ghost use Rattle.minijinja_lexer.specs.Places.{ScanPlaces};
+ghost use Rattle.minijinja_lexer.specs.TokenPlaces.{ScanPlaces};
 
 use crate::fault::Fault;
+use crate::name::{begins_name, name_len};
+use crate::number::number;
+use crate::quoted::quoted;
+use crate::symbol::{Symbol, symbol_front};
 
 /// What sort of token it is.
 #[derive(Clone, Copy)]
 pub(crate) enum Sort {
     Ident,
+    /// A string without escapes.
     Str,
+    /// A string with escapes.
+    String,
+    /// An integer under 2^64.
     Int(u64),
-    Dot,
-    Assign,
-}
-
-fn continues_name(c: char) -> bool
-    ensures { result ≡ spec.continues_name c }
-{
-    unicode_ident::is_xid_continue(c) | (c == '_')
-}
-
-fn begins_name(text: &str) -> bool
-    ensures value { result ≡ spec.begins_name (chars text.now) }
-    ensures continues { IsTrue result → 0 < spec.name_len (chars text.now) }
-{
-    match text.chars().next() {
-        Some(c) => unicode_ident::is_xid_start(c) | (c == '_'),
-        None => false,
-    }
-}
-
-fn name_len(text: &str) -> usize
-    ensures value { result ≡ spec.name_len (chars text.now) }
-    ensures boundary { IsCharBoundary text.now result }
-{
-    let mut len = 0;
-    for c in text.chars() {
-        if !continues_name(c) {
-            return len;
-        }
-        len += c.len_utf8();
-    }
-    len
+    /// An integer from 2^64 to 2^128 - 1.
+    Int128(u128),
+    Symbol(Symbol),
 }
 
 fn space_run(bytes: &[u8]) -> usize
     ensures { result ≡ prefix_len is_ascii_whitespace bytes.now }
 {
     bytes.iter().take_while(|b| b.is_ascii_whitespace()).count()
-}
-
-fn digit_run(bytes: &[u8]) -> usize
-    ensures { result ≡ prefix_len is_ascii_digit bytes.now }
-{
-    bytes.iter().take_while(|b| b.is_ascii_digit()).count()
 }
 
 /// How many bytes at the front are ASCII whitespace.
@@ -68,15 +41,6 @@ pub(crate) fn space_len(text: &str) -> usize
     space_run(text.as_bytes())
 }
 
-fn digits_len(text: &str) -> usize
-    requires { is_ascii_digit (slice_index text.now 0) ≡ true }
-    ensures value { result ≡ prefix_len is_ascii_digit text.now }
-    ensures boundary { IsCharBoundary text.now result }
-    ensures some { 0 < result }
-{
-    digit_run(text.as_bytes())
-}
-
 /// The byte at a place, or 0 past the end.
 pub(crate) fn byte_at(text: &[u8], at: usize) -> u8
     ensures { result ≡ slice_index text.now at }
@@ -84,74 +48,62 @@ pub(crate) fn byte_at(text: &[u8], at: usize) -> u8
     if at < text.len() { text[at] } else { 0 }
 }
 
-fn is_float_mark(b: u8) -> bool
-    ensures { result ≡ spec.is_float_mark b }
+fn int_sort(value: u128) -> Sort
+    ensures { result ≡ spec.int_sort value }
 {
-    b == b'.' || b == b'e' || b == b'E'
-}
-
-fn integer(text: &str) -> Result<(Sort, usize), (Fault, usize)>
-    requires { is_ascii_digit (slice_index text.now 0) ≡ true }
-    ensures value { result ≡ spec.integer text.now }
-    ensures places { ScanPlaces text.now result }
-{
-    let len = digits_len(text);
-    if is_float_mark(byte_at(text.as_bytes(), len)) {
-        return Err((Fault::FloatLiteral, len));
-    }
-    match text[..len].parse::<u64>() {
-        Ok(value) => Ok((Sort::Int(value), len)),
-        Err(_) => Err((Fault::IntegerTooLarge, len)),
-    }
-}
-
-/// The place of the first byte that is the quote or a backslash.
-fn quoted_len(text: &[u8], quote: u8) -> usize
-    ensures value { result ≡ spec.quoted_len quote text.now }
-    ensures within { result ≤ length text.now }
-    ensures found { result < length text.now → IsTrue (slice_index text.now result == quote || slice_index text.now result == 92) }
-{
-    text.iter()
-        .take_while(|b| !(**b == quote || **b == b'\\'))
-        .count()
-}
-
-fn quoted(text: &str) -> Result<(Sort, usize), (Fault, usize)>
-    requires { IsTrue (spec.is_quote (slice_index text.now 0)) }
-    ensures value { result ≡ spec.quoted text.now }
-    ensures places { ScanPlaces text.now result }
-{
-    let bytes = text.as_bytes();
-    let rest = &bytes[1..];
-    let len = quoted_len(rest, bytes[0]);
-    if len == rest.len() {
-        Err((Fault::UnterminatedString, text.len()))
-    } else if rest[len] == b'\\' {
-        Err((Fault::UnexpectedCharacter, len + 1))
+    if value <= u128::from(u64::MAX) {
+        Sort::Int(value as u64)
     } else {
-        Ok((Sort::Str, len + 2))
+        Sort::Int128(value)
     }
 }
 
-/// The token at the front and its length, or why it is refused and how many bytes on.
-#[tactic(auto, unfolding(crate::specs::TokenAt::token_front))]
-pub(crate) fn token_front(text: &str) -> Result<(Sort, usize), (Fault, usize)>
+fn word_front(behind_dot: bool, text: &str) -> Result<(Sort, usize), (Fault, usize)>
     requires { 0 < length text.now }
-    ensures value { result ≡ spec.token_front text.now }
-    ensures places { ScanPlaces text.now result }
+    ensures value { result ≡ spec.word_front behind_dot text.now }
+    ensures places { ScanPlaces text.now 0 result }
 {
-    let b = text.as_bytes()[0];
-    if b == b'.' {
-        Ok((Sort::Dot, 1))
-    } else if b == b'=' {
-        Ok((Sort::Assign, 1))
-    } else if b == b'"' || b == b'\'' {
+    let first = text.as_bytes()[0];
+    if first == b'"' || first == b'\'' {
         quoted(text)
-    } else if b.is_ascii_digit() {
-        integer(text)
+    } else if first.is_ascii_digit() {
+        let (value, len) = number(behind_dot, text)?;
+        Ok((int_sort(value), len))
     } else if begins_name(text) {
         Ok((Sort::Ident, name_len(text)))
     } else {
         Err((Fault::UnexpectedCharacter, 0))
+    }
+}
+
+#[tactic(auto, unfolding(crate::specs::TokenAt::token_front))]
+fn token_front(behind_dot: bool, text: &str) -> Result<(Sort, usize), (Fault, usize)>
+    requires { 0 < length text.now }
+    ensures value { result ≡ spec.token_front behind_dot text.now }
+    ensures places { ScanPlaces text.now 0 result }
+{
+    match symbol_front(text.as_bytes()) {
+        Some((symbol, len)) => Ok((Sort::Symbol(symbol), len)),
+        None => word_front(behind_dot, text),
+    }
+}
+
+fn is_behind_dot(text: &[u8], at: usize) -> bool
+    ensures { result ≡ spec.is_behind_dot text.now at }
+{
+    0 < at && byte_at(text, at - 1) == b'.'
+}
+
+/// The token at the place and where it stops, or why and where it is refused.
+#[tactic(auto, unfolding(crate::specs::TokenAt::token_at))]
+pub(crate) fn token_at(text: &str, at: usize) -> Result<(Sort, usize), (Fault, usize)>
+    requires within { at < length text.now }
+    requires boundary { IsCharBoundary text.now at }
+    ensures value { result ≡ spec.token_at text.now at }
+    ensures places { ScanPlaces text.now at result }
+{
+    match token_front(is_behind_dot(text.as_bytes(), at), &text[at..]) {
+        Ok((sort, len)) => Ok((sort, at + len)),
+        Err((fault, len)) => Err((fault, at + len)),
     }
 }

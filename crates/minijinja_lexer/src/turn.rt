@@ -1,22 +1,32 @@
 //! What stands at a place in a tag.
-ghost use Rattle.std.specs.Prelude.{◌≡◌, ℕ, ◌+◌, ◌-◌, ◌<◌, ◌≤◌, length};
+ghost use Rattle.std.specs.Prelude.{◌≡◌, ℕ, ◌+◌, ◌-◌, ◌<◌, ◌≤◌, Option, length, drop, IfOk, IfErr, IfSome, IsTrue};
 ghost use Rattle.std.specs.Str.{IsCharBoundary};
-ghost use Rattle.minijinja_base.specs.Syntax.{IsBuildable};
+ghost use Rattle.minijinja_base.specs.Syntax.{IsBuildable, IsDelimited, end_of};
 ghost use Rattle.minijinja_base.specs.Tokens.{tok_of};
+ghost use Rattle.minijinja_lexer.specs.Brackets as brackets;
 ghost use Rattle.minijinja_lexer.specs.Cut as spec;
+ghost use Rattle.minijinja_lexer.specs.Stream.{OwnsMemory};
 ghost use Rattle.minijinja_lexer.specs.TextTokens.{start_tok, end_tok, lexeme_tok};
-ghost use Rattle.minijinja_lexer.specs.Places.{TurnPlaces, LexemePlaces};
+ghost use Rattle.minijinja_lexer.specs.Places.{TurnPlaces, ClosePlaces, LexemePlaces};
 
+use crate::escape::unescape;
 use crate::fault::Fault;
-use crate::scan::{Sort, space_len, token_front};
-use minijinja_base::syntax::{SyntaxConfig, stands_at};
+use crate::scan::{Sort, token_at};
+use crate::symbol::{closes, opens, symbol_token};
+use crate::whitespace::{
+    Control, control_at, control_len, past_line_end, past_line_space, past_space, past_tail,
+};
+use minijinja_base::syntax::{StartMarker, SyntaxConfig, stands_at};
 use minijinja_base::tokens::Token;
+use std::alloc::{AllocError, Global};
 
 /// A kind of tag that holds tokens.
 #[derive(Clone, Copy)]
 pub(crate) enum Tag {
     Variable,
     Block,
+    /// A line statement.
+    Line,
 }
 
 /// A token in a tag, by where it begins and ends.
@@ -27,13 +37,13 @@ pub(crate) struct Lexeme {
     pub sort: Sort,
 }
 
-/// How a tag ends: with its end delimiter from the first place to the second; by the end of the text; or where a token
-/// is refused.
+/// How a tag ends: with its end from the first place to the second and what is skipped up to the third; by the end of
+/// the text; or where a token that begins at the first place is refused at the second.
 #[derive(Clone, Copy)]
 pub(crate) enum Close {
-    Closed(usize, usize),
+    Closed(usize, usize, usize),
     Broken,
-    Refused(Fault, usize),
+    Refused(Fault, usize, usize),
 }
 
 /// What stands at a place in a tag, after whitespace.
@@ -48,7 +58,7 @@ pub(crate) fn start_token<'s>(tag: Tag) -> Token<'s>
 {
     match tag {
         Tag::Variable => Token::VariableStart,
-        Tag::Block => Token::BlockStart,
+        Tag::Block | Tag::Line => Token::BlockStart,
     }
 }
 
@@ -57,57 +67,181 @@ pub(crate) fn end_token<'s>(tag: Tag) -> Token<'s>
 {
     match tag {
         Tag::Variable => Token::VariableEnd,
-        Tag::Block => Token::BlockEnd,
+        Tag::Block | Tag::Line => Token::BlockEnd,
     }
 }
 
-/// The token of a lexeme, which borrows the text.
-pub(crate) fn token_of<'s>(text: &'s str, at: usize, lexeme: Lexeme) -> Token<'s>
+/// How many brackets a token opens.
+pub(crate) fn opened_by(sort: Sort) -> usize
+    ensures value { result ≡ brackets.opened_by sort }
+    ensures bound { result ≤ 1 }
+{
+    match sort {
+        Sort::Symbol(symbol) => opens(symbol),
+        _ => 0,
+    }
+}
+
+/// How many brackets a token shuts.
+pub(crate) fn shut_by(sort: Sort) -> usize
+    ensures value { result ≡ brackets.shut_by sort }
+    ensures bound { result ≤ 1 }
+{
+    match sort {
+        Sort::Symbol(symbol) => closes(symbol),
+        _ => 0,
+    }
+}
+
+/// The token of a lexeme. It borrows the text, unless it needs memory.
+pub(crate) fn token_of<'s>(
+    alloc: Global,
+    text: &'s str,
+    at: usize,
+    lexeme: Lexeme,
+) -> Result<Token<'s>, AllocError>
     requires { LexemePlaces text.now at lexeme }
-    ensures { tok_of result ≡ lexeme_tok text.now lexeme }
+    ensures token { IfOk result (λ t. tok_of t ≡ lexeme_tok text.now lexeme) }
+    ensures memory { IfErr result (λ _. OwnsMemory (lexeme_tok text.now lexeme)) }
 {
     let Lexeme { start, stop, sort } = lexeme;
-    match sort {
+    Ok(match sort {
         Sort::Ident => Token::Ident(&text[start..stop]),
         Sort::Str => Token::Str(&text[start + 1..stop - 1]),
+        Sort::String => Token::String(unescape(alloc, &text[start + 1..stop - 1])?),
         Sort::Int(value) => Token::Int(value),
-        Sort::Dot => Token::Dot,
-        Sort::Assign => Token::Assign,
+        Sort::Int128(value) => Token::Int128(Box::new(alloc, value)?),
+        Sort::Symbol(symbol) => symbol_token(symbol),
+    })
+}
+
+/// The control of an end delimiter at a place, and where the delimiter ends.
+#[tactic(auto, unfolding(crate::specs::Cut::end_at))]
+fn end_at(text: &str, at: usize, delimiter: &str) -> Option<(Control, usize)>
+    requires some { 0 < length delimiter.now }
+    requires boundary { IsCharBoundary text.now at }
+    ensures value { result ≡ spec.end_at delimiter.now text.now at }
+    ensures onwards { IfSome result (λ r. at < r.1) }
+    ensures boundary { IfSome result (λ r. IsCharBoundary text.now r.1) }
+{
+    let control = control_at(text, at);
+    if control_len(control) == 1 && stands_at(text, at + 1, delimiter) {
+        Some((control, at + 1 + delimiter.len()))
+    } else if stands_at(text, at, delimiter) {
+        Some((Control::Absent, at + delimiter.len()))
+    } else {
+        None
     }
 }
 
-fn end_delimiter<'c>(syntax: &'c SyntaxConfig, tag: Tag) -> &'c str
-    ensures value { result.now ≡ spec.end_delimiter syntax.now tag }
-    ensures built { IsBuildable syntax.now }
+/// The end delimiter behind the whitespace at a place, with the tail that is skipped behind it.
+fn delimiter_close(
+    syntax: &SyntaxConfig,
+    text: &str,
+    marker: StartMarker,
+    delimiter: &str,
+    at: usize,
+) -> Option<Close>
+    requires some { 0 < length delimiter.now }
+    requires delimiter { delimiter.now ≡ end_of syntax.now marker }
+    requires boundary { IsCharBoundary text.now at }
+    ensures value { result ≡ spec.delimiter_close syntax.now text.now marker at }
+    ensures places { IfSome result (ClosePlaces text.now at) }
+{
+    let start = past_space(text, at);
+    let (control, stop) = end_at(text, start, delimiter)?;
+    let after = past_tail(syntax, marker, control, text, stop);
+    Some(Close::Closed(start, stop, after))
+}
+
+/// A line end or the end of the text, behind whitespace other than `\r` and `\n`.
+fn line_close(text: &str, at: usize) -> Option<Close>
+    requires { IsCharBoundary text.now at }
+    ensures value { result ≡ spec.line_close text.now at }
+    ensures places { IfSome result (ClosePlaces text.now at) }
+{
+    let place = past_line_space(text, at);
+    let stop = past_line_end(text, place);
+    if place == text.len() || place < stop {
+        Some(Close::Closed(at, stop, stop))
+    } else {
+        None
+    }
+}
+
+/// The end that stands at a place in a tag, if one does.
+#[tactic(auto, unfolding(crate::specs::Cut::close_at))]
+fn close_at(syntax: &SyntaxConfig, text: &str, tag: Tag, at: usize) -> Option<Close>
+    requires { IsCharBoundary text.now at }
+    ensures value { result ≡ spec.close_at syntax.now text.now tag at }
+    ensures places { IfSome result (ClosePlaces text.now at) }
 {
     match tag {
-        Tag::Variable => syntax.variable_delimiters().1,
-        Tag::Block => syntax.block_delimiters().1,
+        Tag::Variable => delimiter_close(
+            syntax,
+            text,
+            StartMarker::Variable,
+            syntax.variable_delimiters().1,
+            at,
+        ),
+        Tag::Block => delimiter_close(
+            syntax,
+            text,
+            StartMarker::Block,
+            syntax.block_delimiters().1,
+            at,
+        ),
+        Tag::Line => line_close(text, at),
     }
 }
 
-/// What stands at a place in a tag.
-#[tactic(auto, unfolding(crate::specs::Cut::turn_at))]
-pub(crate) fn turn_at(syntax: &SyntaxConfig, text: &str, tag: Tag, at: usize) -> Turn
+/// How a tag ends with the text, at a place.
+pub(crate) fn close_over(len: usize, place: usize, tag: Tag) -> Close
+    ensures { result ≡ spec.close_over len place tag }
+{
+    match tag {
+        Tag::Variable | Tag::Block => Close::Broken,
+        Tag::Line => Close::Closed(place, place, len),
+    }
+}
+
+fn token_turn(text: &str, tag: Tag, at: usize) -> Turn
     requires { IsCharBoundary text.now at }
-    ensures value { result ≡ spec.turn_at syntax.now text.now tag at }
+    ensures value { result ≡ spec.token_turn text.now tag at }
     ensures places { TurnPlaces text.now at result }
 {
-    let place = at + space_len(&text[at..]);
-    let delimiter = end_delimiter(syntax, tag);
-    if stands_at(text, place, delimiter) {
-        return Turn::End(Close::Closed(place, place + delimiter.len()));
-    }
-    if place < text.len() {
-        match token_front(&text[place..]) {
-            Ok((sort, len)) => Turn::Token(Lexeme {
-                start: place,
-                stop: place + len,
+    if at < text.len() {
+        match token_at(text, at) {
+            Ok((sort, stop)) => Turn::Token(Lexeme {
+                start: at,
+                stop,
                 sort,
             }),
-            Err((fault, len)) => Turn::End(Close::Refused(fault, place + len)),
+            Err((fault, place)) => Turn::End(Close::Refused(fault, at, place)),
         }
     } else {
-        Turn::End(Close::Broken)
+        Turn::End(close_over(text.len(), at, tag))
     }
+}
+
+/// What stands at a place in a tag with so many brackets opened and shut.
+#[tactic(auto, unfolding(crate::specs::Cut::turn_at))]
+pub(crate) fn turn_at(
+    syntax: &SyntaxConfig,
+    text: &str,
+    tag: Tag,
+    opened: usize,
+    shut: usize,
+    at: usize,
+) -> Turn
+    requires { IsCharBoundary text.now at }
+    ensures value { result ≡ spec.turn_at syntax.now text.now tag opened shut at }
+    ensures places { TurnPlaces text.now at result }
+{
+    if opened == shut {
+        if let Some(close) = close_at(syntax, text, tag, at) {
+            return Turn::End(close);
+        }
+    }
+    token_turn(text, tag, past_space(text, at))
 }

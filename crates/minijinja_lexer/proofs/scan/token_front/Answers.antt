@@ -1,20 +1,9 @@
-use Rattle.std.proofs.Common.{ap, arith, get_or, lit<}
-use Rattle.std.proofs.lemmas.Str.{IsCharBoundary-start, IsCharBoundary-after_ascii}
+use Rattle.std.proofs.Common.{subst}
+use Rattle.minijinja_lexer.specs.AsciiEnds.{EndsInAscii}
+use Rattle.minijinja_lexer.proofs.Scanning.{ascii_end}
 use Rattle.minijinja_lexer.proofs.scan.token_front.Goals as goal
 
-pub returns-then-b-eq46-clause-places : goal.returns-then-b-eq46-clause-places
-returns-then-b-eq46-clause-places c = let e = ap (λ s. get_or s 0 0) c.as_bytes.ensures.value in record {
-  some = lit< tt;
-  boundary = IsCharBoundary-after_ascii c.args.text.now 0 c.utf8.text c.requires (omega (arith, e, c.if-b-eq46.true));
-  inside = tt;
-}
-
-pub returns-then-b-eq61-clause-places : goal.returns-then-b-eq61-clause-places
-returns-then-b-eq61-clause-places c = let e = ap (λ s. get_or s 0 0) c.as_bytes.ensures.value in record {
-  some = lit< tt;
-  boundary = IsCharBoundary-after_ascii c.args.text.now 0 c.utf8.text c.requires (omega (arith, e, c.if-b-eq61.true));
-  inside = tt;
-}
-
-pub returns-else-begins_name-clause-places : goal.returns-else-begins_name-clause-places
-returns-else-begins_name-clause-places c = IsCharBoundary-start c.args.text.now c.utf8.text
+pub returns-in-Some-clause-places : goal.returns-in-Some-clause-places
+returns-in-Some-clause-places c =
+    let ends : EndsInAscii c.args.text.now c.in-Some.len = subst (λ t. EndsInAscii t c.in-Some.len) c.as_bytes.ensures.value c.in-Some.ensures.places in
+    record { some = ends.some; boundary = ascii_end c.args.text.now c.in-Some.len c.utf8.text ends; inside = tt }

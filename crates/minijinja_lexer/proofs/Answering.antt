@@ -1,0 +1,22 @@
+-- What a refusal answers.
+use Rattle.std.proofs.Common.{◌≡◌, refl, ap, sym, ◌∙◌, ⊎_elim, inl, inr, Option}
+use Rattle.std.specs.Prelude.{◌⊎◌, None}
+use Rattle.minijinja_base.specs.Errors.{kind_of, span_of, IsOutOfMemory}
+use Rattle.minijinja_base.specs.declared.error.Error.{Error}
+use Rattle.minijinja_base.specs.declared.error.ErrorKind.{ErrorKind}
+use Rattle.minijinja_base.specs.declared.error.ErrorKind.TheVariants.{OutOfMemory}
+use Rattle.minijinja_base.specs.declared.tokens.Span.{Span}
+use Rattle.minijinja_lexer.specs.Stream.{Stream, ended, refused, out_of_memory, NeedsMemory, Refuses, RunsOut}
+
+pub refuses : (old : Stream) (e : Error) (k : ErrorKind) (span : Option Span) → old ≡ ended (refused k span) → kind_of e ≡ k → span_of e ≡ span → Refuses old e (ended (refused k span))
+refuses old e k span is kind place = record {
+  none_left = ap (λ (s : Stream). s.tokens) is;
+  is = ap (λ (s : Stream). s.ending) is ∙ ap (λ k. refused k span) (sym kind) ∙ ap (refused (kind_of e)) (sym place);
+  same = sym is;
+}
+
+pub runs_out : (old : Stream) (e : Error) → (old ≡ out_of_memory) ⊎ NeedsMemory old.tokens → IsOutOfMemory e → Refuses old e out_of_memory ⊎ RunsOut old e out_of_memory
+runs_out old e why is = ⊎_elim
+    (λ (o : old ≡ out_of_memory). inl (refuses old e OutOfMemory None o is.kind is.span))
+    (λ (n : NeedsMemory old.tokens). inr (record { error = is; needed = n; over = refl }))
+    why

@@ -1,0 +1,10 @@
+-- What a column counts.
+use Rattle.std.specs.Prelude.{ℕ, not}
+use Rattle.std.specs.List.{suffix_len}
+use Rattle.std.specs.Str.{chars}
+use Rattle.minijinja_base.specs.Values.{Text}
+use Rattle.minijinja_base.specs.Positions.{is_newline}
+
+-- how many characters stand behind the last newline of a text, or in all of it where there is none
+abbrev pub chars_since_newline : Text → ℕ
+chars_since_newline text = suffix_len (λ c. not (is_newline c)) (chars text)
