@@ -1,5 +1,5 @@
 -- What taking a token does to the places of a stream, and the spans that are made of them.
-use Rattle.std.proofs.Common.{◌≡◌, suc, List, [], ◌∷◌, ◌++◌, Contains, Option, Some, None, Result, Ok, Err, refl, sym, ap, ◌∙◌, subst, arith, append_assoc}
+use Rattle.std.proofs.Common.{◌≡◌, suc, List, [], ◌∷◌, ◌++◌, Contains, Option, Some, None, Result, Ok, refl, sym, ap, ◌∙◌, subst, arith, append_assoc}
 use Rattle.minijinja_base.specs.declared.tokens.Token.{Token}
 use Rattle.minijinja_base.specs.declared.tokens.Span.{Span}
 use Rattle.minijinja_base.specs.declared.error.Error.{Error}
@@ -25,9 +25,9 @@ of_no_token ts = record {
   end = zero_end (record { line = refl; col = refl; offset = refl });
 }
 
-pub over_taken : (ts : List SpannedTok) (old new : Ahead) (r : Result (Option (Token × Span)) Error) →
-    Answers old.stream r new.stream → new.last ≡ last_after r old.last → IsOver ts old → IsOver ts new × TakenFrom ts r
-over_taken ts old new (Ok (Some t)) a l h =
+pub over_taken : (ts : List SpannedTok) (old new : Ahead) (o : Option (Token × Span)) →
+    Answers old.stream (Ok o) new.stream → new.last ≡ last_after (Ok o) old.last → IsOver ts old → IsOver ts new × TakenFrom ts (Ok o)
+over_taken ts old new (Some t) a l h =
     let e : ts ≡ h.taken ++ (spanned_tok t ∷ new.stream.tokens) = h.rest ∙ ap (λ s. h.taken ++ s.tokens) a in
     let m : Contains ts (spanned_tok t) = subst (λ us. Contains us (spanned_tok t)) (sym e) (contains-append h.taken new.stream.tokens (spanned_tok t)) in (
       record {
@@ -37,10 +37,8 @@ over_taken ts old new (Ok (Some t)) a l h =
       },
       m,
     )
-over_taken ts old new (Ok None) a l h =
+over_taken ts old new None a l h =
     (record { taken = h.taken; rest = h.rest ∙ ap (λ s. h.taken ++ s.tokens) (sym a.1); last = subst (λ s. IsOfTokens ts s) (sym l) h.last }, tt)
-over_taken ts old new (Err e) a l h =
-    (record { taken = h.taken; rest = h.rest ∙ ap (λ s. h.taken ++ s.tokens) (sym a.2); last = subst (λ s. IsOfTokens ts s) (sym l) h.last }, tt)
 
 pub expanded_stands : (ts : List SpannedTok) (s : Span) (last : Span) → StartsAtToken ts s → IsOfTokens ts last → IsOfTokens ts (expanded s last)
 expanded_stands ts s last h i = record { start = starts s h; end = ends last i.end }
@@ -73,4 +71,4 @@ current_start ts s r o t later i j k h =
 pub some_over : (ts : List SpannedTok) (old new : Ahead) (o : Option (Token × Span)) (t : Token × Span) →
     Answers old.stream (Ok o) new.stream → new.last ≡ last_after (Ok o) old.last → o ≡ Some t → IsOver ts old → IsOver ts new × Contains ts (spanned_tok t)
 some_over ts old new o t a l e h =
-    let p = over_taken ts old new (Ok o) a l h in (p.0, subst (λ v. TakenFrom ts (Ok v)) e p.1)
+    let p = over_taken ts old new o a l h in (p.0, subst (λ v. TakenFrom ts (Ok v)) e p.1)

@@ -1,12 +1,19 @@
 -- A turn of each loop of the parser, and its end.
-use Rattle.std.proofs.Common.{◌≡◌, ◌<◌, [], ◌∷◌, ◌++◌, List, length, true, false, Some, None, Option, Ok, refl, ap, sym, ◌∙◌, arith}
+use Rattle.std.proofs.Common.{◌≡◌, ℕ, ◌<◌, [], ◌∷◌, ◌++◌, List, length, true, false, Some, None, Option, Result, Ok, Err, IfOk, IfErr, refl, ap, sym, ◌∙◌, arith}
 use Rattle.minijinja_base.specs.declared.tokens.Token.{Token}
+use Rattle.minijinja_base.specs.declared.tokens.Token.TheVariants as token
 use Rattle.minijinja_base.specs.declared.tokens.Span.{Span}
 use Rattle.minijinja_lexer.specs.Stream.{Stream, Answers, finished, toks}
 use Rattle.minijinja_base.specs.Values.{Text, Functions}
-use Rattle.minijinja_base.specs.Tokens.{Tok, dot, ident, tok_of}
+use Rattle.minijinja_base.specs.Errors.{kind_of}
+use Rattle.minijinja_base.specs.declared.error.Error.{Error}
+use Rattle.minijinja_base.specs.declared.error.ErrorKind.TheVariants.{OutOfMemory}
+use Rattle.minijinja_base.specs.Tokens.{Tok, dot, ident, assign, block_end, variable_end, tok_of}
 use Rattle.minijinja_tree.specs.Tree.{Expr, attribute, Stmt}
 use Rattle.minijinja_parser.specs.Grammar.{Tokens, at_dot, at_token, AttributeOf, PartOf, ExprAt, StmtAt, max_depth}
+use Rattle.minijinja_parser.specs.Ahead.{Ahead, left}
+use Rattle.minijinja_parser.specs.Gives.{Gives}
+use Rattle.minijinja_parser.specs.TokenKinds.{is_assign, is_block_end, is_variable_end}
 use Rattle.minijinja_parser.specs.Reading as r
 use Rattle.minijinja_parser.specs.Reading.{Reader, and_then, read_map}
 use Rattle.minijinja_parser.proofs.Loops.{Exact, loop-more, loop-done, same_read}
@@ -42,6 +49,36 @@ attributes-done e a k = loop-done at_dot AttributeOf r.attribute_of attribute-tu
 pub dot-taken : (o : Option (Token × Span)) (old new : Stream) → Answers old (Ok o) new → at_dot (toks old) ≡ true → (t : Tok) × (toks old ≡ t ∷ toks new)
 dot-taken (Some t) old new a k = (tok_of t.0, ap toks a)
 dot-taken None old new a k = let e : at_dot (toks old) ≡ false = ap (λ s. at_dot (toks s)) a.0 in cc
+
+pub token-taken : (a b : Tokens) (t : Tok) → r.one_token a ≡ Some (t, b) → a ≡ t ∷ b
+token-taken (u ∷ a) b t e = let h : (u ≡ t) × (a ≡ b) = same_read _ _ _ _ e in ap (λ v. v ∷ a) h.0 ∙ ap (λ c. t ∷ c) h.1
+token-taken [] b t e = cc
+
+pub not-assign : (t : Tok) (a : Tokens) → is_assign t ≡ false → r.assign_token (t ∷ a) ≡ None
+not-assign assign a k = cc
+not-assign _ a k = refl
+
+pub not-block_end : (t : Tok) (a : Tokens) → is_block_end t ≡ false → r.block_end_token (t ∷ a) ≡ None
+not-block_end block_end a k = cc
+not-block_end _ a k = refl
+
+pub not-variable_end : (t : Tok) (a : Tokens) → is_variable_end t ≡ false → r.variable_end_token (t ∷ a) ≡ None
+not-variable_end variable_end a k = cc
+not-variable_end _ a k = refl
+
+pub not-primary : {C F : Type 0} (f : Functions C F) (t : Token) (a : Tokens) →
+    ((x : _) → t ≡ token.Ident x → ⊥) → ((x : _) → t ≡ token.Str x → ⊥) → ((n : ℕ) → t ≡ token.Int n → ⊥) → r.primary_of f (tok_of t ∷ a) ≡ None
+unfolding r.primary_of
+not-primary f (token.Ident x) a i s n = absurd (i x refl)
+not-primary f (token.Str x) a i s n = absurd (s x refl)
+not-primary f (token.Int x) a i s n = absurd (n x refl)
+not-primary f _ a i s n = refl
+
+-- what was made of one token is what is read
+pub gives-tree : {X A : Type 0} (view : X → A) (res : Result X Error) (x : A) (new : Ahead) (read : Option (A × Tokens)) →
+    IfOk res (λ y. view y ≡ x) → IfErr res (λ e. kind_of e ≡ OutOfMemory) → read ≡ Some (x, left new) → Gives view res new read
+gives-tree view (Ok y) x new read h m k = k ∙ ap (λ z. Some (z, left new)) (sym h)
+gives-tree view (Err e) x new read h m k = λ n. absurd (n m)
 
 pub identifier-shorter : (a b : Tokens) (x : Text) → r.identifier a ≡ Some (x, b) → length b < length a
 identifier-shorter (ident y ∷ a) b x e = let h : (y ≡ x) × (a ≡ b) = same_read _ _ _ _ e in omega (arith, ap length h.1)

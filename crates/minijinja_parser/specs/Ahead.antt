@@ -1,11 +1,11 @@
 -- What a token stream says of itself.
-use Rattle.std.specs.Prelude.{◌≡◌, [], ◌∷◌, Option, Some, None, Result, Ok, Err}
+use Rattle.std.specs.Prelude.{◌≡◌, ◌≢◌, ◌⊎◌, [], ◌∷◌, Option, Some, None, Result, Ok, Err}
 use Rattle.minijinja_base.specs.declared.tokens.Token.{Token}
 use Rattle.minijinja_base.specs.declared.tokens.Span.{Span}
-use Rattle.minijinja_base.specs.Errors.{kind_of}
+use Rattle.minijinja_base.specs.Errors.{kind_of, span_of}
 use Rattle.minijinja_base.specs.declared.error.Error.{Error}
-use Rattle.minijinja_base.specs.declared.error.ErrorKind.TheVariants.{SyntaxError}
-use Rattle.minijinja_lexer.specs.Stream.{Stream, Refuses, before, ended, finished, spanned_tok, toks}
+use Rattle.minijinja_base.specs.declared.error.ErrorKind.TheVariants.{OutOfMemory}
+use Rattle.minijinja_lexer.specs.Stream.{Stream, Answers, Refuses, IsTokenizerKind, NeedsMemory, before, ended, finished, refused, out_of_memory, spanned_tok, toks}
 use Rattle.minijinja_parser.specs.Grammar.{Tokens}
 
 -- the tokens to come and how they end, and the span of the last token taken, zeros before any
@@ -17,6 +17,21 @@ pub record Ahead : Type 0 where
 abbrev pub left : Ahead → Tokens
 left s = toks s.stream
 
+-- the tokens to come, with one in view: those, or want of memory where the next of them needs some
+abbrev pub Comes : Stream → Stream → Type 0
+Comes later new = (new ≡ later) ⊎ ((new ≡ out_of_memory) × NeedsMemory later.tokens)
+
+-- what `next` answers of the tokens to come: the first of them, the end, or a refusal
+abbrev pub AnswersAhead : Stream → Result (Option (Token × Span)) Error → Stream → Type 0
+AnswersAhead old (Ok (Some t)) new = (later : Stream) × (old ≡ before (spanned_tok t ∷ []) later) × Comes later new
+AnswersAhead old (Ok None) new = (old ≡ ended finished) × (new ≡ old)
+AnswersAhead old (Err e) new = Refuses old e new
+
+-- what `take` answers: as a tokenizer does, but for want of memory
+abbrev pub Takes : Stream → Result (Option (Token × Span)) Error → Stream → Type 0
+Takes old (Ok t) new = Answers old (Ok t) new
+Takes old (Err e) new = kind_of e ≢ OutOfMemory → Refuses old e new
+
 -- what a tokenizer answered, ahead of what it has yet to answer
 abbrev pub joined : Result (Option (Token × Span)) Error → Stream → Stream
 joined (Ok (Some t)) later = before (spanned_tok t ∷ []) later
@@ -27,7 +42,7 @@ joined (Err e) later = later
 abbrev pub IsAnswerBefore : Result (Option (Token × Span)) Error → Stream → Type 0
 IsAnswerBefore (Ok (Some t)) later = Unit {0}
 IsAnswerBefore (Ok None) later = later ≡ ended finished
-IsAnswerBefore (Err e) later = Refuses e later.ending × (later.tokens ≡ []) × (kind_of e ≡ SyntaxError)
+IsAnswerBefore (Err e) later = (later ≡ ended (refused (kind_of e) (span_of e))) × IsTokenizerKind (kind_of e)
 
 -- the span of the token taken
 abbrev pub last_after : Result (Option (Token × Span)) Error → Span → Span

@@ -2,11 +2,15 @@
 use Rattle.std.specs.Prelude.{◌≡◌, ◌⊎◌}
 use Rattle.minijinja_base.specs.Errors.{kind_of}
 use Rattle.minijinja_base.specs.declared.error.Error.{Error}
-use Rattle.minijinja_base.specs.declared.error.ErrorKind.TheVariants.{OutOfMemory, SourceTooLong, SyntaxError}
+use Rattle.minijinja_base.specs.declared.error.ErrorKind.TheVariants.{BadEscape, OutOfMemory, SourceTooLong, SyntaxError}
 
 -- memory ran out, or the source is too long
 abbrev pub IsLimit : Error → Type 0
 IsLimit e = (kind_of e ≡ OutOfMemory) ⊎ (kind_of e ≡ SourceTooLong)
 
+-- the text is at fault
+abbrev pub IsRefusal : Error → Type 0
+IsRefusal e = (kind_of e ≡ SyntaxError) ⊎ (kind_of e ≡ BadEscape)
+
 abbrev pub IsCause : Error → Type 0
-IsCause e = (kind_of e ≡ SyntaxError) ⊎ IsLimit e
+IsCause e = IsRefusal e ⊎ IsLimit e

@@ -1,10 +1,10 @@
 -- What a private function of the parser returns, in terms of reading. These definitions need not be believed: the public
 -- clauses rest on what is proved of them.
 use Rattle.std.specs.Prelude.{◌≡◌, ◌≢◌, Option, Some, None, Result, Ok, Err}
-use Rattle.minijinja_base.specs.Errors.{kind_of}
+use Rattle.minijinja_base.specs.Errors.{kind_of, span_of}
 use Rattle.minijinja_base.specs.declared.error.Error.{Error}
-use Rattle.minijinja_base.specs.declared.error.ErrorKind.TheVariants.{OutOfMemory, SyntaxError}
-use Rattle.minijinja_lexer.specs.Stream.{Stream, finished}
+use Rattle.minijinja_base.specs.declared.error.ErrorKind.TheVariants.{BadEscape, OutOfMemory, SyntaxError}
+use Rattle.minijinja_lexer.specs.Stream.{Stream, Ending, finished, refused}
 use Rattle.minijinja_parser.specs.Grammar.{Tokens}
 use Rattle.minijinja_parser.specs.Ahead.{Ahead, left}
 
@@ -18,6 +18,11 @@ abbrev pub GivesAll : {X A : Type 0} → (X → A) → Result X Error → Stream
 GivesAll view (Ok x) s read = (read ≡ Some (view x)) × (s.ending ≡ finished)
 GivesAll view (Err e) s read = kind_of e ≢ OutOfMemory → s.ending ≡ finished → read ≡ None
 
--- a failure is for want of memory, or a syntax error
-abbrev pub IsFailure : Error → Type 0
-IsFailure e = kind_of e ≢ OutOfMemory → kind_of e ≡ SyntaxError
+-- a failure is for want of memory, a syntax error, or the bad escape that the tokens end with
+abbrev pub IsFailure : Ending → Error → Type 0
+IsFailure end e = kind_of e ≢ OutOfMemory → kind_of e ≢ SyntaxError → (kind_of e ≡ BadEscape) × (end ≡ refused BadEscape (span_of e))
+
+-- the tokens end as they did, unless memory ran out
+abbrev pub KeepsEnding : {X : Type 0} → Result X Error → Ending → Ending → Type 0
+KeepsEnding (Ok x) old new = new ≡ old
+KeepsEnding (Err e) old new = kind_of e ≢ OutOfMemory → new ≡ old

@@ -1,5 +1,6 @@
 pub mod Rules
 pub mod Words
+pub mod TokenKinds
 pub mod Grammar
 pub mod Derived
 pub mod Reading

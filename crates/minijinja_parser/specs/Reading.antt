@@ -99,10 +99,16 @@ unfoldable pub stmt_of : {C : Type 0} → Reader Tokens (Expr C) → Reader Toke
 stmt_of expr (ident w ∷ a) = when (bytes_eq w (codes "set")) (set_of expr a)
 stmt_of expr _ = None
 
+abbrev pub output_of : {C : Type 0} → Reader Tokens (Expr C) → Reader Tokens (Stmt C)
+output_of expr a = and_then (expr a) (λ e. after variable_end_token (output e))
+
+abbrev pub tag_of : {C : Type 0} → Reader Tokens (Stmt C) → Reader Tokens (Stmt C)
+tag_of stmt a = and_then (stmt a) (after block_end_token)
+
 unfoldable pub part_of : {C : Type 0} → Reader Tokens (Expr C) → Reader Tokens (Stmt C) → Reader Tokens (Stmt C)
 part_of expr stmt (template_data t ∷ a) = Some (data_text t, a)
-part_of expr stmt (variable_start ∷ a) = and_then (expr a) (λ e. after variable_end_token (output e))
-part_of expr stmt (block_start ∷ a) = and_then (stmt a) (after block_end_token)
+part_of expr stmt (variable_start ∷ a) = output_of expr a
+part_of expr stmt (block_start ∷ a) = tag_of stmt a
 part_of expr stmt _ = None
 
 -- ---- the whole

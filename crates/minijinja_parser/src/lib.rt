@@ -5,5 +5,6 @@ mod nodes;
 pub mod parser;
 #[cfg(test)]
 mod tests;
+mod token_kinds;
 mod token_stream;
 mod words;
