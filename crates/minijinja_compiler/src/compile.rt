@@ -1,9 +1,11 @@
 //! From a source text to its instructions.
 ghost use Rattle.std.specs.Prelude.{◌≡◌, ◌≤◌, ◌^◌, length, IfErr, IfOk, IsErrAnd, MatchResult, ⊤};
-ghost use Rattle.minijinja_base.specs.Errors.{kind_of};
-ghost use Rattle.minijinja_base.specs.declared.error.ErrorKind.TheVariants.{SyntaxError, SourceTooLong, TooManyInstructions};
+ghost use Rattle.minijinja_base.specs.Errors.{kind_of, span_of};
+ghost use Rattle.minijinja_base.specs.declared.error.ErrorKind.TheVariants.{BadEscape, SourceTooLong, TooManyInstructions};
+ghost use Rattle.minijinja_lexer.specs.Stream as ending;
+ghost use Rattle.minijinja_lexer.specs.TextTokens.{tokens_of_template};
 ghost use Rattle.minijinja_parser.specs.Derived.{IsDerived};
-ghost use Rattle.minijinja_compiler.specs.Headline.{IsCompiled, HasTooLongCode, IsLimit, IsCause};
+ghost use Rattle.minijinja_compiler.specs.Headline.{IsCompiled, HasTooLongCode, IsLimit, IsCause, IsRefusal};
 
 use minijinja_base::error::Error;
 use minijinja_base::syntax::SyntaxConfig;
@@ -27,7 +29,7 @@ pub struct Compiled<'s, V: TemplateValue> {
 
 /// Compiles a template, whose source has this name.
 ///
-/// A text that the grammar does not derive is a syntax error, with its place. Other refusals are those of memory, of a source
+/// A text that the grammar does not derive is a syntax error, or a bad escape where its tokens end with one, with its place. Other refusals are those of memory, of a source
 /// of 2^32 bytes or more and of a list of 2^32 instructions or more.
 pub fn compile<'s, V: TemplateValue>(
     alloc: Global,
@@ -38,9 +40,12 @@ pub fn compile<'s, V: TemplateValue>(
     // The code is that of the one tree of the text, and does what the tree means.
     ensures compiled { IfOk result (IsCompiled V.functions V.contents syntax.now source.now filename.now) }
 
-    // A text is refused as a syntax error exactly where the grammar derives no tree of it.
-    ensures refused { IfErr result (λ e. kind_of e ≡ SyntaxError → (t : _) → IsDerived V.functions syntax.now source.now t → ⊥) }
+    // A text is refused, as a syntax error or for a bad escape, exactly where the grammar derives no tree of it.
+    ensures refused { IfErr result (λ e. IsRefusal e → (t : _) → IsDerived V.functions syntax.now source.now t → ⊥) }
     ensures accepted { (t : _) → IsDerived V.functions syntax.now source.now t → MatchResult result (λ _. ⊤) IsLimit }
+
+    // A bad escape is the one that the tokens end with.
+    ensures bad_escape { IfErr result (λ e. kind_of e ≡ BadEscape → (tokens_of_template syntax.now source.now).ending ≡ ending.refused BadEscape (span_of e)) }
 
     // A source is too long exactly from 2^32 bytes on, and code only where the tree's has 2^32 instructions or more.
     ensures too_long { 2 ^ 32 ≤ length source.now → IsErrAnd result (λ e. kind_of e ≡ SourceTooLong) }

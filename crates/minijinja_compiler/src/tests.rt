@@ -32,19 +32,20 @@ fn refuses_what_the_grammar_does_not_derive(rt: HostRuntime) {
         "{{ \"a\".b }}",
         "{{ true.x }}",
         "{{ 1.5 }}",
-        "{{ 1_0 }}",
+        "{{ 1_ }}",
+        "{{ 1e5 }}",
         "{{ 18446744073709551616 }}",
         "{{ \"a }}",
         "{{ 'a\\n' }}",
-        "{{- a }}",
-        "{{ a -}}",
-        "{# c #}",
+        "{{ a -}",
+        "{# c",
+        "{% raw %}x",
         "{% set loop = a %}",
         "{% set a.b = c %}",
         "{% set a = b, c %}",
         "{% set a %}",
         "{% if a %}",
-        "{% raw %}{% endraw %}",
+        "{% endraw %}",
         "{{ (a) }}",
         "{{ a | b }}",
         "{{ a[0] }}",
@@ -57,4 +58,31 @@ fn refuses_what_the_grammar_does_not_derive(rt: HostRuntime) {
             Err(error) => assert!(rt; error.kind() == ErrorKind::SyntaxError, "{source}"),
         }
     }
+}
+
+#[test]
+fn refuses_bad_escapes(rt: HostRuntime) {
+    let syntax = SyntaxConfig::default();
+    for source in ["{{ '\\q' }}", "{{ '\\ud800' }}", "{{ 'a' '\\q' }}"] {
+        match compile::<Value>(rt.alloc(), source, "page", &syntax) {
+            Ok(_) => assert!(rt; false, "{source} is accepted"),
+            Err(error) => assert!(rt; error.kind() == ErrorKind::BadEscape, "{source}"),
+        }
+    }
+}
+
+#[test]
+fn compiles_by_another_syntax(rt: HostRuntime) -> Result<(), Fail> {
+    let mut builder = SyntaxConfig::builder();
+    builder
+        .variable_delimiters(rt.alloc(), "<<", ">>")
+        .map_err(|_| "no memory")?;
+    let syntax = builder.build(rt.alloc()).map_err(|_| "not built")?;
+    let compiled = compile::<Value>(rt.alloc(), "{{ a }}<< a >>", "page", &syntax)
+        .ok()
+        .ok_or("refused")?;
+    assert_eq!(rt; compiled.instructions.len(), 3);
+    assert!(rt; matches!(compiled.instructions.get(0), Some(Instruction::EmitRaw(_))));
+    assert!(rt; matches!(compiled.instructions.get(1), Some(Instruction::Lookup(_))));
+    Ok(())
 }
