@@ -1,3 +1,4 @@
+pub mod Settings
 pub mod Usage
 pub mod Fault
 pub mod Reading

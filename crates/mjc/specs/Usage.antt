@@ -1,14 +1,51 @@
 -- How `mjc` is called.
-use Rattle.std.specs.Prelude.{◌≡◌, List, [], ◌∷◌, false, nat_eq, codes}
-use Rattle.std.specs.List.{starts_with}
+use Rattle.std.specs.Prelude.{◌≡◌, List, [], ◌∷◌, ◌++◌, false, nat_eq, codes}
+use Rattle.std.specs.List.{starts_with, flat_map}
 use Rattle.std.specs.Borrow.{Bor}
 use Rattle.minijinja_base.specs.Values.{Text}
+use Rattle.minijinja_base.specs.Syntax.{IsBuildable}
+use Rattle.mjc.specs.Settings.{Setting, texts, words_of, syntax_of, syntax_with}
+use Rattle.mjc.specs.declared.usage.Action.{Action}
+use Rattle.mjc.specs.declared.usage.Action.TheVariants.{Tokens, Code}
+use Rattle.mjc.specs.declared.usage.Command.{Command}
 
 -- a word that may name a file: one that begins with `--` is an option
 abbrev pub IsFile : Text → Type 0
 IsFile word = starts_with nat_eq word (codes "--") ≡ false
 
--- the words behind the program's name are `code` and a file
-abbrev pub IsUsage : List (Bor Text) → Type 0
-IsUsage (command ∷ file ∷ []) = (command.now ≡ codes "code") × IsFile file.now
-IsUsage _ = ⊥
+-- the word of a command
+abbrev pub command_word : Action → Text
+command_word Tokens = codes "tokens"
+command_word Code = codes "code"
+
+-- options and, behind them, one file
+abbrev pub option_words : List Setting → Text → List Text
+option_words settings file = flat_map words_of settings ++ file ∷ []
+
+-- what the program may be asked for
+pub record Request : Type 0 where
+  pub action : Action
+  pub settings : List Setting
+  pub file : Text
+
+-- the words behind the program's name are the command, its options and one file
+pub record Asks (args : List (Bor Text)) (request : Request) : Type 0 where
+  pub words : texts args ≡ command_word request.action ∷ option_words request.settings request.file
+  pub file : IsFile request.file
+
+-- the words ask for something
+pub record IsUsage (args : List (Bor Text)) : Type 0 where
+  pub request : Request
+  pub asks : Asks args request
+
+-- the words ask for a syntax that cannot be built
+pub record IsUnbuildable (args : List (Bor Text)) : Type 0 where
+  pub request : Request
+  pub asks : Asks args request
+  pub unbuildable : ¬ IsBuildable (syntax_with request.settings)
+
+-- the command does what is asked for
+pub record IsCommandFor (request : Request) (command : Command) : Type 0 where
+  pub action : command.action ≡ request.action
+  pub syntax : syntax_of command.options ≡ syntax_with request.settings
+  pub file : command.file.now ≡ request.file

@@ -12,7 +12,8 @@ pub enum Fault<'p> {
     Usage,
     /// The file of this path cannot be read, or is not UTF-8.
     CannotRead(&'p str),
-    /// The text is refused at a line, from 1, and a column, from 0. A refusal that has no place stands at 0:0.
+    /// The syntax or the text is refused, at a line, from 1, and a column, from 0. A refusal that has no place stands at
+    /// 0:0.
     Refused {
         kind: ErrorKind,
         line: u16,
@@ -23,18 +24,23 @@ pub enum Fault<'p> {
 }
 
 impl<'p> Fault<'p> {
-    fn out_of_memory() -> Self {
+    fn without_place(kind: ErrorKind) -> Self {
         Fault::Refused {
-            kind: ErrorKind::OutOfMemory,
+            kind,
             line: 0,
             column: 0,
         }
     }
 
+    /// The text has 2^32 bytes or more.
+    pub fn source_too_long() -> Self {
+        Fault::without_place(ErrorKind::SourceTooLong)
+    }
+
     /// Want of memory, or else the other fault.
     fn memory_or(error: &io::Error, other: Fault<'p>) -> Self {
         if error.kind() == io::ErrorKind::OutOfMemory {
-            Fault::out_of_memory()
+            Fault::without_place(ErrorKind::OutOfMemory)
         } else {
             other
         }
@@ -55,8 +61,10 @@ impl<'p> Fault<'p> {
         Fault::memory_or(error, Fault::CannotWrite)
     }
 
-    /// The compiler refuses the text.
-    pub fn of_refusal(error: &Error<'_>) -> Self {
+    /// The syntax or the text is refused.
+    pub fn of_refusal(error: &Error<'_>) -> Self
+        ensures { status_of result ≡ 1 }
+    {
         let (line, column) = match error.span() {
             Some(span) => (span.start_line, span.start_col),
             None => (0, 0),
@@ -68,7 +76,7 @@ impl<'p> Fault<'p> {
         }
     }
 
-    /// What the process ends with: 1 for a refused text and for want of memory, else 2.
+    /// What the process ends with: 1 for what is refused and for want of memory, else 2.
     pub fn status(&self) -> u8
         ensures { result ≡ status_of self.now }
     {

@@ -1,7 +1,8 @@
-//! The program `mjc`, which shows what a template compiles to.
+//! The program `mjc`, which shows the tokens of a template and what it compiles to.
 #![tactic(auto)]
 
 pub mod fault;
+mod options;
 mod print;
 pub mod run;
 mod source;

@@ -1,21 +1,23 @@
 //! One run of the program, on any readers and writers.
-ghost use Rattle.std.specs.Prelude.{◌≡◌, ◌≤◌, IfOk, IfSome, IsErr, IsErrOf, OnOk, string_bytes};
+ghost use Rattle.std.specs.Prelude.{◌≡◌, ◌≤◌, IfOk, IfSome, IsErr, IsErrAnd, IsErrOf, OnOk, string_bytes};
 ghost use Rattle.std.specs.Io.KnownBytes.{IsAtEnd};
-ghost use Rattle.mjc.specs.Usage.{IsUsage};
+ghost use Rattle.mjc.specs.Settings.{syntax_with};
+ghost use Rattle.mjc.specs.Usage.{IsUsage, IsUnbuildable, Request, Asks};
 ghost use Rattle.mjc.specs.Reading.{IsNoText};
 ghost use Rattle.mjc.specs.Fault.{status_of};
 
 use crate::fault::Fault;
-use crate::print::print_code;
-use crate::usage::file_named;
+use crate::print::{print_code, print_tokens};
+use crate::usage::{Action, Command, parse};
 use minijinja_compiler::compile::compile;
+use minijinja_compiler::lexer::Tokenizer;
 use minijinja_compiler::syntax::SyntaxConfig;
 use minijinja_compiler::value::Value;
 use std::alloc::Global;
 use std::io::{self, Read, Write};
 
-/// Runs a command and gives the status of the process: 0 when all went well, 1 when the text is refused or memory runs
-/// out, and 2 for bad usage and for what cannot be read or written. `args` are the words behind the program's name, `file`
+/// Runs a command and gives the status of the process: 0 when all went well, 1 when the syntax or the text is refused or
+/// memory runs out, and 2 for bad usage and for what cannot be read or written. `args` are the words behind the program's name, `file`
 /// is the file that they name, and no command reads `answers`. What went wrong is one line on `err`, and a failing write
 /// there changes nothing.
 pub fn run<R: Read, Q: Read, W: Write, X: Write>(
@@ -33,6 +35,11 @@ pub fn run<R: Read, Q: Read, W: Write, X: Write>(
     ensures unread { ¬ IsUsage args.now → file.new ≡ file.old }
     ensures unwritten { ¬ IsUsage args.now → out.new ≡ out.old }
     ensures answers { answers.new ≡ answers.old }
+
+    // A syntax that cannot be built is refused before the file is read.
+    ensures unbuilt { IsUnbuildable args.now → result ≡ 1 }
+    ensures unbuilt_unread { IsUnbuildable args.now → file.new ≡ file.old }
+    ensures unbuilt_unwritten { IsUnbuildable args.now → out.new ≡ out.old }
 
     // A file that is no text fails, and nothing is printed of it. What succeeds has read all of the file.
     ensures unreadable { IsNoText (R.remaining file.old) → 1 ≤ result }
@@ -63,13 +70,30 @@ fn run_command<'a, R: Read, W: Write>(
     ensures misused { ¬ IsUsage args.now → IsErrOf result Fault.Usage }
     ensures unread { ¬ IsUsage args.now → file.new ≡ file.old }
     ensures unwritten { ¬ IsUsage args.now → out.new ≡ out.old }
+    ensures unbuilt { IsUnbuildable args.now → IsErrAnd result (λ fault. status_of fault ≡ 1) }
+    ensures unbuilt_unread { IsUnbuildable args.now → file.new ≡ file.old }
+    ensures unbuilt_unwritten { IsUnbuildable args.now → out.new ≡ out.old }
     ensures unreadable { IsNoText (R.remaining file.old) → IsErr result }
     ensures unprinted { IsNoText (R.remaining file.old) → out.new ≡ out.old }
     ensures whole { OnOk result (IsAtEnd (R.remaining file.new)) }
 {
-    let path = file_named(args).ok_or(Fault::Usage)?;
-    let text = read_text(alloc, file).map_err(|error| Fault::of_read(&error, path))?;
-    print_template(alloc, path, &text, out)
+    let (command, syntax) = prepare(alloc, args)?;
+    show(alloc, &command, &syntax, file, out)
+}
+
+/// The command that the words are, and the syntax that it asks for.
+fn prepare<'a>(alloc: Global, args: &[&'a str]) -> Result<(Command<'a>, SyntaxConfig), Fault<'a>>
+    ensures misused { ¬ IsUsage args.now → IsErrOf result Fault.Usage }
+    ensures used { OnOk result (IsUsage args.now) }
+    ensures syntax { (request : Request) → Asks args.now request → IfOk result (λ r. r.1 ≡ syntax_with request.settings) }
+    ensures unbuilt { IsUnbuildable args.now → IsErrAnd result (λ fault. status_of fault ≡ 1) }
+{
+    let command = parse(args).ok_or(Fault::Usage)?;
+    let syntax = command
+        .options
+        .build(alloc)
+        .map_err(|error| Fault::of_refusal(&error))?;
+    Ok((command, syntax))
 }
 
 /// The whole of a reader, which has to be UTF-8.
@@ -83,15 +107,55 @@ fn read_text<R: Read>(alloc: Global, reader: &mut R) -> io::Result<String>
     Ok(text)
 }
 
-/// Compiles the text of a path and writes its code.
-fn print_template<'a, W: Write>(
+/// Reads the file of a command and writes what is asked of it.
+fn show<'a, R: Read, W: Write>(
+    alloc: Global,
+    command: &Command<'a>,
+    syntax: &SyntaxConfig,
+    file: &mut R,
+    out: &mut W,
+) -> Result<(), Fault<'a>>
+    ensures unreadable { IsNoText (R.remaining file.old) → IsErr result }
+    ensures unprinted { IsNoText (R.remaining file.old) → out.new ≡ out.old }
+    ensures whole { OnOk result (IsAtEnd (R.remaining file.new)) }
+{
+    let path = command.file;
+    let text = read_text(alloc, file).map_err(|error| Fault::of_read(&error, path))?;
+    match command.action {
+        Action::Tokens => show_tokens(alloc, path, &text, syntax, out),
+        Action::Code => show_code(alloc, path, &text, syntax, out),
+    }
+}
+
+/// Writes the tokens of the text of a path, also those before a refusal.
+fn show_tokens<'a, W: Write>(
     alloc: Global,
     path: &'a str,
     text: &str,
+    syntax: &SyntaxConfig,
     out: &mut W,
 ) -> Result<(), Fault<'a>> {
-    let code = compile::<Value>(alloc, text, path, &SyntaxConfig::default()).map_err(
-        |error| Fault::of_refusal(&error),
-    )?;
-    print_code(out, &code).map_err(|error| Fault::of_write(&error))
+    if text.len() > u32::MAX as usize {
+        return Err(Fault::source_too_long());
+    }
+    let mut tokens = Tokenizer::new(alloc, text, path, false, syntax);
+    let refusal = print_tokens(out, &mut tokens).map_err(|error| Fault::of_write(&error))?;
+    match refusal {
+        None => Ok(()),
+        Some(error) => Err(Fault::of_refusal(&error)),
+    }
+}
+
+/// Compiles the text of a path and writes its code.
+fn show_code<'a, W: Write>(
+    alloc: Global,
+    path: &'a str,
+    text: &str,
+    syntax: &SyntaxConfig,
+    out: &mut W,
+) -> Result<(), Fault<'a>> {
+    match compile::<Value>(alloc, text, path, syntax) {
+        Ok(code) => print_code(out, &code).map_err(|error| Fault::of_write(&error)),
+        Err(error) => Err(Fault::of_refusal(&error)),
+    }
 }

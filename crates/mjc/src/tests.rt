@@ -1,4 +1,7 @@
 //! Runs of the program in memory: what is printed and which status comes is proved by no clause.
+mod tokens;
+mod words;
+
 use crate::run::run;
 use std::alloc::Global;
 use std::io::{self, Read, Write};
@@ -92,6 +95,7 @@ fn prints_code(rt: HostRuntime) {
     let rows = [
         (GREETING, GREETING_CODE),
         ("", "template\nhint 1\n"),
+        ("{{-1}}", "template\n0 LoadConst(1)\n1 Emit\nhint 1\n"),
         ("x\n", "template\n0 EmitRaw(\"x\")\nhint 2\n"),
         (
             "{% set x = a.b %}{{ x }}{{ \"y\" }}{{ 7 }}",
@@ -117,35 +121,14 @@ fn names_the_refusal_and_its_place(rt: HostRuntime) {
     let rows = [
         ("{% set loop = a %}", "mjc: SyntaxError at 1:7\n"),
         ("{{ a", "mjc: SyntaxError at 1:3\n"),
+        ("{{ '\\q' }}", "mjc: BadEscape at 1:3\n"),
+        ("{{ 'a' '\\q' }}", "mjc: BadEscape at 1:7\n"),
+        ("{{ 'a", "mjc: SyntaxError at 1:5\n"),
+        ("{% raw %}x", "mjc: SyntaxError at 1:10\n"),
     ];
     for (source, line) in rows {
         let file = &mut source.as_bytes();
         assert_run(&rt, rt.alloc(), &CODE, file, 1, "", line);
-    }
-}
-
-#[test]
-fn refuses_bad_usage(rt: HostRuntime) {
-    let rows: [&[&str]; 8] = [
-        &[],
-        &["code"],
-        &["code", "--help"],
-        &["code", "--"],
-        &["code", "a", "b"],
-        &["tokens", "a"],
-        &["Code", "a"],
-        &["", "a"],
-    ];
-    for args in rows {
-        assert_run(
-            &rt,
-            rt.alloc(),
-            args,
-            &mut GREETING.as_bytes(),
-            2,
-            "",
-            USAGE,
-        );
     }
 }
 

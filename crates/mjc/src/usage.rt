@@ -1,14 +1,101 @@
 //! The words that `mjc` takes.
-ghost use Rattle.std.specs.Prelude.{◌≡◌, ◌↔◌, IsSome, IfSome, Some, slice_get};
-ghost use Rattle.mjc.specs.Usage.{IsUsage};
+ghost use Rattle.std.specs.Prelude.{◌≡◌, ◌≤◌, ◌↔◌, length, drop, List, [], ◌∷◌, IsSome, IfSome, IsSomeAnd, IsNone};
+ghost use Rattle.std.specs.List.{fold};
+ghost use Rattle.minijinja_base.specs.Values.{Text};
+ghost use Rattle.mjc.specs.Settings.{Setting, texts, syntax_of, with_setting};
+ghost use Rattle.mjc.specs.Usage.{IsUsage, Request, Asks, IsCommandFor, IsFile, option_words};
 
-/// The file that the words name, where they are `code` and one word that is no option.
-pub fn file_named<'a>(args: &[&'a str]) -> Option<&'a str>
-    ensures usage { IsSome result ↔ IsUsage args.now }
-    ensures file { IfSome result (λ path. slice_get args.now 1 ≡ Some path) }
+use crate::options::Options;
+
+/// What a command does with its file.
+#[derive(Clone, Copy, PartialEq, Eq)]
+pub enum Action {
+    /// Prints the tokens.
+    Tokens,
+    /// Compiles, and prints the code.
+    Code,
+}
+
+impl Action {
+    ghost use Rattle.std.specs.Prelude.{◌≡◌, IfSome, IsNone};
+    ghost use Rattle.mjc.specs.Usage.{command_word};
+    ghost use Rattle.mjc.specs.declared.usage.Action as declared;
+
+    fn of_word(word: &str) -> Option<Self>
+        ensures found { IfSome result (λ action. word.now ≡ command_word action) }
+        ensures none { IsNone result → (action : declared.Action) → ¬ (word.now ≡ command_word action) }
+    {
+        match word {
+            "tokens" => Some(Action::Tokens),
+            "code" => Some(Action::Code),
+            _ => None,
+        }
+    }
+}
+
+/// What the words ask for.
+#[derive(Drop)]
+pub struct Command<'a> {
+    /// What is done with the file.
+    pub action: Action,
+    /// The syntax that its text has.
+    pub options: Options<'a>,
+    /// The path of the file, where `-` is standard input.
+    pub file: &'a str,
+}
+
+fn words_from<'w, 'a>(words: &'w [&'a str], start: usize) -> &'w [&'a str]
+    requires { start ≤ length words.now }
+    ensures { result.now ≡ drop start words.now }
 {
-    match args {
-        [command, path] if *command == "code" && !path.starts_with("--") => Some(*path),
+    &words[start..]
+}
+
+/// Heeds the options that the words begin with, and gives the words behind them.
+fn read_options<'w, 'a>(options: &mut Options<'a>, words: &'w [&'a str]) -> &'w [&'a str]
+    ensures heeded { (settings : List Setting) → (file : Text) → IsFile file → texts words.now ≡ option_words settings file → (texts result.now ≡ file ∷ []) × (syntax_of options.new ≡ fold with_setting (syntax_of options.old) settings) }
+    ensures behind { (file : Text) → IsFile file → texts result.now ≡ file ∷ [] → (settings : List Setting) × (texts words.now ≡ option_words settings file) }
+{
+    let mut start = 0;
+    while let Some(count) = options.take(words_from(words, start)) {
+        start += count;
+    }
+    words_from(words, start)
+}
+
+/// The file, where it is the only word.
+fn lone_file<'a>(words: &[&'a str]) -> Option<&'a str>
+    ensures some { IfSome result (λ file. IsFile file.now × (texts words.now ≡ file.now ∷ [])) }
+    ensures none { IsNone result → (file : Text) → IsFile file → ¬ (texts words.now ≡ file ∷ []) }
+{
+    match words {
+        [file] if !file.starts_with("--") => Some(*file),
         _ => None,
     }
+}
+
+/// The command that the words are: its word, options, and one file. Options take their words as they are, and of a
+/// repeated one the last counts.
+pub fn parse<'a>(args: &[&'a str]) -> Option<Command<'a>>
+    ensures usage { IsSome result ↔ IsUsage args.now }
+    ensures asked { (request : Request) → Asks args.now request → IsSomeAnd result (IsCommandFor request) }
+{
+    let (word, rest) = args.split_first()?;
+    let action = Action::of_word(*word)?;
+    let mut options = Options::none();
+    let file = lone_file(read_options(&mut options, rest))?;
+    Some(Command {
+        action,
+        options,
+        file,
+    })
+}
+
+/// The file that the words name.
+pub fn file_named<'a>(args: &[&'a str]) -> Option<&'a str>
+    ensures usage { IsSome result ↔ IsUsage args.now }
+    ensures file { (request : Request) → Asks args.now request → IsSomeAnd result (λ path. path.now ≡ request.file) }
+{
+    let command = parse(args)?;
+    Some(command.file)
 }

@@ -1,0 +1,17 @@
+-- What is read from here on is what is read from the first word on.
+use Rattle.std.proofs.Common.{◌-◌, ◌≤◌, length, drop}
+use Rattle.minijinja_base.specs.Values.{Text}
+use Rattle.minijinja_base.specs.Syntax.{Syntax}
+use Rattle.mjc.specs.Settings.{texts, syntax_of}
+use Rattle.mjc.proofs.Requests.{Reads}
+use Rattle.mjc.proofs.usage.read_options.Given as goal
+
+abbrev pub invariant-loop-count : goal.invariant-loop-count
+invariant-loop-count l = record {
+  within : l.start ≤ length l.words;
+  onward : (t : Syntax) (file : Text) → Reads (syntax_of l.initial.options) (texts l.words) t file → Reads (syntax_of l.options) (texts (drop l.start l.words)) t file;
+  back : (t : Syntax) (file : Text) → Reads (syntax_of l.options) (texts (drop l.start l.words)) t file → Reads (syntax_of l.initial.options) (texts l.words) t file;
+}
+
+abbrev pub decreases-loop-count : goal.decreases-loop-count
+decreases-loop-count l = length l.words - l.start
