@@ -347,7 +347,7 @@ unfolding reading
 float = refl
 
 -- what begins no token is refused where it stands
-no_token : tokens_of_template default_syntax (codes "{{ a ? }}") ≡ record {
+no_token : tokens_of_template default_syntax (codes "{{ a $ }}") ≡ record {
   tokens = (variable_start, on_first_line 0 2) ∷ (ident (codes "a"), on_first_line 3 4) ∷ [];
   ending = refused SyntaxError (Some (on_first_line 5 6));
 }
