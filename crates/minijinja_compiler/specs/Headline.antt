@@ -5,8 +5,9 @@ use Rattle.minijinja_base.specs.Values.{Text, Functions}
 use Rattle.minijinja_base.specs.Syntax.{Syntax}
 use Rattle.minijinja_base.specs.Errors.{kind_of}
 use Rattle.minijinja_base.specs.declared.error.Error.{Error}
-use Rattle.minijinja_base.specs.declared.error.ErrorKind.TheVariants.{SyntaxError, BadEscape, OutOfMemory, SourceTooLong, TooManyInstructions}
+use Rattle.minijinja_base.specs.declared.error.ErrorKind.TheVariants.{OutOfMemory, SourceTooLong, TooManyInstructions}
 use Rattle.minijinja_tree.specs.Tree.{Stmt}
+use Rattle.minijinja_parser.specs.Causes.{IsRefusal}
 use Rattle.minijinja_parser.specs.Derived.{IsDerived}
 use Rattle.minijinja_code.specs.Code.{code_of}
 use Rattle.minijinja_code.specs.Layout.{stmt_code}
@@ -33,10 +34,6 @@ pub record HasTooLongCode {C F : Type 0} (f : Functions C F) (syntax : Syntax) (
   pub tree : Stmt C
   pub derived : IsDerived f syntax source tree
   pub long : 2 ^ 32 ≤ length (stmt_code tree 0)
-
--- the text is at fault
-abbrev pub IsRefusal : Error → Type 0
-IsRefusal e = (kind_of e ≡ SyntaxError) ⊎ (kind_of e ≡ BadEscape)
 
 -- a limit stands against a text that the grammar derives: memory, its length or that of its code
 abbrev pub IsLimit : Error → Type 0

@@ -4,8 +4,9 @@ ghost use Rattle.minijinja_base.specs.Errors.{kind_of, span_of};
 ghost use Rattle.minijinja_base.specs.declared.error.ErrorKind.TheVariants.{BadEscape, SourceTooLong, TooManyInstructions};
 ghost use Rattle.minijinja_lexer.specs.Stream as ending;
 ghost use Rattle.minijinja_lexer.specs.TextTokens.{tokens_of_template};
+ghost use Rattle.minijinja_parser.specs.Causes.{IsRefusal};
 ghost use Rattle.minijinja_parser.specs.Derived.{IsDerived};
-ghost use Rattle.minijinja_compiler.specs.Headline.{IsCompiled, HasTooLongCode, IsLimit, IsCause, IsRefusal};
+ghost use Rattle.minijinja_compiler.specs.Headline.{IsCompiled, HasTooLongCode, IsLimit, IsCause};
 
 use minijinja_base::error::Error;
 use minijinja_base::syntax::SyntaxConfig;
