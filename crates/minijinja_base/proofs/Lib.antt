@@ -5,3 +5,9 @@ mod Building
 pub mod Walking
 pub mod Finding
 mod Quotes
+mod Printing
+mod MapBuilding
+mod Emptiness
+pub mod Comparisons
+mod HasText
+mod Powers

@@ -1,7 +1,13 @@
 pub mod Values
+pub mod Integers
+pub mod IntegerParts
+pub mod Outcomes
 pub mod ValueContents
+pub mod ValueComparison
 pub mod Quotes
 pub mod ValueWords
+pub mod ValueFunctions
+pub mod ValueViews
 pub mod TokenWords
 pub mod SpanWords
 pub mod Tokens

@@ -1,36 +1,37 @@
 -- What a `Value` holds.
-use Rattle.std.specs.Prelude.{Bool, false, not, ◌==◌, ℤ, pos, length}
-use Rattle.std.specs.String.{string_bytes}
-use Rattle.minijinja_base.specs.Values.{Text, Functions}
-use Rattle.minijinja_base.specs.declared.value.Value.{Value}
-use Rattle.minijinja_base.specs.declared.value.Value.TheVariants as value
-use Rattle.minijinja_base.specs.declared.value.ValueFault.{ValueFault}
+use Rattle.std.specs.Prelude.{Bool, ℤ, List, [], ◌∷◌}
+use Rattle.minijinja_base.specs.Values.{Text}
 
--- nothing, a truth value, an integer or a text
-pub data Contents : Type 0 where
-  none : Contents
-  truth : Bool → Contents
-  integer : ℤ → Contents
-  text : Text → Contents
+mutual
+  pub data Contents : Type 0 where
+    undefined : Contents
+    -- what an if expression gives that has no else part and whose test fails
+    silent_undefined : Contents
+    none : Contents
+    truth : Bool → Contents
+    -- from -2^127 to 2^128 - 1
+    integer : ℤ → Contents
+    text : Text → Contents
+    list : Items → Contents
+    tuple : Items → Contents
+    -- a map, and the keyword arguments of a call
+    mapping : Pairs → Contents
+    keywords : Pairs → Contents
 
--- what a value holds, a text as its bytes
-abbrev pub contents_of : Value → Contents
-contents_of value.None = none
-contents_of (value.Bool b) = truth b
-contents_of (value.Int n) = integer (pos n)
-contents_of (value.String s) = text (string_bytes s)
+  pub data Items : Type 0 where
+    no_items : Items
+    item : Contents → Items → Items
 
--- false are none, false, 0 and the empty text
-abbrev pub is_true : Contents → Bool
-is_true none = false
-is_true (truth b) = b
-is_true (integer n) = is_nonzero n
-  where
-    is_nonzero : ℤ → Bool
-    is_nonzero (pos k) = not (k == 0)
-    is_nonzero _ = not false
-is_true (text t) = not (length t == 0)
+  -- keys, each with its value
+  pub data Pairs : Type 0 where
+    no_pairs : Pairs
+    pair : Contents → Contents → Pairs → Pairs
 
--- what the functions of `Value` do with contents
-abbrev pub value_functions : Functions Contents ValueFault
-value_functions = record { none = none; of_bool = truth; of_u64 = λ n. integer (pos n); of_str = text; is_true = is_true }
+-- items from a list of them, and pairs
+abbrev pub items_of : List Contents → Items
+items_of [] = no_items
+items_of (x ∷ xs) = item x (items_of xs)
+
+abbrev pub pairs_of : List (Contents × Contents) → Pairs
+pairs_of [] = no_pairs
+pairs_of (p ∷ ps) = pair p.0 p.1 (pairs_of ps)

@@ -1,30 +1,8 @@
 use crate::error::{Detail, Error, ErrorKind};
 use crate::syntax::{StartMarker, StartMarkerMatcher, SyntaxConfig, SyntaxConfigBuilder};
 use crate::tokens::{Span, Token};
-use crate::value::{TemplateValue, Value};
 use std::alloc::AllocError;
 use std::test::Fail;
-
-#[test]
-fn values_print_as_literals(rt: HostRuntime) -> Result<(), Fail> {
-    let text = Value::of_str(rt.alloc(), "a\"b\\c\n")?;
-    let copy = text.try_clone()?;
-    let rows = [
-        (Value::none(), "none", false),
-        (Value::of_bool(true), "true", true),
-        (Value::of_bool(false), "false", false),
-        (Value::of_u64(0), "0", false),
-        (Value::of_u64(7), "7", true),
-        (text, "\"a\\\"b\\\\c\\n\"", true),
-        (copy, "\"a\\\"b\\\\c\\n\"", true),
-    ];
-    for (value, words, is_true) in &rows {
-        let shown = value.to_string(rt.alloc())?;
-        assert_eq!(rt; shown.as_str(), *words);
-        assert_eq!(rt; value.is_true(), *is_true);
-    }
-    Ok(())
-}
 
 #[test]
 fn errors_print_their_place(rt: HostRuntime) -> Result<(), Fail> {

@@ -1,5 +1,5 @@
 ghost use Rattle.std.specs.Prelude.{IfOk};
-ghost use Rattle.minijinja_base.specs.ValueContents.{contents_of};
+ghost use Rattle.minijinja_base.specs.ValueViews.{contents_of};
 ghost use Rattle.minijinja_tree.specs.Erasure.{expr_tree};
 ghost use Rattle.minijinja_tree.specs.WellFormed.{IsTarget};
 

@@ -4,7 +4,7 @@ use Rattle.std.specs.List.{flat_map}
 use Rattle.std.specs.Str.{IsCharBoundary}
 use Rattle.minijinja_base.specs.Quotes.{escaped, quote_mark}
 use Rattle.minijinja_base.proofs.Quotes.{ArePlain}
-use Rattle.minijinja_base.proofs.value.QuotedDisplay.fmt.Given as goal
+use Rattle.minijinja_base.proofs.value.print.QuotedDisplay.fmt.Given as goal
 
 abbrev pub invariant-loop-at : goal.invariant-loop-at
 invariant-loop-at g l = record {

@@ -6,8 +6,8 @@ use Rattle.std.specs.Str.{IsUtf8}
 use Rattle.minijinja_base.specs.Quotes.{escaped, quoted, quote_mark}
 use Rattle.minijinja_base.specs.Positions.{slice}
 use Rattle.minijinja_base.proofs.Quotes.{ArePlain, none_plain, plain_more, written_more, written_whole}
-use Rattle.minijinja_base.proofs.value.QuotedDisplay.fmt.Goals as goal
-use Rattle.minijinja_base.proofs.value.QuotedDisplay.fmt.Goals.{in-Some+in_ok-write_str-2+in_ok-write_str-3, in_default}
+use Rattle.minijinja_base.proofs.value.print.QuotedDisplay.fmt.Goals as goal
+use Rattle.minijinja_base.proofs.value.print.QuotedDisplay.fmt.Goals.{in-Some+in_ok-write_str-2+in_ok-write_str-3, in_default}
 
 pub loop-at-init : goal.loop-at-init
 loop-at-init g c = record {
