@@ -1,65 +1,373 @@
--- The definitions, computed on `Hello {{ name }}!` and on `{% set x = a.b %}`, over numbers as contents.
+-- The definitions, computed on small templates.
 use Rattle.std.proofs.Common.{◌≡◌, ℕ, List, [], ◌∷◌, refl}
-use Rattle.std.specs.Prelude.{None, codes}
-use Rattle.minijinja_tree.specs.Tree.{Stmt, template, data_text, output, assignment, variable, attribute, done, also}
-use Rattle.minijinja_code.specs.Events.{EmitRaw, Lookup, GetAttr, StoreLocal, Emit, Answer, Fault, Values, Starved, Unfit, AnswerFault, event, next, fitted, answered, ask}
-use Rattle.minijinja_code.specs.Meaning.{stmt, if_on}
-use Rattle.minijinja_code.specs.Code.{Instr, Do}
-use Rattle.minijinja_code.specs.Layout.{stmt_code}
-use Rattle.minijinja_code.specs.Machine.{State, At, Halted, run, step, popped, did, asked}
-use Rattle.minijinja_code.specs.Correct.{fresh, over}
+use Rattle.std.specs.Prelude.{replicate, Some, None, codes, true, false}
+use Rattle.minijinja_base.specs.Values.{Text}
+use Rattle.minijinja_tree.specs.BinOps.{sc_and, div, floor_div, pow, is_in}
+use Rattle.minijinja_tree.specs.CompareOps.{lt, gt}
+use Rattle.minijinja_tree.specs.Tree.{Expr, variable, constant, slice, unary, binary, compare, if_expr, filter, test, attribute, item, call, list, map, negation, logical_not, absent, present, no_more, more, compared, against, no_args, pos, pos_splat, kwarg, kwarg_splat, Stmt, output}
+use Rattle.minijinja_tree.specs.Operators.{Lt, IntDiv, compute}
+use Rattle.minijinja_tree.specs.Comparisons.{compares}
+use Rattle.minijinja_tree.specs.Folding.{fold, if_some, fold_on, fold_keywords}
+use Rattle.minijinja_code.specs.Events.{PerformTest, Lookup, GetItem, Slice, Div, ApplyFilter, CallFunction, CallMethod, CallObject, MergeKwargs, UnpackLists, BeginCapture, EndCapture, CallBlock, FastSuper, FastRecurse, Emit, Capture, Answer, Values, OperatorFault, event, next, choose, operated, fitted, answered, ask}
+use Rattle.minijinja_code.specs.Meaning.{keyword_map, spread, if_on, stmt}
+use Rattle.minijinja_code.specs.Machine.{State, At, Halted, after, run, step, asked, did, built, popped, popped_by, popped_counted, popped_pairs}
+use Rattle.minijinja_code.specs.Code.{Instr, Load, Do, Call, Apply, Operate, CompareAndPreserve, BuildMap, BuildKwargs, BuildList, DiscardTop, Swap, Jump, JumpIfFalse, JumpIfFalseOrPop}
+use Rattle.minijinja_code.specs.Pieces.{start, id_of, noted}
+use Rattle.minijinja_code.specs.Layout.{folded, merged, map_count, spreading, counted, expr_code, stmt_code}
+use Rattle.minijinja_code.proofs.Samples.{Value, WrongOperand, Wrong, Truth, Words, ListOf, KeywordsOf, Nothing, Silent, end, and, end_of_map, entry, sample, number}
 
-abbrev greeting : Stmt ℕ
-greeting = template (also (data_text (codes "Hello ")) (also (output (variable (codes "name"))) (also (data_text (codes "!")) done)))
+-- a variable
+abbrev name : Text → Expr Value
+name x = variable x
 
-abbrev greeting_code : List (Instr ℕ)
-greeting_code = Do EmitRaw (codes "Hello ") 0 ∷ Do Lookup (codes "name") 0 ∷ Do Emit [] 1 ∷ Do EmitRaw (codes "!") 0 ∷ []
+-- variables of one letter
+abbrev a : Expr Value
+a = variable (codes "a")
 
-greeting_layout : stmt_code greeting 0 ≡ greeting_code
-greeting_layout = refl
+-- likewise
+abbrev b : Expr Value
+b = variable (codes "b")
 
--- each event with the answer that it got, the latest first
-abbrev greeted : List (Answer ℕ) → State ℕ ℕ
-greeted rest = At 4 (9 ∷ []) [] (record {
+-- likewise
+abbrev c : Expr Value
+c = variable (codes "c")
+
+-- likewise
+abbrev x : Expr Value
+x = variable (codes "x")
+
+-- likewise
+abbrev y : Expr Value
+y = variable (codes "y")
+
+-- a number that is written
+abbrev n : ℕ → Expr Value
+n k = constant (number k)
+
+-- the look-up of a variable
+abbrev look : Text → Instr Value
+look t = Do Lookup t 0
+
+-- the code of an expression at the start of a list
+unfoldable code : Expr Value → List (Instr Value)
+unfolding folded merged map_count spreading counted fold if_some fold_on fold_keywords compute compares
+code e = expr_code sample e start
+
+-- a and b
+and_code : code (binary sc_and a b) ≡ look (codes "a") ∷ JumpIfFalseOrPop 3 ∷ look (codes "b") ∷ []
+unfolding code
+and_code = refl
+
+-- a < b < c
+chain_code : code (compare a (against lt b (against lt c compared))) ≡ look (codes "a") ∷ look (codes "b") ∷ CompareAndPreserve lt ∷ JumpIfFalseOrPop 7 ∷ look (codes "c") ∷ Operate Lt ∷ Jump 9 ∷ Swap ∷ DiscardTop ∷ []
+unfolding code
+chain_code = refl
+
+-- 1 > 2 > x
+false_chain_code : code (compare (n 1) (against gt (n 2) (against gt x compared))) ≡ Load (Truth false) ∷ []
+unfolding code
+false_chain_code = refl
+
+-- -2**2
+power_code : code (binary pow (unary negation (n 2)) (n 2)) ≡ Load (number 4) ∷ []
+unfolding code
+power_code = refl
+
+-- 2**3**2
+powers_code : code (binary pow (binary pow (n 2) (n 3)) (n 2)) ≡ Load (number 64) ∷ []
+unfolding code
+powers_code = refl
+
+-- [1, 2]
+list_code : code (list (more (n 1) (more (n 2) no_more))) ≡ Load (ListOf (and (number 1) (and (number 2) end))) ∷ []
+unfolding code
+list_code = refl
+
+-- [[1]]
+nested_list_code : code (list (more (list (more (n 1) no_more)) no_more)) ≡ Load (ListOf (and (number 1) end)) ∷ BuildList (Some 1) ∷ []
+unfolding code
+nested_list_code = refl
+
+-- {1: a}
+map_code : code (map (more (n 1) no_more) (more a no_more)) ≡ Load (number 1) ∷ look (codes "a") ∷ BuildMap 1 ∷ []
+unfolding code
+map_code = refl
+
+-- 1 / 2
+quotient_code : code (binary div (n 1) (n 2)) ≡ Load (number 1) ∷ Load (number 2) ∷ Do Div [] 2 ∷ []
+unfolding code
+quotient_code = refl
+
+-- f(b=x, *y)
+arguments_code : code (call (name (codes "f")) (kwarg (codes "b") x (pos_splat y no_args))) ≡ look (codes "y") ∷ Load (Words (codes "b")) ∷ look (codes "x") ∷ BuildKwargs 1 ∷ BuildList (Some 1) ∷ Do UnpackLists [] 2 ∷ Call CallFunction (codes "f") None ∷ []
+unfolding code
+arguments_code = refl
+
+-- x|f
+filter_code : code (filter (present x) (codes "f") no_args) ≡ look (codes "x") ∷ Apply ApplyFilter (codes "f") (Some 1) 0 ∷ []
+unfolding code
+filter_code = refl
+
+-- x|f|g|f
+filters_code : code (filter (present (filter (present (filter (present x) (codes "f") no_args)) (codes "g") no_args)) (codes "f") no_args) ≡ look (codes "x") ∷ Apply ApplyFilter (codes "f") (Some 1) 0 ∷ Apply ApplyFilter (codes "g") (Some 1) 1 ∷ Apply ApplyFilter (codes "f") (Some 1) 0 ∷ []
+unfolding code
+filters_code = refl
+
+-- foo.1.0
+items_code : code (item (item (name (codes "foo")) (n 1)) (n 0)) ≡ look (codes "foo") ∷ Load (number 1) ∷ Do GetItem [] 2 ∷ Load (number 0) ∷ Do GetItem [] 2 ∷ []
+unfolding code
+items_code = refl
+
+-- a if b else c
+if_code : code (if_expr b a (present c)) ≡ look (codes "b") ∷ JumpIfFalse 4 ∷ look (codes "a") ∷ Jump 5 ∷ look (codes "c") ∷ []
+unfolding code
+if_code = refl
+
+-- a if b
+if_without_else_code : code (if_expr b a absent) ≡ look (codes "b") ∷ JumpIfFalse 4 ∷ look (codes "a") ∷ Jump 5 ∷ Load Silent ∷ []
+unfolding code
+if_without_else_code = refl
+
+-- x[1:]
+slice_code : code (slice x (present (n 1)) absent absent) ≡ look (codes "x") ∷ Load (number 1) ∷ Load Nothing ∷ Load Nothing ∷ Do Slice [] 4 ∷ []
+unfolding code
+slice_code = refl
+
+-- f(*a, **b)
+stars_code : code (call (name (codes "f")) (pos_splat a (kwarg_splat b no_args))) ≡ look (codes "a") ∷ look (codes "b") ∷ Do MergeKwargs [] 1 ∷ BuildList (Some 1) ∷ Do UnpackLists [] 2 ∷ Call CallFunction (codes "f") None ∷ []
+unfolding code
+stars_code = refl
+
+-- f(a=1, b="x")
+keywords_code : code (call (name (codes "f")) (kwarg (codes "a") (n 1) (kwarg (codes "b") (constant (Words (codes "x"))) no_args))) ≡ Load (KeywordsOf (entry (Words (codes "a")) (number 1) (entry (Words (codes "b")) (Words (codes "x")) end_of_map))) ∷ Call CallFunction (codes "f") (Some 1) ∷ []
+unfolding code
+keywords_code = refl
+
+-- self.b(x)
+block_code : code (call (attribute (name (codes "self")) (codes "b")) (pos x no_args)) ≡ Do (BeginCapture Capture) [] 0 ∷ Do CallBlock (codes "b") 0 ∷ Do EndCapture [] 0 ∷ []
+unfolding code
+block_code = refl
+
+-- x.m(a)
+method_code : code (call (attribute x (codes "m")) (pos a no_args)) ≡ look (codes "x") ∷ look (codes "a") ∷ Call CallMethod (codes "m") (Some 2) ∷ []
+unfolding code
+method_code = refl
+
+-- x[a](b)
+object_code : code (call (item x a) (pos b no_args)) ≡ look (codes "x") ∷ look (codes "a") ∷ Do GetItem [] 2 ∷ look (codes "b") ∷ Call CallObject [] (Some 2) ∷ []
+unfolding code
+object_code = refl
+
+-- 1 not in [2]
+not_in_code : code (unary logical_not (binary is_in (n 1) (list (more (n 2) no_more)))) ≡ Load (Truth true) ∷ []
+unfolding code
+not_in_code = refl
+
+-- false and 1 // 0
+fault_code : code (binary sc_and (constant (Truth false)) (binary floor_div (n 1) (n 0))) ≡ Load (Truth false) ∷ JumpIfFalseOrPop 5 ∷ Load (number 1) ∷ Load (number 0) ∷ Operate IntDiv ∷ []
+unfolding code
+fault_code = refl
+
+-- (x|f) is f: filters and tests are numbered apart
+test_code : code (test (filter (present x) (codes "f") no_args) (codes "f") no_args) ≡ look (codes "x") ∷ Apply ApplyFilter (codes "f") (Some 1) 0 ∷ Apply PerformTest (codes "f") (Some 1) 0 ∷ []
+unfolding code
+test_code = refl
+
+-- the last name that gets an id of its own, the first that gets none, and one that has one already
+last_id : id_of (codes "z") (replicate 49 (codes "y")) ≡ 49
+last_id = refl
+
+no_id : id_of (codes "z") (replicate 50 (codes "y")) ≡ 255
+no_id = refl
+
+first_id : id_of (codes "y") (noted (codes "z") (replicate 50 (codes "y"))) ≡ 0
+first_id = refl
+
+-- the code of a statement at the start of a list
+unfoldable statement : Stmt Value → List (Instr Value)
+unfolding folded merged map_count spreading counted fold if_some fold_on fold_keywords compute compares
+statement s = stmt_code sample s start
+
+-- {{ loop(x) }}
+recursion_code : statement (output (call (name (codes "loop")) (pos x no_args))) ≡ look (codes "x") ∷ Do FastRecurse [] 1 ∷ []
+unfolding statement
+recursion_code = refl
+
+-- {{ loop(*x) }}
+loop_code : statement (output (call (name (codes "loop")) (pos_splat x no_args))) ≡ look (codes "x") ∷ Do UnpackLists [] 1 ∷ Call CallFunction (codes "loop") None ∷ Do Emit [] 1 ∷ []
+unfolding statement
+loop_code = refl
+
+-- {{ super() }}
+super_code : statement (output (call (name (codes "super")) no_args)) ≡ Do FastSuper [] 0 ∷ []
+unfolding statement
+super_code = refl
+
+-- {{ self.b() }}
+block_output_code : statement (output (call (attribute (name (codes "self")) (codes "b")) no_args)) ≡ Do CallBlock (codes "b") 0 ∷ []
+unfolding statement
+block_output_code = refl
+
+-- a run over code, up to its end, with nothing below
+unfoldable ran : List (Instr Value) → ℕ → ℕ → List (Answer Value) → State Value WrongOperand
+unfolding run step asked did built popped popped_by popped_counted popped_pairs ask answered fitted operated compute compares
+ran is finish steps answers = run sample is finish steps (At 0 [] [] (record { record_so_far = []; answers = answers }))
+
+-- the state in which the meaning of a statement leaves a machine
+unfoldable meant : Stmt Value → ℕ → List (Answer Value) → State Value WrongOperand
+unfolding next choose ask answered fitted operated if_on compute compares spread keyword_map
+meant s finish answers = after (λ g w. At finish [] [] w) (stmt sample s (record { record_so_far = []; answers = answers }))
+
+-- {{ f(*a) }}
+abbrev spread_call : Stmt Value
+spread_call = output (call (name (codes "f")) (pos_splat a no_args))
+
+-- its code
+abbrev spread_code : List (Instr Value)
+spread_code = look (codes "a") ∷ Do UnpackLists [] 1 ∷ Call CallFunction (codes "f") None ∷ Do Emit [] 1 ∷ []
+
+-- its answers
+abbrev spread_answers : List (Answer Value)
+spread_answers = Values (Words (codes "l") ∷ []) ∷ Values (number 1 ∷ number 2 ∷ []) ∷ Values (Words (codes "r") ∷ []) ∷ Values [] ∷ []
+
+-- what the run of {{ f(*a) }} comes to
+abbrev spread_ends : State Value WrongOperand
+spread_ends = At 4 [] [] (record {
   record_so_far =
-      (event None EmitRaw (codes "!") [], Values [])
-      ∷ (event None Emit [] (7 ∷ []), Values [])
-      ∷ (event None Lookup (codes "name") [], Values (7 ∷ []))
-      ∷ (event None EmitRaw (codes "Hello ") [], Values [])
+      (event None Emit [] (Words (codes "r") ∷ []), Values [])
+      ∷ (event None CallFunction (codes "f") (number 1 ∷ number 2 ∷ []), Values (Words (codes "r") ∷ []))
+      ∷ (event None UnpackLists [] (Words (codes "l") ∷ []), Values (number 1 ∷ number 2 ∷ []))
+      ∷ (event None Lookup (codes "a") [], Values (Words (codes "l") ∷ []))
       ∷ [];
-  answers = rest;
+  answers = [];
 })
 
-abbrev answers : List (Answer ℕ)
-answers = Values [] ∷ Values (7 ∷ []) ∷ Values [] ∷ Values [] ∷ Fault ∷ []
+spread_layout : statement spread_call ≡ spread_code
+unfolding statement
+spread_layout = refl
 
--- four steps, over an operand below; the fifth answer is left
-greeting_runs : run {F = ℕ} greeting_code 4 4 (At 0 (9 ∷ []) [] (fresh answers)) ≡ greeted (Fault ∷ [])
-unfolding run step asked did popped ask answered fitted
-greeting_runs = refl
+spread_runs : ran spread_code 4 4 spread_answers ≡ spread_ends
+unfolding ran
+spread_runs = refl
 
-greeting_means : over {F = ℕ} 4 (9 ∷ []) [] (stmt greeting (fresh answers)) ≡ greeted (Fault ∷ [])
-unfolding next ask answered fitted if_on
-greeting_means = refl
+spread_means : meant spread_call 4 spread_answers ≡ spread_ends
+unfolding meant
+spread_means = refl
 
--- with no answer left, with one of another size, with a fault
-greeting_starves : run {F = ℕ} greeting_code 4 2 (At 0 [] [] (fresh (Values [] ∷ []))) ≡ Halted (record { record_so_far = (event None EmitRaw (codes "Hello ") [], Values []) ∷ []; answers = [] }) Starved
-unfolding run step asked did popped ask answered fitted
-greeting_starves = refl
+-- {{ 1 // 0 }}
+fault_runs : ran (Load (number 1) ∷ Load (number 0) ∷ Operate IntDiv ∷ Do Emit [] 1 ∷ []) 4 3 [] ≡ Halted (record { record_so_far = []; answers = [] }) (OperatorFault Wrong)
+unfolding ran
+fault_runs = refl
 
-greeting_unfit : run {F = ℕ} greeting_code 4 1 (At 0 [] [] (fresh (Values (7 ∷ []) ∷ []))) ≡ Halted (record { record_so_far = []; answers = [] }) Unfit
-unfolding run step asked did popped ask answered fitted
-greeting_unfit = refl
+fault_means : meant (output (binary floor_div (n 1) (n 0))) 4 [] ≡ Halted (record { record_so_far = []; answers = [] }) (OperatorFault Wrong)
+unfolding meant
+fault_means = refl
 
-greeting_faults : run {F = ℕ} greeting_code 4 1 (At 0 [] [] (fresh (Fault ∷ []))) ≡ Halted (record { record_so_far = (event None EmitRaw (codes "Hello ") [], Fault) ∷ []; answers = [] }) AnswerFault
-unfolding run step asked did popped ask answered fitted
-greeting_faults = refl
+-- {{ 2 < a < c }} where the first comparison is false: the kept operand is dropped, and c is not looked up
+abbrev chain : Stmt Value
+chain = output (compare (n 2) (against lt a (against lt c compared)))
 
-abbrev assigned : Stmt ℕ
-assigned = assignment (variable (codes "x")) (attribute (variable (codes "a")) (codes "b"))
+-- its answers
+abbrev chain_answers : List (Answer Value)
+chain_answers = Values (number 1 ∷ []) ∷ Values [] ∷ []
 
-abbrev assigned_code : List (Instr ℕ)
-assigned_code = Do Lookup (codes "a") 0 ∷ Do GetAttr (codes "b") 1 ∷ Do StoreLocal (codes "x") 1 ∷ []
+-- what it comes to
+abbrev chain_ends : State Value WrongOperand
+chain_ends = At 10 [] [] (record {
+  record_so_far = (event None Emit [] (Truth false ∷ []), Values []) ∷ (event None Lookup (codes "a") [], Values (number 1 ∷ [])) ∷ [];
+  answers = [];
+})
 
-assigned_layout : stmt_code assigned 0 ≡ assigned_code
-assigned_layout = refl
+chain_runs : ran (Load (number 2) ∷ look (codes "a") ∷ CompareAndPreserve lt ∷ JumpIfFalseOrPop 7 ∷ look (codes "c") ∷ Operate Lt ∷ Jump 9 ∷ Swap ∷ DiscardTop ∷ Do Emit [] 1 ∷ []) 10 7 chain_answers ≡ chain_ends
+unfolding ran
+chain_runs = refl
+
+chain_means : meant chain 10 chain_answers ≡ chain_ends
+unfolding meant
+chain_means = refl
+
+-- {{ a and b }} where a is false: b is not looked up
+abbrev both : Stmt Value
+both = output (binary sc_and a b)
+
+-- its answers
+abbrev both_answers : List (Answer Value)
+both_answers = Values (number 0 ∷ []) ∷ Values [] ∷ []
+
+-- what it comes to
+abbrev both_ends : State Value WrongOperand
+both_ends = At 4 [] [] (record {
+  record_so_far = (event None Emit [] (number 0 ∷ []), Values []) ∷ (event None Lookup (codes "a") [], Values (number 0 ∷ [])) ∷ [];
+  answers = [];
+})
+
+both_runs : ran (statement both) 4 3 both_answers ≡ both_ends
+unfolding ran statement
+both_runs = refl
+
+both_means : meant both 4 both_answers ≡ both_ends
+unfolding meant
+both_means = refl
+
+-- {{ f(b=x, *y) }}: y is taken before x, and one spread event gets y and the map of the keyword
+abbrev mixed : Stmt Value
+mixed = output (call (name (codes "f")) (kwarg (codes "b") x (pos_splat y no_args)))
+
+-- the map of its keyword
+abbrev mixed_map : Value
+mixed_map = KeywordsOf (entry (Words (codes "b")) (number 2) end_of_map)
+
+-- its answers
+abbrev mixed_answers : List (Answer Value)
+mixed_answers = Values (number 1 ∷ []) ∷ Values (number 2 ∷ []) ∷ Values (number 3 ∷ number 4 ∷ []) ∷ Values (number 5 ∷ []) ∷ Values [] ∷ []
+
+-- what it comes to
+abbrev mixed_ends : State Value WrongOperand
+mixed_ends = At 8 [] [] (record {
+  record_so_far =
+      (event None Emit [] (number 5 ∷ []), Values [])
+      ∷ (event None CallFunction (codes "f") (number 3 ∷ number 4 ∷ []), Values (number 5 ∷ []))
+      ∷ (event None UnpackLists [] (number 1 ∷ ListOf (and mixed_map end) ∷ []), Values (number 3 ∷ number 4 ∷ []))
+      ∷ (event None Lookup (codes "x") [], Values (number 2 ∷ []))
+      ∷ (event None Lookup (codes "y") [], Values (number 1 ∷ []))
+      ∷ [];
+  answers = [];
+})
+
+mixed_runs : ran (statement mixed) 8 8 mixed_answers ≡ mixed_ends
+unfolding ran statement
+mixed_runs = refl
+
+mixed_means : meant mixed 8 mixed_answers ≡ mixed_ends
+unfolding meant
+mixed_means = refl
+
+-- {{ f(a, k=x, **c) }}: the value of `**` is merged by itself
+abbrev merging : Stmt Value
+merging = output (call (name (codes "f")) (pos a (kwarg (codes "k") x (kwarg_splat c no_args))))
+
+-- its answers
+abbrev merging_answers : List (Answer Value)
+merging_answers = Values (number 1 ∷ []) ∷ Values (number 2 ∷ []) ∷ Values (number 3 ∷ []) ∷ Values (number 4 ∷ []) ∷ Values (number 5 ∷ []) ∷ Values [] ∷ []
+
+-- what it comes to
+abbrev merging_ends : State Value WrongOperand
+merging_ends = At 8 [] [] (record {
+  record_so_far =
+      (event None Emit [] (number 5 ∷ []), Values [])
+      ∷ (event None CallFunction (codes "f") (number 1 ∷ number 4 ∷ []), Values (number 5 ∷ []))
+      ∷ (event None MergeKwargs [] (KeywordsOf (entry (Words (codes "k")) (number 2) end_of_map) ∷ number 3 ∷ []), Values (number 4 ∷ []))
+      ∷ (event None Lookup (codes "c") [], Values (number 3 ∷ []))
+      ∷ (event None Lookup (codes "x") [], Values (number 2 ∷ []))
+      ∷ (event None Lookup (codes "a") [], Values (number 1 ∷ []))
+      ∷ [];
+  answers = [];
+})
+
+merging_runs : ran (statement merging) 8 8 merging_answers ≡ merging_ends
+unfolding ran statement
+merging_runs = refl
+
+merging_means : meant merging 8 merging_answers ≡ merging_ends
+unfolding meant
+merging_means = refl

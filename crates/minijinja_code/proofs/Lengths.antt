@@ -1,38 +1,204 @@
--- The index behind a tree is where its code ends.
-use Rattle.std.proofs.Common.{◌≡◌, ℕ, ◌+◌, ◌≤◌, length, arith, length-append}
-use Rattle.minijinja_tree.specs.Tree.{Expr, variable, constant, attribute, Stmt, template, data_text, output, assignment, Stmts, done, also}
-use Rattle.minijinja_code.specs.Code.{Instr}
-use Rattle.minijinja_code.specs.Layout.{past_expr, expr_code, past_target, target_code, past_stmt, past_stmts, stmt_code, stmts_code}
+-- The place behind a piece is where its instructions end.
+use Rattle.std.proofs.Common.{◌≡◌, ℕ, zero, suc, ◌+◌, ◌≤◌, List, [], ◌∷◌, ◌++◌, length, Option, Some, None, arith, length-append}
+use Rattle.std.specs.Prelude.{Bool, true, false, if◌then◌else◌}
+use Rattle.minijinja_base.specs.Values.{Text, Functions}
+use Rattle.minijinja_tree.specs.CompareOps.{CompareOp, eq, ne, lt, lte, gt, gte, is_in, not_in}
+use Rattle.minijinja_tree.specs.Operators.{Working, Makes, Divides, IfTrue, IfFalse, working}
+use Rattle.minijinja_tree.specs.Tree.{Expr, variable, constant, slice, unary, binary, compare, if_expr, filter, test, attribute, item, call, list, tuple, map, Optional, absent, present, Exprs, no_more, more, Comparisons, compared, against, Args, no_args, pos, pos_splat, kwarg, kwarg_splat, Stmt, template, data_text, output, assignment, Stmts, done, also}
+use Rattle.minijinja_code.specs.Calls.{is_self, Written, Super, Recursion, BlockOf, Plain, written}
+use Rattle.minijinja_tree.specs.Folding.{fold, constant_keywords, fold_keywords}
+use Rattle.minijinja_code.specs.Code.{Instr, JumpIfFalseOrPop, JumpIfTrueOrPop, BuildList, BuildKwargs, Jump, Swap, DiscardTop}
+use Rattle.minijinja_code.specs.Pieces.{Here, behind, Piece, nothing, one, ◌▸◌, skipping, branches}
+use Rattle.minijinja_code.specs.Layout.{folded, operation, comparison, Failing, last, and_then, chained, paired, batch, merged, spreading, arguments, Count, count_keyword, apply_filter, perform_test, expr, optional, operand, items, each, chain, comparisons, positional, keyword, target, write, stmt, stmts}
 
-pub expr_length : {C : Type 0} (e : Expr C) (p : ℕ) → p + length (expr_code e p) ≡ past_expr e p
-expr_length (variable x) p = omega arith
-expr_length (constant c) p = omega arith
-expr_length {C} (attribute e x) p = omega (arith, length-append {A = Instr C}, expr_length e p)
+-- what stands behind a piece begins where its instructions end
+pub record Exact {C : Type 0} (p : Piece C) : Type 0 where
+  pub ends : (h : Here) → h.place + length (p.code h) ≡ (p.past h).place
 
-target_length : {C : Type 0} (e : Expr C) (p : ℕ) → p + length (target_code e p) ≡ past_target e p
-target_length (variable x) p = omega arith
-target_length (constant c) p = omega arith
-target_length (attribute e x) p = omega arith
+-- the same of comparisons that lead to a place where they fail
+pub record FailingExact {C : Type 0} (p : Failing C) : Type 0 where
+  pub ends : (failed : ℕ) (h : Here) → h.place + length (p.code failed h) ≡ (p.past h).place
 
-mutual
-  pub stmt_length : {C : Type 0} (s : Stmt C) (p : ℕ) → p + length (stmt_code s p) ≡ past_stmt s p
-  stmt_length (template ss) p = stmts_length ss p
-  stmt_length (data_text t) p = omega arith
-  stmt_length {C} (output e) p = omega (arith, length-append {A = Instr C}, expr_length e p)
-  stmt_length {C} (assignment target e) p = omega (arith, length-append {A = Instr C}, expr_length e p, target_length target (past_expr e p))
+module _ {C : Type 0} where
+  -- nothing goes back
+  pub grows : {p : Piece C} → Exact p → (h : Here) → h.place ≤ (p.past h).place
+  grows {p} e h = omega (arith, e.ends h)
 
-  pub stmts_length : {C : Type 0} (ss : Stmts C) (p : ℕ) → p + length (stmts_code ss p) ≡ past_stmts ss p
-  stmts_length done p = omega arith
-  stmts_length {C} (also s rest) p = omega (arith, length-append {A = Instr C}, stmt_length s p, stmts_length rest (past_stmt s p))
+  pub failing_grows : {p : Failing C} → FailingExact p → (h : Here) → h.place ≤ (p.past h).place
+  failing_grows {p} e h = omega (arith, e.ends 0 h)
 
-pub expr_grows : {C : Type 0} (e : Expr C) (p : ℕ) → p ≤ past_expr e p
-expr_grows e p = omega (arith, expr_length e p)
+  pub nothing_exact : Exact {C = C} nothing
+  nothing_exact = record { ends = λ h. omega arith }
 
-pub target_grows : {C : Type 0} (e : Expr C) (p : ℕ) → p ≤ past_target e p
-target_grows e p = omega (arith, target_length e p)
+  pub one_exact : (i : Instr C) → Exact (one i)
+  one_exact i = record { ends = λ h. omega arith }
 
-pub stmt_grows : {C : Type 0} (s : Stmt C) (p : ℕ) → p ≤ past_stmt s p
-stmt_grows s p = omega (arith, stmt_length s p)
+  pub then_exact : {p q : Piece C} → Exact p → Exact q → Exact (p ▸ q)
+  then_exact {p} {q} e e' = record { ends = λ h. omega (arith, length-append (p.code h) (q.code (p.past h)), e.ends h, e'.ends (p.past h)) }
 
-pub stmts_grow : {C : Type 0} (ss : Stmts C) (p : ℕ) → p ≤ past_stmts ss p
-stmts_grow ss p = omega (arith, stmts_length ss p)
+  pub filter_exact : (x : Text) (n : Option ℕ) → Exact {C = C} (apply_filter x n)
+  filter_exact x n = record { ends = λ h. omega arith }
+
+  pub test_exact : (x : Text) (n : Option ℕ) → Exact {C = C} (perform_test x n)
+  test_exact x n = record { ends = λ h. omega arith }
+
+  skipping_exact : (jump : ℕ → Instr C) {p : Piece C} → Exact p → Exact (skipping jump p)
+  skipping_exact jump {p} e = record { ends = λ h. omega (arith, e.ends (behind 1 h)) }
+
+  pub branches_exact : {p q : Piece C} → Exact p → Exact q → Exact (branches p q)
+  branches_exact {p} {q} e e' = record {
+    ends = λ h.
+        let other = behind 1 (p.past (behind 1 h)) in
+        omega (arith, length-append (p.code (behind 1 h)) (Jump (q.past other).place ∷ q.code other), e.ends (behind 1 h), e'.ends other);
+  }
+
+  pub folded_exact : (r : Option C) {p : Piece C} → Exact p → Exact (folded r p)
+  unfolding folded
+  folded_exact None e = e
+  folded_exact (Some c) e = one_exact _
+
+  pub operation_exact : (k : Working) {p : Piece C} → Exact p → Exact (operation k p)
+  operation_exact (Makes o) e = then_exact e (one_exact _)
+  operation_exact Divides e = then_exact e (one_exact _)
+  operation_exact IfTrue e = skipping_exact JumpIfFalseOrPop e
+  operation_exact IfFalse e = skipping_exact JumpIfTrueOrPop e
+
+  pub comparison_exact : (o : CompareOp) → Exact {C = C} (comparison o)
+  comparison_exact eq = one_exact _
+  comparison_exact ne = one_exact _
+  comparison_exact lt = one_exact _
+  comparison_exact lte = one_exact _
+  comparison_exact gt = one_exact _
+  comparison_exact gte = one_exact _
+  comparison_exact is_in = one_exact _
+  comparison_exact not_in = then_exact (one_exact _) (one_exact _)
+
+  last_exact : {p : Piece C} → Exact p → FailingExact (last p)
+  last_exact e = record { ends = λ failed h. e.ends h }
+
+  and_then_exact : (o : CompareOp) {p : Piece C} {r : Failing C} → Exact p → FailingExact r → FailingExact (and_then o p r)
+  and_then_exact o {p} {r} e e' = record { ends = λ failed h. omega (arith, length-append (p.code (behind 1 (behind 1 h))) (r.code failed (p.past (behind 1 (behind 1 h)))), e.ends (behind 1 (behind 1 h)), e'.ends failed (p.past (behind 1 (behind 1 h)))) }
+
+  chained_exact : {p : Piece C} {r : Failing C} → Exact p → FailingExact r → Exact (chained p r)
+  chained_exact {p} {r} e e' = record {
+    ends = λ h.
+        let failed = behind 1 (r.past (p.past h)) in
+        let after : List (Instr C) = Jump (behind 1 (behind 1 failed)).place ∷ Swap ∷ DiscardTop ∷ [] in
+        omega (arith, length-append (p.code h) (r.code failed.place (p.past h) ++ after), length-append (r.code failed.place (p.past h)) after, e.ends h, e'.ends failed.place (p.past h));
+  }
+
+  -- each piece is exact
+  abbrev pub AllExact : List (Piece C) → Type 0
+  AllExact [] = Unit {0}
+  AllExact (p ∷ ps) = Exact p × AllExact ps
+
+  pub paired_exact : (ps qs : List (Piece C)) → AllExact ps → AllExact qs → Exact (paired ps qs)
+  paired_exact [] qs h k = nothing_exact
+  paired_exact (p ∷ ps) [] h k = nothing_exact
+  paired_exact (p ∷ ps) (q ∷ qs) h k = then_exact h.0 (then_exact k.0 (paired_exact ps qs h.1 k.1))
+
+  pub batch_exact : (build : ℕ → Instr C) (n : ℕ) → Exact (batch build n)
+  batch_exact build zero = nothing_exact
+  batch_exact build (suc n) = one_exact _
+
+  pub merged_exact : (b n : ℕ) → Exact {C = C} (merged b n)
+  unfolding merged
+  merged_exact zero zero = nothing_exact
+  merged_exact zero (suc n) = one_exact _
+  merged_exact (suc b) n = then_exact (batch_exact BuildKwargs n) (one_exact _)
+
+  pub spreading_exact : (b n : ℕ) → Exact {C = C} (spreading b n)
+  unfolding spreading
+  spreading_exact zero n = nothing_exact
+  spreading_exact (suc b) n = then_exact (batch_exact (λ n. BuildList (Some n)) n) (one_exact _)
+
+  pub either_exact : (b : Bool) {p q : Piece C} → Exact p → Exact q → Exact (if b then p else q)
+  either_exact true e e' = e
+  either_exact false e e' = e'
+
+module _ {C F : Type 0} (f : Functions C F) where
+  pub arguments_exact : (args : Args C) (n : ℕ) {p q : Piece C} → Exact p → Exact q → Exact (arguments f args n p q)
+  arguments_exact args n e e' =
+      let k : Count = count_keyword args (record { batches = 0; waiting = 0 }) in
+      then_exact e (then_exact (folded_exact (fold_keywords f (constant_keywords f args)) (then_exact e' (merged_exact k.batches k.waiting))) (spreading_exact _ _))
+
+  mutual
+    pub expr_exact : (e : Expr C) → Exact (expr f e)
+    expr_exact (variable x) = one_exact _
+    expr_exact (constant c) = one_exact _
+    expr_exact (slice e a b c) = then_exact (expr_exact e) (then_exact (optional_exact f.none a) (then_exact (optional_exact f.none b) (then_exact (optional_exact f.none c) (one_exact _))))
+    expr_exact (unary o e) = folded_exact (fold f (unary o e)) (then_exact (expr_exact e) (one_exact _))
+    expr_exact (binary o a b) = folded_exact (fold f (binary o a b)) (then_exact (expr_exact a) (operation_exact (working o) (expr_exact b)))
+    expr_exact (compare e cs) = folded_exact (fold f (compare e cs)) (then_exact (expr_exact e) (chain_exact cs))
+    expr_exact (if_expr t a b) = then_exact (expr_exact t) (branches_exact (expr_exact a) (optional_exact f.silent_undefined b))
+    expr_exact (filter o x args) = then_exact (operand_exact o) (then_exact (arguments_exact args 1 (positional_exact args 1) (keyword_exact args 0)) (filter_exact _ _))
+    expr_exact (test e x args) = then_exact (expr_exact e) (then_exact (arguments_exact args 1 (positional_exact args 1) (keyword_exact args 0)) (test_exact _ _))
+    expr_exact (attribute e x) = then_exact (expr_exact e) (one_exact _)
+    expr_exact (item e k) = then_exact (expr_exact e) (then_exact (expr_exact k) (one_exact _))
+    expr_exact (call (variable x) args) = then_exact (arguments_exact args 0 (positional_exact args 0) (keyword_exact args 0)) (one_exact _)
+    expr_exact (call (attribute e x) args) =
+        either_exact (is_self e) (then_exact (one_exact _) (then_exact (one_exact _) (one_exact _)))
+        (then_exact (expr_exact e) (then_exact (arguments_exact args 1 (positional_exact args 1) (keyword_exact args 0)) (one_exact _)))
+    expr_exact (call e args) = then_exact (expr_exact e) (then_exact (arguments_exact args 1 (positional_exact args 1) (keyword_exact args 0)) (one_exact _))
+    expr_exact (list es) = folded_exact (fold f (list es)) (then_exact (items_exact es) (one_exact _))
+    expr_exact (tuple es) = folded_exact (fold f (tuple es)) (then_exact (items_exact es) (one_exact _))
+    expr_exact (map ks vs) = folded_exact (fold f (map ks vs)) (then_exact (paired_exact (each f ks) (each f vs) (each_exact ks) (each_exact vs)) (one_exact _))
+
+    pub optional_exact : (d : C) (o : Optional C) → Exact (optional f d o)
+    optional_exact d absent = one_exact _
+    optional_exact d (present e) = expr_exact e
+
+    operand_exact : (o : Optional C) → Exact (operand f o)
+    operand_exact absent = nothing_exact
+    operand_exact (present e) = expr_exact e
+
+    pub items_exact : (es : Exprs C) → Exact (items f es)
+    items_exact no_more = nothing_exact
+    items_exact (more e es) = then_exact (expr_exact e) (items_exact es)
+
+    pub each_exact : (es : Exprs C) → AllExact (each f es)
+    each_exact no_more = tt
+    each_exact (more e es) = (expr_exact e, each_exact es)
+
+    pub chain_exact : (cs : Comparisons C) → Exact (chain f cs)
+    chain_exact compared = nothing_exact
+    chain_exact (against o e cs) = chained_exact (expr_exact e) (comparisons_exact cs o)
+
+    pub comparisons_exact : (cs : Comparisons C) (o : CompareOp) → FailingExact (comparisons f o cs)
+    comparisons_exact compared o = last_exact (comparison_exact o)
+    comparisons_exact (against o' e cs) o = and_then_exact o (expr_exact e) (comparisons_exact cs o')
+
+    pub positional_exact : (args : Args C) (n : ℕ) → Exact (positional f args n)
+    positional_exact no_args n = nothing_exact
+    positional_exact (pos e args) n = then_exact (expr_exact e) (positional_exact args (suc n))
+    positional_exact (pos_splat e args) n = then_exact (batch_exact (λ n. BuildList (Some n)) n) (then_exact (expr_exact e) (positional_exact args 0))
+    positional_exact (kwarg x e args) n = positional_exact args n
+    positional_exact (kwarg_splat e args) n = positional_exact args n
+
+    pub keyword_exact : (args : Args C) (n : ℕ) → Exact (keyword f args n)
+    keyword_exact no_args n = nothing_exact
+    keyword_exact (pos e args) n = keyword_exact args n
+    keyword_exact (pos_splat e args) n = keyword_exact args n
+    keyword_exact (kwarg x e args) n = then_exact (one_exact _) (then_exact (expr_exact e) (keyword_exact args (suc n)))
+    keyword_exact (kwarg_splat e args) n = then_exact (batch_exact BuildKwargs n) (then_exact (expr_exact e) (keyword_exact args 0))
+
+  pub target_exact : (e : Expr C) → Exact (target e)
+  target_exact (variable x) = one_exact _
+  target_exact e = nothing_exact
+
+  pub write_exact : (o : Written C) {p : Piece C} → Exact p → Exact (write f o p)
+  write_exact Super e = one_exact _
+  write_exact (Recursion r) e = then_exact (expr_exact r) (one_exact _)
+  write_exact (BlockOf x) e = one_exact _
+  write_exact Plain e = then_exact e (one_exact _)
+
+  mutual
+    pub stmt_exact : (s : Stmt C) → Exact (stmt f s)
+    stmt_exact (template ss) = stmts_exact ss
+    stmt_exact (data_text t) = one_exact _
+    stmt_exact (output e) = write_exact (written e) (expr_exact e)
+    stmt_exact (assignment e v) = then_exact (expr_exact v) (target_exact e)
+
+    pub stmts_exact : (ss : Stmts C) → Exact (stmts f ss)
+    stmts_exact done = nothing_exact
+    stmts_exact (also s rest) = then_exact (stmt_exact s) (stmts_exact rest)

@@ -1,27 +1,29 @@
 -- Instructions over what values hold.
-use Rattle.std.specs.Prelude.{ℕ, List, [], map}
+use Rattle.std.specs.Prelude.{ℕ, Option}
 use Rattle.minijinja_base.specs.Values.{Text}
+use Rattle.minijinja_tree.specs.CompareOps.{CompareOp}
+use Rattle.minijinja_tree.specs.Operators.{Operator}
 use Rattle.minijinja_code.specs.Events.{Kind}
-use Rattle.minijinja_code.specs.Events as event
-use Rattle.minijinja_code.specs.InstructionLists.{instructions_of}
-use Rattle.minijinja_code.specs.declared.instructions.Instruction.{Instruction}
-use Rattle.minijinja_code.specs.declared.instructions.Instruction.TheVariants.{EmitRaw, Lookup, GetAttr, LoadConst, StoreLocal, Emit}
-use Rattle.minijinja_code.specs.declared.instructions.Instructions.{Instructions}
 
+-- one instruction
 pub data Instr (C : Type 0) : Type 0 where
   -- pushes a constant
   Load : C → Instr C
   -- is an event, with a text and so many operands
   Do : Kind → Text → ℕ → Instr C
-
--- what an instruction of a list is
-abbrev pub instr_of : {V F C : Type 0} → (V → C) → Instruction V F → Instr C
-instr_of c (EmitRaw t) = Do event.EmitRaw t.now 0
-instr_of c (Lookup x) = Do event.Lookup x.now 0
-instr_of c (GetAttr x) = Do event.GetAttr x.now 1
-instr_of c (LoadConst v) = Load (c v)
-instr_of c (StoreLocal x) = Do event.StoreLocal x.now 1
-instr_of c Emit = Do event.Emit [] 1
-
-abbrev pub code_of : {V F C : Type 0} → (V → C) → Instructions V F → List (Instr C)
-code_of c code = map (instr_of c) (instructions_of code)
+  -- is the event of a call, with a text and so many operands, or as many as a count on top of them says
+  Call : Kind → Text → Option ℕ → Instr C
+  -- likewise, of a filter or test, with the id of its name
+  Apply : Kind → Text → Option ℕ → (id : ℕ) → Instr C
+  -- make a value of the two on top, or of the one
+  Operate : Operator → Instr C
+  Neg Not : Instr C
+  -- keeps the second of two values, and pushes whether their comparison holds
+  CompareAndPreserve : CompareOp → Instr C
+  -- make one value of so many pairs, or of so many values, or of as many as a count on top of them says
+  BuildMap BuildKwargs : ℕ → Instr C
+  BuildList BuildTuple : Option ℕ → Instr C
+  -- put the topmost operands in order
+  DupTop DiscardTop Swap : Instr C
+  -- go to a place: always; where the value on top is false, which is taken off; where it is false or true, and then it stays
+  Jump JumpIfFalse JumpIfFalseOrPop JumpIfTrueOrPop : ℕ → Instr C

@@ -6,17 +6,26 @@ use Rattle.minijinja_base.specs.Values.{Text}
 use Rattle.minijinja_base.specs.Errors.{kind_of}
 use Rattle.minijinja_base.specs.declared.error.Error.{Error}
 use Rattle.minijinja_base.specs.declared.error.ErrorKind.TheVariants.{TooManyInstructions}
-use Rattle.minijinja_code.specs.Code.{Instr, code_of}
+use Rattle.minijinja_code.specs.Code.{Instr}
+use Rattle.minijinja_code.specs.Making.{made_of, here_of}
+use Rattle.minijinja_code.specs.Pieces.{Here}
 use Rattle.minijinja_code.specs.declared.codegen.CodeGenerator.{CodeGenerator}
 use Rattle.minijinja_code.specs.declared.instructions.Instructions.{Instructions}
 
--- the list so far
-abbrev pub list_of : {V F : Type 0} → CodeGenerator V F → Instructions V F
-list_of g = g.instructions
-
--- its instructions over what values hold
+-- the instructions so far, over what values hold
 abbrev pub generated : {V F C : Type 0} → (V → C) → CodeGenerator V F → List (Instr C)
-generated c g = code_of c (list_of g)
+generated c g = (made_of c g.code).code
+
+-- the place behind them, and the names of filters and tests that have an id
+abbrev pub here_so_far : {V F C : Type 0} → (V → C) → CodeGenerator V F → Here
+here_so_far c g = here_of (made_of c g.code)
+
+-- the name and the text of the source
+abbrev pub file_of : {V F : Type 0} → CodeGenerator V F → Text
+file_of g = g.file.now
+
+abbrev pub text_of : {V F : Type 0} → CodeGenerator V F → Text
+text_of g = g.source.now
 
 -- the blocks' lists, by name
 abbrev pub blocks_of : {V F : Type 0} → CodeGenerator V F → BTreeMap (Bor Text) (Instructions V F)

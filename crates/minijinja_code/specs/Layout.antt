@@ -1,46 +1,314 @@
--- The instructions of a tree that stands at an index, and the index behind them.
-use Rattle.std.specs.Prelude.{ℕ, ◌+◌, List, [], ◌∷◌, ◌++◌}
-use Rattle.minijinja_tree.specs.Tree.{Expr, variable, constant, attribute, Stmt, template, data_text, output, assignment, Stmts, done, also}
-use Rattle.minijinja_code.specs.Events.{EmitRaw, Lookup, GetAttr, StoreLocal, Emit}
-use Rattle.minijinja_code.specs.Code.{Instr, Load, Do}
+-- The code of a tree: for each construct its instructions, which jump to places that are computed from what stands between.
+use Rattle.std.specs.Prelude.{ℕ, zero, suc, ◌+◌, List, [], ◌∷◌, ◌++◌, Option, Some, None, if◌then◌else◌}
+use Rattle.minijinja_base.specs.Values.{Text, Functions}
+use Rattle.minijinja_tree.specs.CompareOps.{CompareOp, eq, ne, lt, lte, gt, gte, is_in, not_in}
+use Rattle.minijinja_tree.specs.Operators.{Working, Makes, Divides, IfTrue, IfFalse, working, Eq, Ne, Lt, Lte, Gt, Gte, In}
+use Rattle.minijinja_tree.specs.Tree.{UnaryOp, logical_not, negation, Expr, variable, constant, slice, unary, binary, compare, if_expr, filter, test, attribute, item, call, list, tuple, map, Optional, absent, present, Exprs, no_more, more, Comparisons, compared, against, Args, no_args, pos, pos_splat, kwarg, kwarg_splat, Stmt, template, data_text, output, assignment, Stmts, done, also}
+use Rattle.minijinja_code.specs.Events.{EmitRaw, Emit, Lookup, StoreLocal, GetAttr, GetItem, Slice, Div, ApplyFilter, PerformTest, CallFunction, CallMethod, CallObject, MergeKwargs, UnpackLists, BeginCapture, EndCapture, CallBlock, FastSuper, FastRecurse, Capture}
+use Rattle.minijinja_code.specs.Calls.{is_self, Written, Super, Recursion, BlockOf, Plain, written}
+use Rattle.minijinja_tree.specs.Folding.{fold, constant_keywords, fold_keywords}
+use Rattle.minijinja_code.specs.Code.{Instr, Load, Do, Call, Apply, Operate, Neg, Not, CompareAndPreserve, BuildMap, BuildKwargs, BuildList, BuildTuple, DiscardTop, Swap, Jump, JumpIfFalseOrPop, JumpIfTrueOrPop}
+use Rattle.minijinja_code.specs.Pieces.{Here, behind, Piece, nothing, one, ◌▸◌, skipping, branches, id_of, noted}
 
-abbrev pub past_expr : {C : Type 0} → Expr C → ℕ → ℕ
-past_expr (variable x) p = p + 1
-past_expr (constant c) p = p + 1
-past_expr (attribute e x) p = past_expr e p + 1
+-- a constant in place of the piece that computes it
+unfoldable pub folded : {C : Type 0} → Option C → Piece C → Piece C
+folded None p = p
+folded (Some c) p = one (Load c)
 
-abbrev pub expr_code : {C : Type 0} → Expr C → ℕ → List (Instr C)
-expr_code (variable x) p = Do Lookup x 0 ∷ []
-expr_code (constant c) p = Load c ∷ []
-expr_code (attribute e x) p = expr_code e p ++ Do GetAttr x 1 ∷ []
+-- an operator of one side
+abbrev pub unary_instr : {C : Type 0} → UnaryOp → Instr C
+unary_instr logical_not = Not
+unary_instr negation = Neg
+
+-- an operator of two sides, behind its left one
+abbrev pub operation : {C : Type 0} → Working → Piece C → Piece C
+operation (Makes o) right = right ▸ one (Operate o)
+operation Divides right = right ▸ one (Do Div [] 2)
+operation IfTrue right = skipping JumpIfFalseOrPop right
+operation IfFalse right = skipping JumpIfTrueOrPop right
+
+-- the last comparison of a chain
+abbrev pub comparison : {C : Type 0} → CompareOp → Piece C
+comparison eq = one (Operate Eq)
+comparison ne = one (Operate Ne)
+comparison lt = one (Operate Lt)
+comparison lte = one (Operate Lte)
+comparison gt = one (Operate Gt)
+comparison gte = one (Operate Gte)
+comparison is_in = one (Operate In)
+comparison not_in = one (Operate In) ▸ one Not
+
+-- comparisons behind their two first operands, which lead to a place where one is false
+pub record Failing (C : Type 0) : Type 0 where
+  pub past : Here → Here
+  pub code : (failed : ℕ) → Here → List (Instr C)
+
+-- the last one leads nowhere
+abbrev pub last : {C : Type 0} → Piece C → Failing C
+last p = record { past = p.past; code = λ failed h. p.code h }
+
+-- a comparison, and then the next operand and the others
+abbrev pub and_then : {C : Type 0} → CompareOp → Piece C → Failing C → Failing C
+and_then o p r = record {
+  past = λ h. r.past (p.past (behind 1 (behind 1 h)));
+  code = λ failed h. CompareAndPreserve o ∷ JumpIfFalseOrPop failed ∷ (p.code (behind 1 (behind 1 h)) ++ r.code failed (p.past (behind 1 (behind 1 h))));
+}
+
+-- the second operand of a chain and its comparisons; where one is false, the operand kept below its answer is dropped
+abbrev pub chained : {C : Type 0} → Piece C → Failing C → Piece C
+chained p r = record {
+  past = λ h. behind 1 (behind 1 (behind 1 (r.past (p.past h))));
+  code = λ h.
+      let failed = behind 1 (r.past (p.past h)) in
+      p.code h ++ (r.code failed.place (p.past h) ++ Jump (behind 1 (behind 1 failed)).place ∷ Swap ∷ DiscardTop ∷ []);
+}
+
+-- how many keys have a value
+abbrev pub pair_count : {X Y : Type 0} → List X → List Y → ℕ
+pair_count [] vs = 0
+pair_count (k ∷ ks) [] = 0
+pair_count (k ∷ ks) (v ∷ vs) = suc (pair_count ks vs)
+
+-- keys and values in turn
+abbrev pub paired : {C : Type 0} → List (Piece C) → List (Piece C) → Piece C
+paired [] vs = nothing
+paired (k ∷ ks) [] = nothing
+paired (k ∷ ks) (v ∷ vs) = k ▸ v ▸ paired ks vs
+
+-- how many expressions there are
+abbrev pub item_count : {C : Type 0} → Exprs C → ℕ
+item_count no_more = 0
+item_count (more e es) = suc (item_count es)
+
+-- how many batches of arguments are complete, and how many arguments wait for the rest of their batch
+pub record Count : Type 0 where
+  pub batches : ℕ
+  pub waiting : ℕ
+
+-- where so many arguments wait, their batch is one more
+abbrev pub batch_count : (waiting : ℕ) → ℕ
+batch_count zero = 0
+batch_count (suc n) = 1
+
+-- one more argument waits
+abbrev pub count_one : Count → Count
+count_one c = record c { waiting = suc c.waiting }
+
+-- those that wait are a batch, where there are any, and one more batch stands behind it
+abbrev pub count_batch : Count → Count
+count_batch c = record { batches = suc (c.batches + batch_count c.waiting); waiting = 0 }
+
+-- what the positional arguments leave, behind what was counted
+abbrev pub count_positional : {C : Type 0} → Args C → Count → Count
+count_positional no_args c = c
+count_positional (pos e args) c = count_positional args (count_one c)
+count_positional (pos_splat e args) c = count_positional args (count_batch c)
+count_positional (kwarg x e args) c = count_positional args c
+count_positional (kwarg_splat e args) c = count_positional args c
+
+-- likewise those with a keyword
+abbrev pub count_keyword : {C : Type 0} → Args C → Count → Count
+count_keyword no_args c = c
+count_keyword (pos e args) c = count_keyword args c
+count_keyword (pos_splat e args) c = count_keyword args c
+count_keyword (kwarg x e args) c = count_keyword args (count_one c)
+count_keyword (kwarg_splat e args) c = count_keyword args (count_batch c)
+
+-- the batch of so many waiting arguments, where there are any
+abbrev pub batch : {C : Type 0} → (ℕ → Instr C) → (waiting : ℕ) → Piece C
+batch build zero = nothing
+batch build (suc n) = one (build (suc n))
+
+-- the batch of positional arguments is a list
+abbrev pub list_batch : {C : Type 0} → (waiting : ℕ) → Piece C
+list_batch = batch (λ n. BuildList (Some n))
+
+-- the batch of keyword arguments is a map
+abbrev pub map_batch : {C : Type 0} → (waiting : ℕ) → Piece C
+map_batch = batch BuildKwargs
+
+-- the map of the keyword arguments: of one batch, or of several that are merged
+unfoldable pub merged : {C : Type 0} → (batches waiting : ℕ) → Piece C
+merged zero zero = nothing
+merged zero (suc n) = one (BuildKwargs (suc n))
+merged (suc b) n = map_batch n ▸ one (Do MergeKwargs [] (suc b + batch_count n))
+
+-- it is one more argument, where there are any
+unfoldable pub map_count : (batches waiting : ℕ) → ℕ
+map_count zero zero = 0
+map_count zero (suc n) = 1
+map_count (suc b) n = 1
+
+-- the batches are spread, where there are any
+unfoldable pub spreading : {C : Type 0} → (batches waiting : ℕ) → Piece C
+spreading zero n = nothing
+spreading (suc b) n = list_batch n ▸ one (Do UnpackLists [] (suc b + batch_count n))
+
+-- how many arguments a call has: none says that their count is on top of them
+unfoldable pub counted : (batches waiting : ℕ) → Option ℕ
+counted zero n = Some n
+counted (suc b) n = None
+
+-- what all the arguments leave, where so many operands stand before them
+abbrev pub count_all : {C : Type 0} → Args C → (front : ℕ) → Count
+count_all args front =
+    let c = count_positional args (record { batches = 0; waiting = front }) in
+    let k = count_keyword args (record { batches = 0; waiting = 0 }) in
+    record { batches = c.batches; waiting = c.waiting + map_count k.batches k.waiting }
+
+-- the arguments of a call behind so many operands, of the pieces of the positional ones and of those with a keyword
+abbrev pub arguments : {C F : Type 0} → Functions C F → Args C → (front : ℕ) → Piece C → Piece C → Piece C
+arguments f args front positional_ones keyword_ones =
+    let k = count_keyword args (record { batches = 0; waiting = 0 }) in
+    let c = count_all args front in
+    positional_ones ▸ folded (fold_keywords f (constant_keywords f args)) (keyword_ones ▸ merged k.batches k.waiting) ▸ spreading c.batches c.waiting
+
+-- how many arguments a call has behind so many operands, or none where their count is on top of them
+abbrev pub argument_count : {C : Type 0} → Args C → (front : ℕ) → Option ℕ
+argument_count args front = let c = count_all args front in counted c.batches c.waiting
+
+-- a filter is applied by its name and id; the name is noted
+abbrev pub apply_filter : {C : Type 0} → Text → Option ℕ → Piece C
+apply_filter x n = record {
+  past = λ h. record { place = h.place + 1; filters = noted x h.filters; tests = h.tests };
+  code = λ h. Apply ApplyFilter x n (id_of x h.filters) ∷ [];
+}
+
+-- likewise a test
+abbrev pub perform_test : {C : Type 0} → Text → Option ℕ → Piece C
+perform_test x n = record {
+  past = λ h. record { place = h.place + 1; filters = h.filters; tests = noted x h.tests };
+  code = λ h. Apply PerformTest x n (id_of x h.tests) ∷ [];
+}
+
+-- a call of a block is captured
+abbrev pub captured : {C : Type 0} → Text → Piece C
+captured x = one (Do (BeginCapture Capture) [] 0) ▸ one (Do CallBlock x 0) ▸ one (Do EndCapture [] 0)
+
+-- an expression
+abbrev mutual
+  pub expr : {C F : Type 0} → Functions C F → Expr C → Piece C
+  expr f (variable x) = one (Do Lookup x 0)
+  expr f (constant c) = one (Load c)
+  expr f (slice e start stop step) =
+      expr f e ▸ optional f f.none start ▸ optional f f.none stop ▸ optional f f.none step ▸ one (Do Slice [] 4)
+  expr f (unary o e) = folded (fold f (unary o e)) (expr f e ▸ one (unary_instr o))
+  expr f (binary o a b) = folded (fold f (binary o a b)) (expr f a ▸ operation (working o) (expr f b))
+  expr f (compare e cs) = folded (fold f (compare e cs)) (expr f e ▸ chain f cs)
+  expr f (if_expr t a b) = expr f t ▸ branches (expr f a) (optional f f.silent_undefined b)
+  expr f (filter o x args) =
+      operand f o ▸ arguments f args 1 (positional f args 1) (keyword f args 0) ▸ apply_filter x (argument_count args 1)
+  expr f (test e x args) =
+      expr f e ▸ arguments f args 1 (positional f args 1) (keyword f args 0) ▸ perform_test x (argument_count args 1)
+  expr f (attribute e x) = expr f e ▸ one (Do GetAttr x 1)
+  expr f (item e k) = expr f e ▸ expr f k ▸ one (Do GetItem [] 2)
+  -- a function
+  expr f (call (variable x) args) =
+      arguments f args 0 (positional f args 0) (keyword f args 0) ▸ one (Call CallFunction x (argument_count args 0))
+  -- a block of the template, or a method
+  expr f (call (attribute e x) args) = if is_self e then captured x else
+      (expr f e ▸ arguments f args 1 (positional f args 1) (keyword f args 0) ▸ one (Call CallMethod x (argument_count args 1)))
+  -- an object
+  expr f (call e args) =
+      expr f e ▸ arguments f args 1 (positional f args 1) (keyword f args 0) ▸ one (Call CallObject [] (argument_count args 1))
+  expr f (list es) = folded (fold f (list es)) (items f es ▸ one (BuildList (Some (item_count es))))
+  expr f (tuple es) = folded (fold f (tuple es)) (items f es ▸ one (BuildTuple (Some (item_count es))))
+  expr f (map ks vs) =
+      let keys = each f ks in
+      let values = each f vs in
+      folded (fold f (map ks vs)) (paired keys values ▸ one (BuildMap (pair_count keys values)))
+
+  -- an expression, or what stands in for it
+  pub optional : {C F : Type 0} → Functions C F → C → Optional C → Piece C
+  optional f d absent = one (Load d)
+  optional f d (present e) = expr f e
+
+  -- the operand of a filter; an absent one is there already
+  pub operand : {C F : Type 0} → Functions C F → Optional C → Piece C
+  operand f absent = nothing
+  operand f (present e) = expr f e
+
+  -- expressions in order
+  pub items : {C F : Type 0} → Functions C F → Exprs C → Piece C
+  items f no_more = nothing
+  items f (more e es) = expr f e ▸ items f es
+
+  -- expressions, each by itself
+  pub each : {C F : Type 0} → Functions C F → Exprs C → List (Piece C)
+  each f no_more = []
+  each f (more e es) = expr f e ∷ each f es
+
+  -- comparisons behind the first operand
+  pub chain : {C F : Type 0} → Functions C F → Comparisons C → Piece C
+  chain f compared = nothing
+  chain f (against o e cs) = chained (expr f e) (comparisons f o cs)
+
+  -- a comparison whose operands are there, and those behind it
+  pub comparisons : {C F : Type 0} → Functions C F → CompareOp → Comparisons C → Failing C
+  comparisons f o compared = last (comparison o)
+  comparisons f o (against o' e cs) = and_then o (expr f e) (comparisons f o' cs)
+
+  -- positional and `*` arguments, where so many wait
+  pub positional : {C F : Type 0} → Functions C F → Args C → (waiting : ℕ) → Piece C
+  positional f no_args n = nothing
+  positional f (pos e args) n = expr f e ▸ positional f args (suc n)
+  positional f (pos_splat e args) n = list_batch n ▸ expr f e ▸ positional f args 0
+  positional f (kwarg x e args) n = positional f args n
+  positional f (kwarg_splat e args) n = positional f args n
+
+  -- keyword and `**` arguments, where so many wait
+  pub keyword : {C F : Type 0} → Functions C F → Args C → (waiting : ℕ) → Piece C
+  keyword f no_args n = nothing
+  keyword f (pos e args) n = keyword f args n
+  keyword f (pos_splat e args) n = keyword f args n
+  keyword f (kwarg x e args) n = one (Load (f.of_str x)) ▸ expr f e ▸ keyword f args (suc n)
+  keyword f (kwarg_splat e args) n = map_batch n ▸ expr f e ▸ keyword f args 0
 
 -- what is no target has no code
-abbrev pub past_target : {C : Type 0} → Expr C → ℕ → ℕ
-past_target (variable x) p = p + 1
-past_target _ p = p
+abbrev pub target : {C : Type 0} → Expr C → Piece C
+target (variable x) = one (Do StoreLocal x 1)
+target _ = nothing
 
-abbrev pub target_code : {C : Type 0} → Expr C → ℕ → List (Instr C)
-target_code (variable x) p = Do StoreLocal x 1 ∷ []
-target_code _ p = []
+-- what an output writes, of the piece of its expression
+abbrev pub write : {C F : Type 0} → Functions C F → Written C → Piece C → Piece C
+write f Super value = one (Do FastSuper [] 0)
+write f (Recursion e) value = expr f e ▸ one (Do FastRecurse [] 1)
+write f (BlockOf x) value = one (Do CallBlock x 0)
+write f Plain value = value ▸ one (Do Emit [] 1)
 
+-- a statement
 abbrev mutual
-  pub past_stmt : {C : Type 0} → Stmt C → ℕ → ℕ
-  past_stmt (template ss) p = past_stmts ss p
-  past_stmt (data_text t) p = p + 1
-  past_stmt (output e) p = past_expr e p + 1
-  past_stmt (assignment target e) p = past_target target (past_expr e p)
+  pub stmt : {C F : Type 0} → Functions C F → Stmt C → Piece C
+  stmt f (template ss) = stmts f ss
+  stmt f (data_text t) = one (Do EmitRaw t 0)
+  stmt f (output e) = write f (written e) (expr f e)
+  stmt f (assignment e v) = expr f v ▸ target e
 
-  pub past_stmts : {C : Type 0} → Stmts C → ℕ → ℕ
-  past_stmts done p = p
-  past_stmts (also s rest) p = past_stmts rest (past_stmt s p)
+  -- statements in order
+  pub stmts : {C F : Type 0} → Functions C F → Stmts C → Piece C
+  stmts f done = nothing
+  stmts f (also s rest) = stmt f s ▸ stmts f rest
 
-abbrev mutual
-  pub stmt_code : {C : Type 0} → Stmt C → ℕ → List (Instr C)
-  stmt_code (template ss) p = stmts_code ss p
-  stmt_code (data_text t) p = Do EmitRaw t 0 ∷ []
-  stmt_code (output e) p = expr_code e p ++ Do Emit [] 1 ∷ []
-  stmt_code (assignment target e) p = expr_code e p ++ target_code target (past_expr e p)
+-- what stands behind the code of an expression
+abbrev pub past_expr : {C F : Type 0} → Functions C F → Expr C → Here → Here
+past_expr f e = (expr f e).past
 
-  pub stmts_code : {C : Type 0} → Stmts C → ℕ → List (Instr C)
-  stmts_code done p = []
-  stmts_code (also s rest) p = stmt_code s p ++ stmts_code rest (past_stmt s p)
+-- its instructions
+abbrev pub expr_code : {C F : Type 0} → Functions C F → Expr C → Here → List (Instr C)
+expr_code f e = (expr f e).code
+
+-- what stands behind the code of a statement
+abbrev pub past_stmt : {C F : Type 0} → Functions C F → Stmt C → Here → Here
+past_stmt f s = (stmt f s).past
+
+-- its instructions
+abbrev pub stmt_code : {C F : Type 0} → Functions C F → Stmt C → Here → List (Instr C)
+stmt_code f s = (stmt f s).code
+
+-- what stands behind the code of an assignment to a target
+abbrev pub past_target : {C : Type 0} → Expr C → Here → Here
+past_target e = (target e).past
+
+-- its instructions
+abbrev pub target_code : {C : Type 0} → Expr C → Here → List (Instr C)
+target_code e = (target e).code

@@ -1,15 +1,199 @@
--- What a tree does: its events with their operands, in order. There is no code in it, no place, no stack and no jump.
-use Rattle.std.specs.Prelude.{[], ◌∷◌}
-use Rattle.minijinja_tree.specs.Tree.{Expr, variable, constant, attribute, Stmt, template, data_text, output, assignment, Stmts, done, also}
-use Rattle.minijinja_code.specs.Events.{EmitRaw, Lookup, GetAttr, StoreLocal, Emit, Act, ◌>>=◌, ◌>>◌, give, tell, get}
+-- What a tree does: its events with their operands, in order. There is no code in it, no place, no stack, no jump and no folding.
+use Rattle.std.specs.Prelude.{true, false, not, List, [], ◌∷◌, ◌++◌}
+use Rattle.minijinja_base.specs.Values.{Text, Functions}
+use Rattle.minijinja_tree.specs.Operators.{Working, Makes, Divides, IfTrue, IfFalse, working, compute}
+use Rattle.minijinja_tree.specs.Comparisons.{compares}
+use Rattle.minijinja_tree.specs.Tree.{UnaryOp, logical_not, negation, Expr, variable, constant, slice, unary, binary, compare, if_expr, filter, test, attribute, item, call, list, tuple, map, Optional, absent, present, Exprs, no_more, more, Comparisons, compared, against, Args, no_args, pos, pos_splat, kwarg, kwarg_splat, Stmt, template, data_text, output, assignment, Stmts, done, also}
+use Rattle.minijinja_code.specs.Events.{EmitRaw, Emit, Lookup, StoreLocal, GetAttr, GetItem, Slice, Div, ApplyFilter, PerformTest, CallFunction, CallMethod, CallObject, MergeKwargs, UnpackLists, BeginCapture, EndCapture, CallBlock, FastSuper, FastRecurse, Capture, Act, ◌>>=◌, ◌>>◌, give, choose, operated, tell, get, get_all}
+use Rattle.minijinja_code.specs.Calls.{is_self, Written, Super, Recursion, BlockOf, Plain, written}
+
+-- an operator of one side
+abbrev pub operate_one : {C F : Type 0} → Functions C F → UnaryOp → C → Act C F C
+operate_one f logical_not v = give (f.of_bool (not (f.is_true v)))
+operate_one f negation v = operated (f.neg v)
+
+-- an operator of two sides, on the left value and the piece that gives the right one
+abbrev pub operate : {C F : Type 0} → Functions C F → Working → C → Act C F C → Act C F C
+operate f (Makes o) x right = do
+  y ← right
+  operated (compute f o x y)
+operate f Divides x right = do
+  y ← right
+  get Div [] (x ∷ y ∷ [])
+operate f IfTrue x right = choose (f.is_true x) right (give x)
+operate f IfFalse x right = choose (f.is_true x) (give x) right
+
+-- keys and values in turn: a key, its value, the next key
+abbrev pub in_pairs : {C F : Type 0} → List (Act C F C) → List (Act C F C) → Act C F (List (C × C))
+in_pairs [] values = give []
+in_pairs (k ∷ keys) [] = give []
+in_pairs (k ∷ keys) (v ∷ values) = do
+  x ← k
+  y ← v
+  rest ← in_pairs keys values
+  give ((x, y) ∷ rest)
+
+-- arguments that were taken: the batches that are complete, and those that wait for the rest of their batch
+pub record Taken (C X : Type 0) : Type 0 where
+  pub batches : List C
+  pub waiting : List X
+
+-- no argument was taken
+abbrev pub nothing_yet : {C X : Type 0} → Taken C X
+nothing_yet = record { batches = []; waiting = [] }
+
+-- one more that waits
+abbrev pub with_one : {C X : Type 0} → X → Taken C X → Taken C X
+with_one x t = record t { waiting = t.waiting ++ x ∷ [] }
+
+-- those that wait are a batch, where there are any
+abbrev pub completed : {C X : Type 0} → (List X → C) → List X → List C
+completed make [] = []
+completed make (x ∷ xs) = make (x ∷ xs) ∷ []
+
+-- a value that is a batch by itself, behind those that wait
+abbrev pub with_batch : {C X : Type 0} → (List X → C) → C → Taken C X → Taken C X
+with_batch make v t = record { batches = t.batches ++ completed make t.waiting ++ v ∷ []; waiting = [] }
+
+-- Keyword arguments are one more argument, their map, if there are any. Where `**` is among them the batches are merged.
+unfoldable pub keyword_map : {C F : Type 0} → Functions C F → List C → List (C × C) → Act C F (List C)
+keyword_map f [] [] = give []
+keyword_map f [] (p ∷ pairs) = give (f.kwargs (p ∷ pairs) ∷ [])
+keyword_map f (b ∷ batches) pairs = do
+  m ← get MergeKwargs [] (b ∷ batches ++ completed f.kwargs pairs)
+  give (m ∷ [])
+
+-- where `*` is among the arguments the batches are spread: the arguments are what that answers
+unfoldable pub spread : {C F : Type 0} → Functions C F → List C → List C → Act C F (List C)
+spread f [] vs = give vs
+spread f (b ∷ batches) vs = get_all UnpackLists [] (b ∷ batches ++ completed f.list vs)
+
+-- the arguments of a call, of the pieces that take the positional ones and those with a keyword
+abbrev pub arguments : {C F : Type 0} → Functions C F → Act C F (Taken C C) → Act C F (Taken C (C × C)) → Act C F (List C)
+arguments f positional_ones keyword_ones = do
+  t ← positional_ones
+  k ← keyword_ones
+  m ← keyword_map f k.batches k.waiting
+  spread f t.batches (t.waiting ++ m)
+
+-- a call of a block is captured
+abbrev pub block : {C F : Type 0} → Text → Act C F C
+block x = do
+  tell (BeginCapture Capture) [] []
+  tell CallBlock x []
+  get EndCapture [] []
 
 -- an expression gives its value
-abbrev pub expr : {C F : Type 0} → Expr C → Act C F C
-expr (variable x) = get Lookup x []
-expr (constant c) = give c
-expr (attribute e x) = do
-  v ← expr e
-  get GetAttr x (v ∷ [])
+abbrev mutual
+  pub expr : {C F : Type 0} → Functions C F → Expr C → Act C F C
+  expr f (variable x) = get Lookup x []
+  expr f (constant c) = give c
+  expr f (slice e start stop step) = do
+    v ← expr f e
+    a ← optional f f.none start
+    b ← optional f f.none stop
+    c ← optional f f.none step
+    get Slice [] (v ∷ a ∷ b ∷ c ∷ [])
+  expr f (unary o e) = do
+    v ← expr f e
+    operate_one f o v
+  expr f (binary o a b) = do
+    x ← expr f a
+    operate f (working o) x (expr f b)
+  expr f (compare e cs) = do
+    v ← expr f e
+    chain f v cs
+  expr f (if_expr t a b) = do
+    v ← expr f t
+    choose (f.is_true v) (expr f a) (optional f f.silent_undefined b)
+  expr f (filter o x args) = do
+    v ← optional f f.silent_undefined o
+    vs ← arguments f (positional f args (with_one v nothing_yet)) (keyword f args nothing_yet)
+    get ApplyFilter x vs
+  expr f (test e x args) = do
+    v ← expr f e
+    vs ← arguments f (positional f args (with_one v nothing_yet)) (keyword f args nothing_yet)
+    get PerformTest x vs
+  expr f (attribute e x) = do
+    v ← expr f e
+    get GetAttr x (v ∷ [])
+  expr f (item e k) = do
+    v ← expr f e
+    u ← expr f k
+    get GetItem [] (v ∷ u ∷ [])
+  -- a function
+  expr f (call (variable x) args) = do
+    vs ← arguments f (positional f args nothing_yet) (keyword f args nothing_yet)
+    get CallFunction x vs
+  -- a block of the template, or a method
+  expr f (call (attribute e x) args) = choose (is_self e) (block x) (do
+    v ← expr f e
+    vs ← arguments f (positional f args (with_one v nothing_yet)) (keyword f args nothing_yet)
+    get CallMethod x vs)
+  -- an object
+  expr f (call e args) = do
+    v ← expr f e
+    vs ← arguments f (positional f args (with_one v nothing_yet)) (keyword f args nothing_yet)
+    get CallObject [] vs
+  expr f (list es) = do
+    vs ← items f es
+    give (f.list vs)
+  expr f (tuple es) = do
+    vs ← items f es
+    give (f.tuple vs)
+  expr f (map ks vs) = do
+    pairs ← in_pairs (each f ks) (each f vs)
+    give (f.map pairs)
+
+  -- what stands in for an absent expression, or its value
+  pub optional : {C F : Type 0} → Functions C F → C → Optional C → Act C F C
+  optional f d absent = give d
+  optional f d (present e) = expr f e
+
+  -- the values of expressions, in order
+  pub items : {C F : Type 0} → Functions C F → Exprs C → Act C F (List C)
+  items f no_more = give []
+  items f (more e es) = do
+    v ← expr f e
+    vs ← items f es
+    give (v ∷ vs)
+
+  -- the pieces of expressions
+  pub each : {C F : Type 0} → Functions C F → Exprs C → List (Act C F C)
+  each f no_more = []
+  each f (more e es) = expr f e ∷ each f es
+
+  -- Comparisons of a value, each with the operand behind it: they stop at the first that is false.
+  pub chain : {C F : Type 0} → Functions C F → C → Comparisons C → Act C F C
+  chain f v compared = give (f.of_bool true)
+  chain f v (against o e cs) = do
+    u ← expr f e
+    holds ← operated (compares f o v u)
+    choose holds (chain f u cs) (give (f.of_bool false))
+
+  -- the positional arguments and the `*` ones, behind what was taken
+  pub positional : {C F : Type 0} → Functions C F → Args C → Taken C C → Act C F (Taken C C)
+  positional f no_args t = give t
+  positional f (pos e args) t = do
+    v ← expr f e
+    positional f args (with_one v t)
+  positional f (pos_splat e args) t = do
+    v ← expr f e
+    positional f args (with_batch f.list v t)
+  positional f (kwarg x e args) t = positional f args t
+  positional f (kwarg_splat e args) t = positional f args t
+
+  -- the keyword arguments and the `**` ones, behind what was taken
+  pub keyword : {C F : Type 0} → Functions C F → Args C → Taken C (C × C) → Act C F (Taken C (C × C))
+  keyword f no_args t = give t
+  keyword f (pos e args) t = keyword f args t
+  keyword f (pos_splat e args) t = keyword f args t
+  keyword f (kwarg x e args) t = do
+    v ← expr f e
+    keyword f args (with_one (f.of_str x, v) t)
+  keyword f (kwarg_splat e args) t = do
+    v ← expr f e
+    keyword f args (with_batch f.kwargs v t)
 
 -- how a statement ends: the next one follows, or the loop round it is left, or its next turn begins
 pub data Signal : Type 0 where
@@ -28,22 +212,38 @@ assign (variable x) v = do
   give On
 assign _ v = give On
 
+-- an output writes the value of its expression, but for calls that are written apart
+abbrev pub write : {C F : Type 0} → Functions C F → Written C → Act C F C → Act C F Signal
+write f Super value = do
+  tell FastSuper [] []
+  give On
+write f (Recursion e) value = do
+  v ← expr f e
+  tell FastRecurse [] (v ∷ [])
+  give On
+write f (BlockOf x) value = do
+  tell CallBlock x []
+  give On
+write f Plain value = do
+  v ← value
+  tell Emit [] (v ∷ [])
+  give On
+
+-- a statement gives how it ends
 abbrev mutual
-  pub stmt : {C F : Type 0} → Stmt C → Act C F Signal
-  stmt (template ss) = stmts ss
-  stmt (data_text t) = do
+  pub stmt : {C F : Type 0} → Functions C F → Stmt C → Act C F Signal
+  stmt f (template ss) = stmts f ss
+  stmt f (data_text t) = do
     tell EmitRaw t []
     give On
-  stmt (output e) = do
-    v ← expr e
-    tell Emit [] (v ∷ [])
-    give On
-  stmt (assignment target e) = do
-    v ← expr e
+  stmt f (output e) = write f (written e) (expr f e)
+  stmt f (assignment target e) = do
+    v ← expr f e
     assign target v
 
-  pub stmts : {C F : Type 0} → Stmts C → Act C F Signal
-  stmts done = give On
-  stmts (also s rest) = do
-    g ← stmt s
-    if_on g (stmts rest)
+  -- statements in order, while each goes on
+  pub stmts : {C F : Type 0} → Functions C F → Stmts C → Act C F Signal
+  stmts f done = give On
+  stmts f (also s rest) = do
+    g ← stmt f s
+    if_on g (stmts f rest)

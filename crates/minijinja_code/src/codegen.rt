@@ -1,18 +1,32 @@
 //! The generator: it makes instructions of trees.
 ghost use Rattle.std.specs.Prelude.{◌≡◌, ◌+◌, ◌≤◌, ◌^◌, ◌++◌, [], length, map, min, IfOk, IfErr, OnOk, OnErr, IfNone, IfSome, Err, Some, None};
 ghost use Rattle.std.specs.BTreeMap.{IsEmpty};
-ghost use Rattle.minijinja_base.specs.Errors.{kind_of};
 ghost use Rattle.minijinja_tree.specs.Erasure.{expr_tree, stmt_tree};
 ghost use Rattle.minijinja_tree.specs.Tree.{stmts_of};
-ghost use Rattle.minijinja_tree.specs.WellFormed.{IsTarget, IsInner, AreInner, IsWellFormed};
-ghost use Rattle.minijinja_code.specs.Code.{code_of};
-ghost use Rattle.minijinja_code.specs.Correct.{Does};
-ghost use Rattle.minijinja_code.specs.Generator.{list_of, generated, counted_bytes, blocks_of, refusal_of, OnlyWhereTooLong};
+ghost use Rattle.minijinja_tree.specs.WellFormed.{IsTarget, IsWhole, IsInner, AreInner, IsWellFormed};
+ghost use Rattle.minijinja_code.specs.Instructions.{code_of};
+ghost use Rattle.minijinja_code.specs.Correct.{Does, DoesExpr};
+ghost use Rattle.minijinja_code.specs.Generator.{generated, here_so_far, counted_bytes, blocks_of, file_of, text_of, refusal_of, OnlyWhereTooLong};
+ghost use Rattle.minijinja_code.specs.Calls.{written};
 ghost use Rattle.minijinja_code.specs.Hint.{IsHint, data_bytes, all_data_bytes};
 ghost use Rattle.minijinja_code.specs.InstructionLists.{IsAddError, name_of, source_of};
-ghost use Rattle.minijinja_code.specs.Layout.{expr_code, target_code, stmt_code, stmts_code};
+ghost use Rattle.minijinja_code.specs.Layout.{expr_code, past_expr, target_code, past_target, stmt_code, past_stmt};
+ghost use Rattle.minijinja_code.specs.Layout as layout;
+ghost use Rattle.minijinja_code.specs.Making.{made_of, IsAdded};
+ghost use Rattle.minijinja_code.specs.Pieces.{start};
 
-use crate::instructions::{Instruction, Instructions};
+mod arguments;
+mod chain;
+mod constants;
+mod emit;
+mod expr;
+mod names;
+mod output;
+
+use crate::codegen::emit::Emitter;
+use crate::codegen::expr::expression;
+use crate::codegen::output::{Output, output_of};
+use crate::instructions::{Instruction, Instructions, listed};
 use minijinja_base::error::Error;
 use minijinja_base::value::TemplateValue;
 use minijinja_tree::ast::{Expr, Stmt};
@@ -22,7 +36,9 @@ use std::collections::BTreeMap;
 /// Makes the instructions of trees. After a refusal it answers that refusal from then on.
 #[derive(Drop)]
 pub struct CodeGenerator<'s, V: TemplateValue> {
-    instructions: Instructions<'s, V>,
+    code: Emitter<'s, V>,
+    file: &'s str,
+    source: &'s str,
     blocks: BTreeMap<&'s str, Instructions<'s, V>>,
     raw_template_bytes: usize,
     refusal: Option<Error<'s>>,
@@ -32,27 +48,32 @@ impl<'s, V: TemplateValue> CodeGenerator<'s, V> {
     /// A generator with an empty list, for a source with this name and text. It takes no memory yet.
     pub fn new(alloc: Global, file: &'s str, source: &'s str) -> Self
         ensures empty { generated V.contents result ≡ [] }
+        ensures here { here_so_far V.contents result ≡ start }
         ensures bytes { counted_bytes result ≡ 0 }
         ensures refusal { refusal_of result ≡ None }
         ensures blocks { IsEmpty (blocks_of result) }
-        ensures name { name_of (list_of result) ≡ file.now }
-        ensures source { source_of (list_of result) ≡ source.now }
+        ensures name { file_of result ≡ file.now }
+        ensures source { text_of result ≡ source.now }
     {
         CodeGenerator {
-            instructions: Instructions::new(alloc, file, source),
+            code: Emitter::new(alloc),
+            file,
+            source,
             blocks: BTreeMap::new(alloc),
             raw_template_bytes: 0,
             refusal: None,
         }
     }
 
-    /// Adds the instructions of a statement.
+    /// Adds the instructions of a statement. Refused are memory, and a list that would have 2^32 instructions or more; that refusal
+    /// comes again from then on.
     pub fn compile_stmt(&mut self, stmt: &Stmt<'s, V>) -> Result<(), Error<'s>>
         requires { IsWellFormed (stmt_tree V.contents stmt.now) }
         ensures added { OnOk result (generated V.contents self.new
-            ≡ generated V.contents self.old ++ stmt_code (stmt_tree V.contents stmt.now) (length (generated V.contents self.old))) }
+            ≡ generated V.contents self.old ++ stmt_code V.functions (stmt_tree V.contents stmt.now) (here_so_far V.contents self.old)) }
+        ensures past { OnOk result (here_so_far V.contents self.new ≡ past_stmt V.functions (stmt_tree V.contents stmt.now) (here_so_far V.contents self.old)) }
         // Entered where they begin, they do what the statement means.
-        ensures does { OnOk result (Does V.FaultContents (generated V.contents self.new)
+        ensures does { OnOk result (Does V.functions (generated V.contents self.new)
             (length (generated V.contents self.old)) (length (generated V.contents self.new)) (stmt_tree V.contents stmt.now)) }
         ensures counted { OnOk result (counted_bytes self.new
             ≡ min usize.MAX (counted_bytes self.old + data_bytes (stmt_tree V.contents stmt.now))) }
@@ -60,19 +81,19 @@ impl<'s, V: TemplateValue> CodeGenerator<'s, V> {
         // Refused are memory, and a list that would have 2 ^ 32 instructions; a refusal comes again from then on.
         ensures causes { IfNone (refusal_of self.old) (IfErr result IsAddError) }
         ensures too_many { IfNone (refusal_of self.old) (IfErr result (λ e. OnlyWhereTooLong e
-            (generated V.contents self.old ++ stmt_code (stmt_tree V.contents stmt.now) (length (generated V.contents self.old))))) }
+            (generated V.contents self.old ++ stmt_code V.functions (stmt_tree V.contents stmt.now) (here_so_far V.contents self.old)))) }
         ensures kept { IfErr result (λ e. refusal_of self.new ≡ Some e) }
         ensures again { IfSome (refusal_of self.old) (λ e. result ≡ Err e) }
         ensures ready { OnOk result (refusal_of self.new ≡ None) }
 
         ensures blocks { blocks_of self.new ≡ blocks_of self.old }
-        ensures name { name_of (list_of self.new) ≡ name_of (list_of self.old) }
-        ensures source { source_of (list_of self.new) ≡ source_of (list_of self.old) }
+        ensures name { file_of self.new ≡ file_of self.old }
+        ensures source { text_of self.new ≡ text_of self.old }
     {
         if let Some(error) = self.refusal {
             return Err(error);
         }
-        match compile_stmt(&mut self.instructions, stmt) {
+        match compile_stmt(&mut self.code, stmt) {
             Ok(data_bytes) => {
                 self.raw_template_bytes = self.raw_template_bytes.saturating_add(data_bytes);
                 Ok(())
@@ -84,27 +105,90 @@ impl<'s, V: TemplateValue> CodeGenerator<'s, V> {
         }
     }
 
-    /// How large a buffer the output may want: the least power of two at or over twice the bytes of the data nodes so far,
-    /// and at most 2^63.
+    /// Adds the instructions of an expression, which leave its value on top. The refusals are those of `compile_stmt`.
+    pub fn compile_expr(&mut self, expr: &Expr<'s, V>) -> Result<(), Error<'s>>
+        requires { IsWhole (expr_tree V.contents expr.now) }
+        ensures added { OnOk result (generated V.contents self.new
+            ≡ generated V.contents self.old ++ expr_code V.functions (expr_tree V.contents expr.now) (here_so_far V.contents self.old)) }
+        ensures past { OnOk result (here_so_far V.contents self.new ≡ past_expr V.functions (expr_tree V.contents expr.now) (here_so_far V.contents self.old)) }
+        // Entered where they begin, they leave the value that the expression means.
+        ensures does { OnOk result (DoesExpr V.functions (generated V.contents self.new)
+            (length (generated V.contents self.old)) (length (generated V.contents self.new)) (expr_tree V.contents expr.now)) }
+        ensures causes { IfNone (refusal_of self.old) (IfErr result IsAddError) }
+        ensures too_many { IfNone (refusal_of self.old) (IfErr result (λ e. OnlyWhereTooLong e
+            (generated V.contents self.old ++ expr_code V.functions (expr_tree V.contents expr.now) (here_so_far V.contents self.old)))) }
+        ensures kept { IfErr result (λ e. refusal_of self.new ≡ Some e) }
+        ensures again { IfSome (refusal_of self.old) (λ e. result ≡ Err e) }
+        ensures ready { OnOk result (refusal_of self.new ≡ None) }
+        ensures counted { counted_bytes self.new ≡ counted_bytes self.old }
+        ensures blocks { blocks_of self.new ≡ blocks_of self.old }
+        ensures name { file_of self.new ≡ file_of self.old }
+        ensures source { text_of self.new ≡ text_of self.old }
+    {
+        if let Some(error) = self.refusal {
+            return Err(error);
+        }
+        match expression(&mut self.code, expr) {
+            Ok(()) => Ok(()),
+            Err(error) => {
+                self.refusal = Some(error);
+                Err(error)
+            }
+        }
+    }
+
+    /// Adds the instructions that assign the value on top to a target. The refusals are those of `compile_stmt`.
+    pub fn compile_assignment(&mut self, target: &Expr<'s, V>) -> Result<(), Error<'s>>
+        requires { IsTarget (expr_tree V.contents target.now) }
+        ensures added { OnOk result (generated V.contents self.new
+            ≡ generated V.contents self.old ++ target_code (expr_tree V.contents target.now) (here_so_far V.contents self.old)) }
+        ensures past { OnOk result (here_so_far V.contents self.new ≡ past_target (expr_tree V.contents target.now) (here_so_far V.contents self.old)) }
+        ensures causes { IfNone (refusal_of self.old) (IfErr result IsAddError) }
+        ensures too_many { IfNone (refusal_of self.old) (IfErr result (λ e. OnlyWhereTooLong e
+            (generated V.contents self.old ++ target_code (expr_tree V.contents target.now) (here_so_far V.contents self.old)))) }
+        ensures kept { IfErr result (λ e. refusal_of self.new ≡ Some e) }
+        ensures again { IfSome (refusal_of self.old) (λ e. result ≡ Err e) }
+        ensures ready { OnOk result (refusal_of self.new ≡ None) }
+        ensures counted { counted_bytes self.new ≡ counted_bytes self.old }
+        ensures blocks { blocks_of self.new ≡ blocks_of self.old }
+        ensures name { file_of self.new ≡ file_of self.old }
+        ensures source { text_of self.new ≡ text_of self.old }
+    {
+        if let Some(error) = self.refusal {
+            return Err(error);
+        }
+        match assign(&mut self.code, target) {
+            Ok(()) => Ok(()),
+            Err(error) => {
+                self.refusal = Some(error);
+                Err(error)
+            }
+        }
+    }
+
+    /// How large a buffer the output may want, in bytes: the least power of two at or over twice the bytes of the data nodes so
+    /// far, and at most 2^63.
     pub fn buffer_size_hint(&self) -> usize
         ensures { IsHint (counted_bytes self.now) result }
     {
         (self.raw_template_bytes.min(LARGEST_HINT / 2) * 2).next_power_of_two()
     }
 
-    /// The list, and the blocks' lists by their names.
+    /// The list, and the blocks' lists by their names. After a refusal the list is not whole.
     pub fn finish(self) -> (Instructions<'s, V>, BTreeMap<&'s str, Instructions<'s, V>>)
         ensures code { code_of V.contents result.0 ≡ generated V.contents self.entry }
         ensures blocks { result.1 ≡ blocks_of self.entry }
-        ensures name { name_of result.0 ≡ name_of (list_of self.entry) }
-        ensures source { source_of result.0 ≡ source_of (list_of self.entry) }
+        ensures name { name_of result.0 ≡ file_of self.entry }
+        ensures source { source_of result.0 ≡ text_of self.entry }
     {
         let CodeGenerator {
-            instructions,
+            code,
+            file,
+            source,
             blocks,
             ..
         } = self;
-        (instructions, blocks)
+        (listed(code.into_list(), file, source), blocks)
     }
 }
 
@@ -112,18 +196,12 @@ const LARGEST_HINT: usize = 1 << 63;
 
 /// Adds the instructions of a statement, and answers the bytes of its data nodes.
 fn compile_stmt<'s, V: TemplateValue>(
-    code: &mut Instructions<'s, V>,
+    code: &mut Emitter<'s, V>,
     stmt: &Stmt<'s, V>,
-) -> Result<usize, Error<'s>>
+) -> Result<usize, Error<'static>>
     requires { IsWellFormed (stmt_tree V.contents stmt.now) }
-    ensures added { OnOk result (code_of V.contents code.new
-        ≡ code_of V.contents code.old ++ stmt_code (stmt_tree V.contents stmt.now) (length (code_of V.contents code.old))) }
+    ensures added { IsAdded (made_of V.contents code.old) (layout.stmt V.functions (stmt_tree V.contents stmt.now)) result (made_of V.contents code.new) }
     ensures counted { IfOk result (λ n. n ≡ min usize.MAX (data_bytes (stmt_tree V.contents stmt.now))) }
-    ensures causes { IfErr result IsAddError }
-    ensures too_many { IfErr result (λ e. OnlyWhereTooLong e
-        (code_of V.contents code.old ++ stmt_code (stmt_tree V.contents stmt.now) (length (code_of V.contents code.old)))) }
-    ensures name { name_of code.new ≡ name_of code.old }
-    ensures source { source_of code.new ≡ source_of code.old }
 {
     match stmt {
         Stmt::Template(template) => compile_all(code, &template.node().children),
@@ -133,18 +211,12 @@ fn compile_stmt<'s, V: TemplateValue>(
 
 /// The same, of statements one after another.
 fn compile_all<'s, V: TemplateValue>(
-    code: &mut Instructions<'s, V>,
+    code: &mut Emitter<'s, V>,
     stmts: &[Stmt<'s, V>],
-) -> Result<usize, Error<'s>>
+) -> Result<usize, Error<'static>>
     requires { AreInner (stmts_of (map (stmt_tree V.contents) stmts.now)) }
-    ensures added { OnOk result (code_of V.contents code.new
-        ≡ code_of V.contents code.old ++ stmts_code (stmts_of (map (stmt_tree V.contents) stmts.now)) (length (code_of V.contents code.old))) }
+    ensures added { IsAdded (made_of V.contents code.old) (layout.stmts V.functions (stmts_of (map (stmt_tree V.contents) stmts.now))) result (made_of V.contents code.new) }
     ensures counted { IfOk result (λ n. n ≡ min usize.MAX (all_data_bytes (stmts_of (map (stmt_tree V.contents) stmts.now)))) }
-    ensures causes { IfErr result IsAddError }
-    ensures too_many { IfErr result (λ e. OnlyWhereTooLong e
-        (code_of V.contents code.old ++ stmts_code (stmts_of (map (stmt_tree V.contents) stmts.now)) (length (code_of V.contents code.old)))) }
-    ensures name { name_of code.new ≡ name_of code.old }
-    ensures source { source_of code.new ≡ source_of code.old }
 {
     let mut data_bytes = 0usize;
     for stmt in stmts {
@@ -155,18 +227,12 @@ fn compile_all<'s, V: TemplateValue>(
 
 /// The same, of a statement that stands in a template.
 fn compile_inner<'s, V: TemplateValue>(
-    code: &mut Instructions<'s, V>,
+    code: &mut Emitter<'s, V>,
     stmt: &Stmt<'s, V>,
-) -> Result<usize, Error<'s>>
+) -> Result<usize, Error<'static>>
     requires { IsInner (stmt_tree V.contents stmt.now) }
-    ensures added { OnOk result (code_of V.contents code.new
-        ≡ code_of V.contents code.old ++ stmt_code (stmt_tree V.contents stmt.now) (length (code_of V.contents code.old))) }
+    ensures added { IsAdded (made_of V.contents code.old) (layout.stmt V.functions (stmt_tree V.contents stmt.now)) result (made_of V.contents code.new) }
     ensures counted { IfOk result (λ n. n ≡ data_bytes (stmt_tree V.contents stmt.now)) }
-    ensures causes { IfErr result IsAddError }
-    ensures too_many { IfErr result (λ e. OnlyWhereTooLong e
-        (code_of V.contents code.old ++ stmt_code (stmt_tree V.contents stmt.now) (length (code_of V.contents code.old)))) }
-    ensures name { name_of code.new ≡ name_of code.old }
-    ensures source { source_of code.new ≡ source_of code.old }
 {
     match stmt {
         Stmt::Template(_) => unreachable!(),
@@ -176,66 +242,63 @@ fn compile_inner<'s, V: TemplateValue>(
             Ok(raw.len())
         }
         Stmt::EmitExpr(output) => {
-            compile_expr(code, &output.node().expr)?;
-            code.add(Instruction::Emit)?;
+            emit_expr(code, &output.node().expr)?;
             Ok(0)
         }
         Stmt::Set(set) => {
             let node = set.node();
-            compile_expr(code, &node.expr)?;
-            compile_assignment(code, &node.target)?;
+            expression(code, &node.expr)?;
+            assign(code, &node.target)?;
             Ok(0)
         }
     }
 }
 
-fn compile_assignment<'s, V: TemplateValue>(
-    code: &mut Instructions<'s, V>,
+/// Adds the code of an output: a call of `super` without arguments, of `loop` with one positional argument, or of a block is
+/// written apart.
+fn emit_expr<'s, V: TemplateValue>(
+    code: &mut Emitter<'s, V>,
+    expr: &Expr<'s, V>,
+) -> Result<(), Error<'static>>
+    requires { IsWhole (expr_tree V.contents expr.now) }
+    ensures { IsAdded (made_of V.contents code.old) (layout.write V.functions (written (expr_tree V.contents expr.now)) (layout.expr V.functions (expr_tree V.contents expr.now)))
+        result (made_of V.contents code.new) }
+{
+    match output_of(expr) {
+        Output::Super => {
+            code.add(Instruction::FastSuper)?;
+            Ok(())
+        }
+        Output::Recursion(items) => {
+            expression(code, items)?;
+            code.add(Instruction::FastRecurse)?;
+            Ok(())
+        }
+        Output::Block(name) => {
+            code.add(Instruction::CallBlock(name))?;
+            Ok(())
+        }
+        Output::Plain => {
+            expression(code, expr)?;
+            code.add(Instruction::Emit)?;
+            Ok(())
+        }
+    }
+}
+
+fn assign<'s, V: TemplateValue>(
+    code: &mut Emitter<'s, V>,
     target: &Expr<'s, V>,
-) -> Result<(), Error<'s>>
+) -> Result<(), Error<'static>>
     requires { IsTarget (expr_tree V.contents target.now) }
-    ensures added { (at : _) → OnOk result (code_of V.contents code.new
-        ≡ code_of V.contents code.old ++ target_code (expr_tree V.contents target.now) at) }
-    ensures causes { IfErr result IsAddError }
-    ensures too_many { (at : _) → IfErr result (λ e. OnlyWhereTooLong e
-        (code_of V.contents code.old ++ target_code (expr_tree V.contents target.now) at)) }
-    ensures name { name_of code.new ≡ name_of code.old }
-    ensures source { source_of code.new ≡ source_of code.old }
+    ensures { IsAdded (made_of V.contents code.old) (layout.target (expr_tree V.contents target.now)) result (made_of V.contents code.new) }
 {
     match target {
         Expr::Var(var) => {
             code.add(Instruction::StoreLocal(var.node().id))?;
             Ok(())
         }
+        #[tactic(auto, using(crate::proofs::Outputs::target_is_variable))]
         _ => unreachable!(),
     }
-}
-
-fn compile_expr<'s, V: TemplateValue>(
-    code: &mut Instructions<'s, V>,
-    expr: &Expr<'s, V>,
-) -> Result<(), Error<'s>>
-    ensures added { OnOk result (code_of V.contents code.new
-        ≡ code_of V.contents code.old ++ expr_code (expr_tree V.contents expr.now) (length (code_of V.contents code.old))) }
-    ensures causes { IfErr result IsAddError }
-    ensures too_many { IfErr result (λ e. OnlyWhereTooLong e
-        (code_of V.contents code.old ++ expr_code (expr_tree V.contents expr.now) (length (code_of V.contents code.old)))) }
-    ensures name { name_of code.new ≡ name_of code.old }
-    ensures source { source_of code.new ≡ source_of code.old }
-{
-    match expr {
-        Expr::Var(var) => {
-            code.add(Instruction::Lookup(var.node().id))?;
-        }
-        Expr::Const(constant) => {
-            let value = constant.node().value.try_clone()?;
-            code.add(Instruction::LoadConst(value))?;
-        }
-        Expr::GetAttr(attribute) => {
-            let node = attribute.node();
-            compile_expr(code, &node.expr)?;
-            code.add(Instruction::GetAttr(node.name))?;
-        }
-    }
-    Ok(())
 }

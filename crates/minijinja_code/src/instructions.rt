@@ -1,5 +1,5 @@
 //! Instructions, and lists of them.
-ghost use Rattle.std.specs.Prelude.{◌≡◌, ◌+◌, ◌≤◌, ◌<◌, ◌^◌, ◌==◌, ◌++◌, ◌∷◌, [], ◌↔◌, length, slice_get, IfOk, IfErr, OnErr, IsErr, Option};
+ghost use Rattle.std.specs.Prelude.{◌≡◌, ◌+◌, ◌≤◌, ◌<◌, ◌^◌, ◌==◌, ◌++◌, ◌∷◌, [], ◌↔◌, length, slice_get, IfOk, IfErr, OnOk, OnErr, IsErr, Option};
 ghost use Rattle.std.specs.Option.{option_copied};
 ghost use Rattle.minijinja_base.specs.Errors.{kind_of};
 ghost use Rattle.minijinja_base.specs.declared.error.ErrorKind.TheVariants.{OutOfMemory, TooManyInstructions};
@@ -9,21 +9,137 @@ use minijinja_base::error::{Detail, Error, ErrorKind};
 use minijinja_base::value::TemplateValue;
 use std::alloc::Global;
 
-/// An instruction of a rendering machine. Its texts are slices of the source.
+/// The number of a filter's or test's name among those of its list.
+pub type LocalId = u8;
+
+/// How many names of filters, and of tests, of a list have a number of their own. Later names have 255.
+pub const MAX_LOCALS: usize = 50;
+
+/// A comparison of a chain. `In` is whether the left value is in the right one.
+#[derive(Clone, Copy, Debug, PartialEq, Eq)]
+pub enum CompareOp {
+    Eq,
+    Ne,
+    Lt,
+    Lte,
+    Gt,
+    Gte,
+    In,
+    NotIn,
+}
+
+/// What becomes of output while it is captured.
+#[derive(Clone, Copy, Debug, PartialEq, Eq)]
+pub enum CaptureMode {
+    /// It is kept, and the end of the capture gives it.
+    Capture,
+    /// It is dropped.
+    Discard,
+}
+
+/// An instruction of a rendering machine. Its texts are slices of the source, and its jumps lead to indexes of its list.
 #[derive(Drop)]
 pub enum Instruction<'s, V: TemplateValue> {
     /// Writes text that stands outside of tags.
     EmitRaw(&'s str),
+    /// Pops a value and stores it under a name.
+    StoreLocal(&'s str),
     /// Pushes the value of a variable.
     Lookup(&'s str),
     /// Replaces the top operand by one of its attributes.
     GetAttr(&'s str),
+    /// Replaces an object and a key by the object's item.
+    GetItem,
+    /// Replaces an object, a start, a stop and a step by a slice of the object.
+    Slice,
     /// Pushes a constant.
     LoadConst(V),
-    /// Pops a value and stores it under a name.
-    StoreLocal(&'s str),
+    /// Replaces so many pairs of a key and a value by a map.
+    BuildMap(usize),
+    /// Replaces so many pairs of a name and a value by a map of keyword arguments.
+    BuildKwargs(usize),
+    /// Replaces so many maps of keyword arguments by one.
+    MergeKwargs(usize),
+    /// Replaces so many values by a list, or for `None` as many as the count on top of them says.
+    BuildList(Option<usize>),
+    /// Replaces so many values by a tuple, or for `None` as many as the count on top of them says.
+    BuildTuple(Option<usize>),
+    /// Replaces so many lists by their items and the count of these.
+    UnpackLists(usize),
+    /// Replaces two values by their sum.
+    Add,
+    /// Replaces two values by their difference.
+    Sub,
+    /// Replaces two values by their product.
+    Mul,
+    /// Replaces two values by their quotient.
+    Div,
+    /// Replaces two values by their quotient as an integer.
+    IntDiv,
+    /// Replaces two values by the remainder.
+    Rem,
+    /// Replaces two values by a power.
+    Pow,
+    /// Replaces a value by the one with the other sign.
+    Neg,
+    /// Replaces two values by whether they are equal.
+    Eq,
+    /// Replaces two values by whether they are not equal.
+    Ne,
+    /// Replaces two values by whether the first is greater.
+    Gt,
+    /// Replaces two values by whether the first is greater or equal.
+    Gte,
+    /// Replaces two values by whether the first is less.
+    Lt,
+    /// Replaces two values by whether the first is less or equal.
+    Lte,
+    /// Replaces a value by whether it is false.
+    Not,
+    /// Replaces two values by their joined texts.
+    StringConcat,
+    /// Replaces two values by whether the first is in the second.
+    In,
+    /// Replaces two values by the second and whether their comparison holds.
+    CompareAndPreserve(CompareOp),
+    /// Replaces the arguments by what a filter makes of them. Their number is `None` where a count on top of them says it.
+    ApplyFilter(&'s str, Option<u16>, LocalId),
+    /// Replaces the arguments by whether a test of them succeeds. Their number is `None` where a count on top of them says it.
+    PerformTest(&'s str, Option<u16>, LocalId),
     /// Pops a value and writes it.
     Emit,
+    /// Goes to an index.
+    Jump(u32),
+    /// Pops a value, and goes to an index if it is false.
+    JumpIfFalse(u32),
+    /// Goes to an index if the top operand is false, else pops it.
+    JumpIfFalseOrPop(u32),
+    /// Goes to an index if the top operand is true, else pops it.
+    JumpIfTrueOrPop(u32),
+    /// Begins to capture what is written.
+    BeginCapture(CaptureMode),
+    /// Ends the capture that began last, and pushes what it kept.
+    EndCapture,
+    /// Replaces the arguments by what a function gives. Their number is `None` where a count on top of them says it.
+    CallFunction(&'s str, Option<u16>),
+    /// Replaces an object and the arguments by what its method gives. The number counts the object too, and is `None` where a
+    /// count on top of them says it.
+    CallMethod(&'s str, Option<u16>),
+    /// Replaces an object and the arguments by what a call of it gives. The number counts the object too, and is `None` where a
+    /// count on top of them says it.
+    CallObject(Option<u16>),
+    /// Pushes the top operand again.
+    DupTop,
+    /// Pops the top operand.
+    DiscardTop,
+    /// Writes what the block of this name holds above.
+    FastSuper,
+    /// Pops a value and goes through the loop again on its items.
+    FastRecurse,
+    /// Swaps the two top operands.
+    Swap,
+    /// Writes a block.
+    CallBlock(&'s str),
 }
 
 /// How many instructions a list may not reach.
@@ -79,7 +195,7 @@ impl<'s, V: TemplateValue> Instructions<'s, V> {
         self.instructions.is_empty()
     }
 
-    /// The instruction at an index, from 0.
+    /// The instruction at an index, from 0, or none where the list has ended.
     pub fn get(&self, index: u32) -> Option<&Instruction<'s, V>>
         ensures { option_copied result ≡ slice_get (instructions_of self.now) index }
     {
@@ -99,15 +215,48 @@ impl<'s, V: TemplateValue> Instructions<'s, V> {
         ensures source { source_of self.new ≡ source_of self.old }
     {
         let index = self.instructions.len();
-        if index + 1 >= LIMIT {
-            return Err(Error::new(
-                ErrorKind::TooManyInstructions,
-                Detail::TooManyInstructions,
-                None,
-                None,
-            ));
-        }
-        self.instructions.push(instruction)?;
+        push_within(&mut self.instructions, instruction)?;
         Ok(index as u32)
+    }
+}
+
+/// Adds an instruction to a list, with the same refusals.
+pub(crate) fn push_within<'s, V: TemplateValue>(
+    list: &mut Vec<Instruction<'s, V>>,
+    instruction: Instruction<'s, V>,
+) -> Result<(), Error<'static>>
+    ensures added { OnOk result (list.new.items ≡ list.old.items ++ instruction.entry ∷ []) }
+    ensures unchanged { OnErr result (list.new.items ≡ list.old.items) }
+    ensures fits { OnOk result (length list.new.items < 2 ^ 32) }
+    ensures causes { IfErr result IsAddError }
+    ensures too_many { IfErr result (λ e. kind_of e ≡ TooManyInstructions → 2 ^ 32 ≤ length list.old.items + 1) }
+    ensures full { 2 ^ 32 ≤ length list.old.items + 1 → IfErr result (λ e. kind_of e ≡ TooManyInstructions) × IsErr result }
+{
+    if list.len() + 1 >= LIMIT {
+        return Err(Error::new(
+            ErrorKind::TooManyInstructions,
+            Detail::TooManyInstructions,
+            None,
+            None,
+        ));
+    }
+    list.push(instruction)?;
+    Ok(())
+}
+
+/// A list of these instructions, which are fewer than 2^32.
+pub(crate) fn listed<'s, V: TemplateValue>(
+    instructions: Vec<Instruction<'s, V>>,
+    name: &'s str,
+    source: &'s str,
+) -> Instructions<'s, V>
+    ensures instructions { instructions_of result ≡ instructions.entry.items }
+    ensures name { name_of result ≡ name.now }
+    ensures source { source_of result ≡ source.now }
+{
+    Instructions {
+        instructions,
+        name,
+        source,
     }
 }

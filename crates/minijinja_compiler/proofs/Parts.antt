@@ -1,20 +1,23 @@
 -- What the layers say, put together.
-use Rattle.std.proofs.Common.{◌≡◌, ℕ, ◌+◌, ◌*◌, ◌^◌, ◌<◌, ◌≤◌, min, List, [], ◌++◌, length, sym, ap, ◌∙◌, subst, arith, inl, inr, ⊎_elim}
+use Rattle.std.proofs.Common.{◌≡◌, ℕ, ◌+◌, ◌*◌, ◌^◌, ◌<◌, ◌≤◌, min, List, [], ◌++◌, length, sym, ap, ◌∙◌, subst, arith, inl, inr, ⊎_elim, Option, Some, None, IfNone, Result, Ok, Err, IfErr, IsErrAnd}
 use Rattle.std.proofs.lemmas.Bool.{cases_lt}
-use Rattle.minijinja_tree.specs.Tree.{Stmt}
+use Rattle.minijinja_base.specs.declared.error.Error.{Error}
+use Rattle.minijinja_parser.specs.Causes.{IsRefusal}
 use Rattle.minijinja_code.specs.Code.{Instr}
-use Rattle.minijinja_code.specs.Layout.{stmt_code}
-use Rattle.minijinja_code.specs.Correct.{Does}
+use Rattle.minijinja_code.specs.InstructionLists.{IsAddError}
+use Rattle.minijinja_code.specs.Pieces.{Here, start}
 use Rattle.minijinja_code.specs.Hint.{IsHint}
 
 -- what is added to an empty list is the list
-pub whole_code : {C : Type 0} (before after code : List (Instr C)) (t : Stmt C) → before ≡ [] → after ≡ before ++ stmt_code t (length before) → code ≡ after → code ≡ stmt_code t 0
-whole_code before after code t empty added e = e ∙ added ∙ ap (λ (is : List (Instr _)). is ++ stmt_code t (length is)) empty
+pub whole_code : {C : Type 0} (before after code : List (Instr C)) (here : Here) (p : Here → List (Instr C)) → before ≡ [] → here ≡ start → after ≡ before ++ p here → code ≡ after → code ≡ p start
+whole_code before after code here p empty at added e =
+    e ∙ added ∙ ap (λ (is : List (Instr _)). is ++ p here) empty ∙ ap p at
 
-pub whole_does : {C : Type 0} (F : Type 0) (before after code : List (Instr C)) (t : Stmt C) → before ≡ [] → Does F after (length before) (length after) t → code ≡ after → Does F code 0 (length code) t
-whole_does F before after code t empty d e =
-    subst (λ (is : List (Instr _)). Does F is 0 (length is) t) (sym e)
-    (subst (λ (is : List (Instr _)). Does F after (length is) (length after) t) empty d)
+-- what holds of what was added to an empty list holds of the list
+pub whole_does : {C : Type 0} (Holds : List (Instr C) → ℕ → ℕ → Type 0) (before after code : List (Instr C)) → before ≡ [] → Holds after (length before) (length after) → code ≡ after → Holds code 0 (length code)
+whole_does Holds before after code empty d e =
+    subst (λ (is : List (Instr _)). Holds is 0 (length is)) (sym e)
+    (subst (λ (is : List (Instr _)). Holds after (length is) (length after)) empty d)
 
 -- bytes past 2 ^ 64 - 1 make no difference to the hint
 pub hint_of_all : (bytes counted start hint : ℕ) → start ≡ 0 → counted ≡ min 18446744073709551615 (start + bytes) → IsHint counted hint → IsHint bytes hint
@@ -32,3 +35,16 @@ hint_of_all bytes counted start hint none is h =
           h.enough;
       least = λ k le. h.least k (omega arith);
     }
+
+-- what refuses an instruction is no fault of the text
+limit_not_refusal : (e : Error) → IsAddError e → IsRefusal e → ⊥
+limit_not_refusal e (inl memory) (inl syntax) = cc
+limit_not_refusal e (inl memory) (inr escape) = cc
+limit_not_refusal e (inr many) (inl syntax) = cc
+limit_not_refusal e (inr many) (inr escape) = cc
+
+-- so nothing is said of it where a fault of the text is told
+pub never_refusal : {A : Type 0} (P : Error → Type 0) (kept : Option Error) (e : Error) (r : Result A Error) → kept ≡ None → IfNone kept (IsAddError e) → IsErrAnd r (λ x. x ≡ e) → IfErr r (λ x. IsRefusal x → P x)
+never_refusal P None e (Err x) none h same = λ refusal. absurd (limit_not_refusal e h (subst (λ y. IsRefusal y) same refusal))
+never_refusal P None e (Ok a) none h same = absurd same
+never_refusal P (Some k) e r none h same = cc

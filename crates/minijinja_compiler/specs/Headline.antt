@@ -1,19 +1,21 @@
 -- The main theorem: what is compiled is the one tree of the text, and its code does what the tree means.
-use Rattle.std.specs.Prelude.{◌≡◌, ◌≤◌, ◌^◌, ◌⊎◌, length}
+use Rattle.std.specs.Prelude.{◌≡◌, ◌≤◌, ◌^◌, ◌⊎◌, length, codes}
 use Rattle.std.specs.BTreeMap.{IsEmpty}
 use Rattle.minijinja_base.specs.Values.{Text, Functions}
-use Rattle.minijinja_base.specs.Syntax.{Syntax}
+use Rattle.minijinja_base.specs.Syntax.{Syntax, default_syntax}
 use Rattle.minijinja_base.specs.Errors.{kind_of}
 use Rattle.minijinja_base.specs.declared.error.Error.{Error}
 use Rattle.minijinja_base.specs.declared.error.ErrorKind.TheVariants.{OutOfMemory, SourceTooLong, TooManyInstructions}
-use Rattle.minijinja_tree.specs.Tree.{Stmt}
+use Rattle.minijinja_tree.specs.Tree.{Expr, Stmt}
 use Rattle.minijinja_parser.specs.Causes.{IsRefusal}
-use Rattle.minijinja_parser.specs.Derived.{IsDerived}
-use Rattle.minijinja_code.specs.Code.{code_of}
-use Rattle.minijinja_code.specs.Layout.{stmt_code}
-use Rattle.minijinja_code.specs.Correct.{Does}
+use Rattle.minijinja_parser.specs.Derived.{IsDerived, IsExprDerived}
+use Rattle.minijinja_code.specs.Instructions.{code_of}
+use Rattle.minijinja_code.specs.Pieces.{start}
+use Rattle.minijinja_code.specs.Layout.{expr_code, stmt_code}
+use Rattle.minijinja_code.specs.Correct.{Does, DoesExpr}
 use Rattle.minijinja_code.specs.Hint.{IsHint, data_bytes}
 use Rattle.minijinja_code.specs.InstructionLists.{name_of, source_of}
+use Rattle.minijinja_code.specs.declared.instructions.Instructions.{Instructions}
 use Rattle.minijinja_compiler.specs.declared.compile.Compiled.{Compiled}
 
 -- There is one tree that the grammar derives of the text. The code is its layout. Entered at the template, with any operands and
@@ -22,18 +24,34 @@ pub record IsCompiled {V E C F : Type 0} (f : Functions C F) (contents : V → C
   pub tree : Stmt C
   pub derived : IsDerived f syntax source tree
   pub only : (t : Stmt C) → IsDerived f syntax source t → t ≡ tree
-  pub code : code_of contents c.instructions ≡ stmt_code tree 0
-  pub does : Does F (code_of contents c.instructions) 0 (length (code_of contents c.instructions)) tree
+  pub code : code_of contents c.instructions ≡ stmt_code f tree start
+  pub does : Does f (code_of contents c.instructions) 0 (length (code_of contents c.instructions)) tree
   pub hint : IsHint (data_bytes tree) c.buffer_size_hint
   pub no_blocks : IsEmpty c.blocks
   pub name : name_of c.instructions ≡ filename
   pub text : source_of c.instructions ≡ source
 
+-- The same of a text that is one expression: its code leaves the expression's value.
+pub record IsCompiledExpr {V E C F : Type 0} (f : Functions C F) (contents : V → C) (source : Text) (c : Instructions V E) : Type 0 where
+  pub tree : Expr C
+  pub derived : IsExprDerived f default_syntax source tree
+  pub only : (t : Expr C) → IsExprDerived f default_syntax source t → t ≡ tree
+  pub code : code_of contents c ≡ expr_code f tree start
+  pub does : DoesExpr f (code_of contents c) 0 (length (code_of contents c)) tree
+  pub name : name_of c ≡ codes "<expression>"
+  pub text : source_of c ≡ source
+
 -- a tree of the text has too much code
 pub record HasTooLongCode {C F : Type 0} (f : Functions C F) (syntax : Syntax) (source : Text) : Type 0 where
   pub tree : Stmt C
   pub derived : IsDerived f syntax source tree
-  pub long : 2 ^ 32 ≤ length (stmt_code tree 0)
+  pub long : 2 ^ 32 ≤ length (stmt_code f tree start)
+
+-- the tree of an expression has too much code
+pub record HasTooLongExprCode {C F : Type 0} (f : Functions C F) (source : Text) : Type 0 where
+  pub tree : Expr C
+  pub derived : IsExprDerived f default_syntax source tree
+  pub long : 2 ^ 32 ≤ length (expr_code f tree start)
 
 -- a limit stands against a text that the grammar derives: memory, its length or that of its code
 abbrev pub IsLimit : Error → Type 0

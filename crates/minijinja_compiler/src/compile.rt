@@ -3,17 +3,18 @@ ghost use Rattle.std.specs.Prelude.{◌≡◌, ◌≤◌, ◌^◌, length, IfErr
 ghost use Rattle.minijinja_base.specs.Errors.{kind_of, span_of};
 ghost use Rattle.minijinja_base.specs.declared.error.ErrorKind.TheVariants.{BadEscape, SourceTooLong, TooManyInstructions};
 ghost use Rattle.minijinja_lexer.specs.Stream as ending;
-ghost use Rattle.minijinja_lexer.specs.TextTokens.{tokens_of_template};
+ghost use Rattle.minijinja_lexer.specs.TextTokens.{tokens_of_template, tokens_of_expression};
 ghost use Rattle.minijinja_parser.specs.Causes.{IsRefusal};
-ghost use Rattle.minijinja_parser.specs.Derived.{IsDerived};
-ghost use Rattle.minijinja_compiler.specs.Headline.{IsCompiled, HasTooLongCode, IsLimit, IsCause};
+ghost use Rattle.minijinja_base.specs.Syntax.{default_syntax};
+ghost use Rattle.minijinja_parser.specs.Derived.{IsDerived, IsExprDerived};
+ghost use Rattle.minijinja_compiler.specs.Headline.{IsCompiled, IsCompiledExpr, HasTooLongCode, HasTooLongExprCode, IsLimit, IsCause};
 
 use minijinja_base::error::Error;
 use minijinja_base::syntax::SyntaxConfig;
 use minijinja_base::value::TemplateValue;
 use minijinja_code::codegen::CodeGenerator;
 use minijinja_code::instructions::Instructions;
-use minijinja_parser::parser::parse;
+use minijinja_parser::parser::{EXPRESSION_NAME, parse, parse_expr};
 use std::alloc::Global;
 use std::collections::BTreeMap;
 
@@ -64,4 +65,34 @@ pub fn compile<'s, V: TemplateValue>(
         blocks,
         buffer_size_hint,
     })
+}
+
+/// Compiles one expression in the default syntax. The code leaves its value, and its source is named `<expression>`.
+///
+/// It refuses as [`compile`] does.
+pub fn compile_expression<'s, V: TemplateValue>(
+    alloc: Global,
+    source: &'s str,
+) -> Result<Instructions<'s, V>, Error<'s>>
+    // The code is that of the one tree of the text, and does what the tree means.
+    ensures compiled { IfOk result (IsCompiledExpr V.functions V.contents source.now) }
+
+    // A text is refused, as a syntax error or for a bad escape, exactly where the grammar derives no tree of it.
+    ensures refused { IfErr result (λ e. IsRefusal e → (t : _) → IsExprDerived V.functions default_syntax source.now t → ⊥) }
+    ensures accepted { (t : _) → IsExprDerived V.functions default_syntax source.now t → MatchResult result (λ _. ⊤) IsLimit }
+
+    // A bad escape is the one that the tokens end with.
+    ensures bad_escape { IfErr result (λ e. kind_of e ≡ BadEscape → (tokens_of_expression default_syntax source.now).ending ≡ ending.refused BadEscape (span_of e)) }
+
+    // A source is too long exactly from 2^32 bytes on, and code only where the tree's has 2^32 instructions or more.
+    ensures too_long { 2 ^ 32 ≤ length source.now → IsErrAnd result (λ e. kind_of e ≡ SourceTooLong) }
+    ensures too_long_only { IfErr result (λ e. kind_of e ≡ SourceTooLong → 2 ^ 32 ≤ length source.now) }
+    ensures too_many_only { IfErr result (λ e. kind_of e ≡ TooManyInstructions → HasTooLongExprCode V.functions source.now) }
+    ensures causes { IfErr result IsCause }
+{
+    let expr = parse_expr(alloc, source)?;
+    let mut generator = CodeGenerator::new(alloc, EXPRESSION_NAME, source);
+    generator.compile_expr(&expr)?;
+    let (instructions, _) = generator.finish();
+    Ok(instructions)
 }

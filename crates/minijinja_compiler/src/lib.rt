@@ -1,6 +1,7 @@
 //! A template compiler: from the source text of a Jinja2 style template to its instructions.
 //!
-//! [`compile::compile`] is the whole of it. The modules of the layers below stand here under their names.
+//! [`compile::compile`] takes a template, and [`compile::compile_expression`] an expression by itself. The modules of the
+//! layers below stand here under their names.
 #![tactic(auto)]
 
 pub mod compile;

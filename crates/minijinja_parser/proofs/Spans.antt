@@ -1,13 +1,14 @@
 -- What taking a token does to the places of a stream, and the spans that are made of them.
-use Rattle.std.proofs.Common.{◌≡◌, suc, List, [], ◌∷◌, ◌++◌, Contains, Option, Some, None, Result, Ok, refl, sym, ap, ◌∙◌, subst, arith, append_assoc}
+use Rattle.std.proofs.Common.{◌≡◌, ◌≢◌, inl, inr, suc, List, [], ◌∷◌, ◌++◌, Contains, Option, Some, None, Result, Ok, refl, sym, ap, ◌∙◌, subst, arith, append_assoc}
 use Rattle.minijinja_base.specs.declared.tokens.Token.{Token}
 use Rattle.minijinja_base.specs.declared.tokens.Span.{Span}
 use Rattle.minijinja_base.specs.declared.error.Error.{Error}
-use Rattle.minijinja_lexer.specs.Stream.{SpannedTok, Stream, Answers, spanned_tok}
+use Rattle.minijinja_lexer.specs.Stream.{SpannedTok, Stream, Answers, before, out_of_memory, spanned_tok}
+use Rattle.minijinja_tree.specs.declared.ast.CompareOp.{CompareOp}
 use Rattle.minijinja_tree.specs.declared.ast.Stmt.{Stmt}
-use Rattle.minijinja_parser.specs.Ahead.{Ahead, joined, last_after}
-use Rattle.minijinja_parser.specs.NodeSpans.{no_place, StartsAtToken, token_start, zero_start, EndsAtToken, token_end, zero_end, IsOfTokens, StmtStands}
-use Rattle.minijinja_parser.specs.Over.{IsOver, TakenFrom, expanded, AllStand}
+use Rattle.minijinja_parser.specs.Ahead.{Ahead, AnswersAhead, joined, last_after}
+use Rattle.minijinja_parser.specs.NodeSpans.{no_place, StartsAtToken, token_start, zero_start, EndsAtToken, token_end, zero_end, IsOfTokens, ExprStands, StmtStands}
+use Rattle.minijinja_parser.specs.Over.{IsOver, TakenFrom, expanded, AllComparedStand, AllStand}
 
 contains-append : {A : Type 0} (xs ys : List A) (x : A) → Contains (xs ++ x ∷ ys) x
 contains-append [] ys x = (0, omega arith, refl)
@@ -72,3 +73,21 @@ pub some_over : (ts : List SpannedTok) (old new : Ahead) (o : Option (Token × S
     Answers old.stream (Ok o) new.stream → new.last ≡ last_after (Ok o) old.last → o ≡ Some t → IsOver ts old → IsOver ts new × Contains ts (spanned_tok t)
 some_over ts old new o t a l e h =
     let p = over_taken ts old new o a l h in (p.0, subst (λ v. TakenFrom ts (Ok v)) e p.1)
+
+pub ahead_taken : (ts : List SpannedTok) (old new : Ahead) (o : Option (Token × Span)) →
+    AnswersAhead old.stream (Ok o) new.stream → new.stream ≢ out_of_memory → new.last ≡ last_after (Ok o) old.last → IsOver ts old → IsOver ts new × TakenFrom ts (Ok o)
+ahead_taken ts old new (Some t) (later, a, inl c) n l h = over_taken ts old new (Some t) (a ∙ ap (λ s. before (spanned_tok t ∷ []) s) (sym c)) l h
+ahead_taken ts old new (Some t) (later, a, inr c) n l h = absurd (n c.0)
+ahead_taken ts old new None a n l h = over_taken ts old new None a l h
+
+-- the token in view is the first to come
+pub shown : (s : Ahead) (r : Result (Option (Token × Span)) Error) (o : Option (Token × Span)) (t : Token × Span) (later : Stream) →
+    joined r later ≡ s.stream → r ≡ Ok o → o ≡ Some t → s.stream.tokens ≡ spanned_tok t ∷ later.tokens
+shown s r o t later i j k = ap (λ u. u.tokens) (sym i) ∙ ap (λ u. (joined u later).tokens) (j ∙ ap (λ p. Ok p) k)
+
+pub taken_some : (ts : List SpannedTok) (o : Option (Token × Span)) (t : Token × Span) → o ≡ Some t → TakenFrom ts (Ok o) → Contains ts (spanned_tok t)
+taken_some ts o t e h = subst (λ v. TakenFrom ts (Ok v)) e h
+
+pub all_compared_append : {V F : Type 0} (ts : List SpannedTok) (cs : List (CompareOp V F)) (o : CompareOp V F) → AllComparedStand ts cs → ExprStands ts o.expr → AllComparedStand ts (cs ++ o ∷ [])
+all_compared_append ts [] o h i = (i, tt)
+all_compared_append ts (t ∷ cs) o h i = (h.0, all_compared_append ts cs o h.1 i)

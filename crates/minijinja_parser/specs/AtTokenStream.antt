@@ -3,7 +3,7 @@ use Rattle.minijinja_parser.specs.Ahead.{Ahead, joined, IsAnswerBefore}
 use Rattle.minijinja_parser.specs.declared.token_stream.TokenStream.TheInside.{Inside}
 
 abbrev pub stream_view : Inside → Ahead
-stream_view a = record { stream = joined a.current a.tokenizer.stream; last = a.last_span }
+stream_view a = record { source = a.tokenizer.source; stream = joined a.current a.tokenizer.stream; last = a.last_span }
 
 abbrev pub IsStream : Inside → Type 0
 IsStream a = IsAnswerBefore a.current a.tokenizer.stream

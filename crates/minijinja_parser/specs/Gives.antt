@@ -22,7 +22,16 @@ GivesAll view (Err e) s read = kind_of e ≢ OutOfMemory → s.ending ≡ finish
 abbrev pub IsFailure : Ending → Error → Type 0
 IsFailure end e = kind_of e ≢ OutOfMemory → kind_of e ≢ SyntaxError → (kind_of e ≡ BadEscape) × (end ≡ refused BadEscape (span_of e))
 
--- the tokens end as they did, unless memory ran out
-abbrev pub KeepsEnding : {X : Type 0} → Result X Error → Ending → Ending → Type 0
-KeepsEnding (Ok x) old new = new ≡ old
-KeepsEnding (Err e) old new = kind_of e ≢ OutOfMemory → new ≡ old
+-- a failure to have the next token is for want of memory, or the tokens end refused
+abbrev pub IsStop : Ending → Error → Type 0
+IsStop end e = kind_of e ≢ OutOfMemory → end ≢ finished
+
+-- the tokens end as they did, and their text is the same
+pub record SameText (old new : Ahead) : Type 0 where
+  pub source : new.source ≡ old.source
+  pub ending : new.stream.ending ≡ old.stream.ending
+
+-- the text is the same, unless memory ran out
+abbrev pub Keeps : {X : Type 0} → Result X Error → Ahead → Ahead → Type 0
+Keeps (Ok x) old new = SameText old new
+Keeps (Err e) old new = kind_of e ≢ OutOfMemory → SameText old new

@@ -1,10 +1,10 @@
 //! From the tokens of a template to its tree.
 #![tactic(auto)]
 
+mod marks;
 mod nodes;
 pub mod parser;
 #[cfg(test)]
 mod tests;
-mod token_kinds;
 mod token_stream;
 mod words;

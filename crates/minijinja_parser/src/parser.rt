@@ -1,42 +1,60 @@
 //! From the tokens of a template to its tree.
-ghost use Rattle.std.specs.Prelude.{◌≡◌, ◌<◌, ◌≤◌, ◌∷◌, ◌^◌, [], length, map, Contains, IfErr, IfOk, IsErrAnd, MatchResult, Some, if◌then◌else◌};
+ghost use Rattle.std.specs.Prelude.{◌≡◌, ◌≢◌, ◌<◌, ◌≤◌, ◌^◌, ◌⊎◌, [], length, Contains, IfErr, IfOk, IsErrAnd, MatchResult, Some, if◌then◌else◌};
 ghost use Rattle.minijinja_base.specs.Errors.{kind_of, name_of, span_of};
-ghost use Rattle.minijinja_base.specs.Tokens.{Tok, tok_of, ident, template_data};
+ghost use Rattle.minijinja_base.specs.Syntax.{default_syntax};
+ghost use Rattle.minijinja_base.specs.Tokens.{tok_of, ident};
 ghost use Rattle.minijinja_base.specs.declared.error.ErrorKind.TheVariants.{BadEscape, OutOfMemory, SourceTooLong, SyntaxError};
-ghost use Rattle.minijinja_lexer.specs.Stream.{finished, refused, out_of_memory, spanned_tok, toks};
-ghost use Rattle.minijinja_lexer.specs.TextTokens.{tokens_of_template, tokens_of_expression};
+ghost use Rattle.minijinja_lexer.specs.Stream.{IsTokenizerKind, finished, refused, spanned_tok};
+ghost use Rattle.minijinja_lexer.specs.TextTokens.{text_of, tokens_of_template, tokens_of_expression};
 ghost use Rattle.minijinja_tree.specs.Erasure.{expr_tree, stmt_tree};
-ghost use Rattle.minijinja_tree.specs.Tree as tree;
-ghost use Rattle.minijinja_tree.specs.WellFormed.{IsWellFormed};
+ghost use Rattle.minijinja_tree.specs.Tree.{done, template};
+ghost use Rattle.minijinja_tree.specs.WellFormed.{IsWellFormed, IsWhole};
 ghost use Rattle.minijinja_parser.specs.Ahead.{left, Comes};
 ghost use Rattle.minijinja_parser.specs.Causes.{IsCause, IsLimit, IsRefusal};
-ghost use Rattle.minijinja_parser.specs.Derived.{IsDerived};
-ghost use Rattle.minijinja_parser.specs.Gives.{Gives, GivesAll, IsFailure, KeepsEnding};
-ghost use Rattle.minijinja_parser.specs.NodeSpans.{ExprStands, StartsAtToken, StmtStands, no_place};
-ghost use Rattle.minijinja_parser.specs.Over.{AllStand, IsOver};
-ghost use Rattle.minijinja_parser.specs.Reading as spec;
+ghost use Rattle.minijinja_parser.specs.Derived.{IsDerived, IsExprDerived, IsExprTree, IsTemplateTree};
+ghost use Rattle.minijinja_parser.specs.Gives.{Gives, GivesAll, IsFailure, Keeps};
+ghost use Rattle.minijinja_parser.specs.Marks.{mark_tok};
+ghost use Rattle.minijinja_parser.specs.NodeSpans.{ExprStands, StmtStands, no_place};
+ghost use Rattle.minijinja_parser.specs.Over.{IsOver};
+ghost use Rattle.minijinja_parser.specs.Parsing.{HasRefused, IsSpent, ahead_of, filename_of, stream_of};
+ghost use Rattle.minijinja_parser.specs.Reading.{first_token, ident_at, token, tree_of_expr};
+ghost use Rattle.minijinja_parser.specs.TemplateReading.{tree_of};
 
+use crate::marks::{Mark, is_mark, name_of};
 use crate::nodes;
-use crate::token_kinds::{is_assign, is_block_end, is_variable_end};
-use crate::token_stream::TokenStream;
-use crate::words::{is_false_word, is_none_word, is_reserved, is_true_word};
+pub use crate::token_stream::TokenStream;
 use minijinja_base::error::{Detail, Error, ErrorKind};
 use minijinja_base::syntax::SyntaxConfig;
 use minijinja_base::tokens::{Span, Token};
 use minijinja_base::value::TemplateValue;
-use minijinja_tree::ast::{Expr, Set, Stmt};
+use minijinja_tree::ast::{Expr, Stmt};
 use std::alloc::Global;
+
+mod arguments;
+mod expressions;
+mod operands;
+mod statements;
+
+/// How deep expressions may nest.
+const MAX_DEPTH: usize = 150;
+
+/// The first length of a source that is too long, in bytes.
+const SOURCE_LIMIT: usize = 1 << 32;
+
+/// The name of a source that is one expression.
+pub const EXPRESSION_NAME: &str = "<expression>";
 
 /// Reads the tokens of one source.
 #[derive(Drop)]
-pub(crate) struct Parser<'s, 'c> {
+pub struct Parser<'s, 'c> {
     stream: TokenStream<'s, 'c>,
     filename: &'s str,
     alloc: Global,
 }
 
 impl<'s, 'c> Parser<'s, 'c> {
-    /// At the first token of a template, or of one expression.
+    /// At the first token of a template, for `parse`, or of one expression, for `parse_standalone_expr`.
+    /// The source has fewer than 2^32 bytes.
     pub fn new(
         alloc: Global,
         source: &'s str,
@@ -45,9 +63,10 @@ impl<'s, 'c> Parser<'s, 'c> {
         syntax: &'c SyntaxConfig,
     ) -> Self
         requires { length source.now < 2 ^ 32 }
-        ensures filename { result.filename.now ≡ filename.now }
-        ensures last { result.stream.last ≡ no_place }
-        ensures stream { Comes (if in_expr then tokens_of_expression syntax.now source.now else tokens_of_template syntax.now source.now) result.stream.stream }
+        ensures filename { filename_of result ≡ filename.now }
+        ensures source { (ahead_of result).source ≡ text_of syntax.now source.now }
+        ensures last { (ahead_of result).last ≡ no_place }
+        ensures stream { Comes (if in_expr then tokens_of_expression syntax.now source.now else tokens_of_template syntax.now source.now) (stream_of result) }
     {
         Parser {
             stream: TokenStream::new(alloc, source, filename, in_expr, syntax),
@@ -58,7 +77,7 @@ impl<'s, 'c> Parser<'s, 'c> {
 
     /// The name of the source.
     pub fn filename(&self) -> &'s str
-        ensures { result.now ≡ self.now.filename.now }
+        ensures { result.now ≡ filename_of self.now }
     {
         self.filename
     }
@@ -77,10 +96,10 @@ impl<'s, 'c> Parser<'s, 'c> {
         )
     }
 
+    /// Takes a token.
     fn expect_token(&mut self, wanted: &'static str) -> Result<(Token<'s>, Span), Error<'s>>
-        ensures read { Gives (λ t. tok_of t.0) result self.new.stream
-            (spec.one_token (left self.old.stream)) }
-        ensures ending { KeepsEnding result self.old.stream.stream.ending self.new.stream.stream.ending }
+        ensures read { Gives spanned_tok result self.new.stream (first_token (left self.old.stream)) }
+        ensures keeps { Keeps result self.old.stream self.new.stream }
         ensures cause { IfErr result (IsFailure self.new.stream.stream.ending) }
         ensures spans { (ts : _) → IsOver ts self.old.stream →
             IfOk result (λ t. IsOver ts self.new.stream × Contains ts (spanned_tok t)) }
@@ -91,10 +110,10 @@ impl<'s, 'c> Parser<'s, 'c> {
         }
     }
 
+    /// Takes an identifier.
     fn expect_ident(&mut self, wanted: &'static str) -> Result<(&'s str, Span), Error<'s>>
-        ensures read { Gives (λ t. t.0.now) result self.new.stream
-            (spec.identifier (left self.old.stream)) }
-        ensures ending { KeepsEnding result self.old.stream.stream.ending self.new.stream.stream.ending }
+        ensures read { Gives (λ t. (t.0.now, t.1)) result self.new.stream (ident_at (left self.old.stream)) }
+        ensures keeps { Keeps result self.old.stream self.new.stream }
         ensures cause { IfErr result (IsFailure self.new.stream.stream.ending) }
         ensures spans { (ts : _) → IsOver ts self.old.stream →
             IfOk result (λ t. IsOver ts self.new.stream × Contains ts (ident t.0.now, t.1)) }
@@ -105,307 +124,165 @@ impl<'s, 'c> Parser<'s, 'c> {
         }
     }
 
-    fn expect_assign(&mut self) -> Result<(), Error<'s>>
-        ensures read { Gives (λ _. tt) result self.new.stream
-            (spec.assign_token (left self.old.stream)) }
-        ensures ending { KeepsEnding result self.old.stream.stream.ending self.new.stream.stream.ending }
+    /// Takes that token.
+    fn expect(&mut self, mark: Mark) -> Result<(), Error<'s>>
+        ensures read { Gives (λ _. tt) result self.new.stream (token (mark_tok mark) (left self.old.stream)) }
+        ensures keeps { Keeps result self.old.stream self.new.stream }
         ensures cause { IfErr result (IsFailure self.new.stream.stream.ending) }
         ensures spans { (ts : _) → IsOver ts self.old.stream → IfOk result (λ _. IsOver ts self.new.stream) }
     {
-        let (token, _) = self.expect_token("assignment operator")?;
-        if !is_assign(&token) {
-            return Err(self.error(Detail::UnexpectedToken("assignment operator")));
+        let (token, _) = self.expect_token(name_of(mark))?;
+        if !is_mark(&token, mark) {
+            return Err(self.error(Detail::UnexpectedToken(name_of(mark))));
         }
         Ok(())
     }
 
-    fn expect_variable_end(&mut self) -> Result<(), Error<'s>>
-        ensures read { Gives (λ _. tt) result self.new.stream
-            (spec.variable_end_token (left self.old.stream)) }
-        ensures ending { KeepsEnding result self.old.stream.stream.ending self.new.stream.stream.ending }
-        ensures cause { IfErr result (IsFailure self.new.stream.stream.ending) }
-        ensures spans { (ts : _) → IsOver ts self.old.stream → IfOk result (λ _. IsOver ts self.new.stream) }
-    {
-        let (token, _) = self.expect_token("end of variable block")?;
-        if !is_variable_end(&token) {
-            return Err(self.error(Detail::UnexpectedToken("end of variable block")));
-        }
-        Ok(())
-    }
-
-    fn expect_block_end(&mut self) -> Result<(), Error<'s>>
-        ensures read { Gives (λ _. tt) result self.new.stream
-            (spec.block_end_token (left self.old.stream)) }
-        ensures ending { KeepsEnding result self.old.stream.stream.ending self.new.stream.stream.ending }
-        ensures cause { IfErr result (IsFailure self.new.stream.stream.ending) }
-        ensures spans { (ts : _) → IsOver ts self.old.stream → IfOk result (λ _. IsOver ts self.new.stream) }
-    {
-        let (token, _) = self.expect_token("end of block")?;
-        if !is_block_end(&token) {
-            return Err(self.error(Detail::UnexpectedToken("end of block")));
-        }
-        Ok(())
-    }
-
-    /// A variable, a constant or a literal.
-    #[tactic(auto, unfolding(crate::specs::Reading::primary_of, crate::specs::Reading::word_tree))]
-    fn parse_primary<V: TemplateValue>(&mut self) -> Result<Expr<'s, V>, Error<'s>>
-        ensures read { Gives (expr_tree V.contents) result self.new.stream
-            (spec.primary_of V.functions (left self.old.stream)) }
-        ensures ending { KeepsEnding result self.old.stream.stream.ending self.new.stream.stream.ending }
-        ensures cause { IfErr result (IsFailure self.new.stream.stream.ending) }
-        ensures spans { (ts : _) → IsOver ts self.old.stream →
-            IfOk result (λ e. IsOver ts self.new.stream × ExprStands ts e) }
-    {
-        let (token, span) = self.expect_token("expression")?;
-        match token {
-            Token::Ident(name) => self.parse_word(name, span),
-            Token::Str(text) => self.parse_text(text, span),
-            Token::Int(value) => self.parse_integer(value, span),
-            _ => Err(self.error(Detail::UnexpectedToken("expression"))),
-        }
-    }
-
-    fn parse_text<V: TemplateValue>(
-        &self,
-        text: &'s str,
-        span: Span,
-    ) -> Result<Expr<'s, V>, Error<'s>>
-        ensures tree { IfOk result (λ e. expr_tree V.contents e ≡ tree.constant (V.functions.of_str text.now)) }
-        ensures memory { IfErr result (λ e. kind_of e ≡ OutOfMemory) }
-        ensures spans { (ts : _) (t : Tok) → Contains ts (t, span) → IfOk result (ExprStands ts) }
-    {
-        let value = V::of_str(self.alloc, text)?;
-        Ok(nodes::constant(self.alloc, value, span)?)
-    }
-
-    fn parse_integer<V: TemplateValue>(
-        &self,
-        value: u64,
-        span: Span,
-    ) -> Result<Expr<'s, V>, Error<'s>>
-        ensures tree { IfOk result (λ e. expr_tree V.contents e ≡ tree.constant (V.functions.of_u64 value)) }
-        ensures memory { IfErr result (λ e. kind_of e ≡ OutOfMemory) }
-        ensures spans { (ts : _) (t : Tok) → Contains ts (t, span) → IfOk result (ExprStands ts) }
-    {
-        Ok(nodes::constant(self.alloc, V::of_u64(value), span)?)
-    }
-
-    #[tactic(auto, unfolding(crate::specs::Reading::word_tree))]
-    fn parse_word<V: TemplateValue>(
-        &self,
-        word: &'s str,
-        span: Span,
-    ) -> Result<Expr<'s, V>, Error<'s>>
-        ensures tree { IfOk result (λ e. expr_tree V.contents e
-            ≡ spec.word_tree V.functions word.now) }
-        ensures memory { IfErr result (λ e. kind_of e ≡ OutOfMemory) }
-        ensures spans { (ts : _) → Contains ts (ident word.now, span) → IfOk result (ExprStands ts) }
-    {
-        if is_true_word(word) {
-            Ok(nodes::constant(self.alloc, V::of_bool(true), span)?)
-        } else if is_false_word(word) {
-            Ok(nodes::constant(self.alloc, V::of_bool(false), span)?)
-        } else if is_none_word(word) {
-            Ok(nodes::constant(self.alloc, V::none(), span)?)
-        } else {
-            Ok(nodes::variable(self.alloc, word, span)?)
-        }
-    }
-
-    /// The attributes behind a variable.
-    #[tactic(auto, unfolding(crate::specs::Reading::postfix_of, crate::specs::Reading::attributes_of, crate::specs::Reading::attribute_of))]
-    fn parse_postfix<V: TemplateValue>(
-        &mut self,
-        expr: Expr<'s, V>,
-        span: Span,
-    ) -> Result<Expr<'s, V>, Error<'s>>
-        ensures read { Gives (expr_tree V.contents) result self.new.stream
-            (spec.postfix_of (expr_tree V.contents expr.entry) (left self.old.stream)) }
-        ensures ending { KeepsEnding result self.old.stream.stream.ending self.new.stream.stream.ending }
-        ensures cause { IfErr result (IsFailure self.new.stream.stream.ending) }
-        ensures spans { (ts : _) → IsOver ts self.old.stream → ExprStands ts expr.entry →
-            StartsAtToken ts span →
-            IfOk result (λ e. IsOver ts self.new.stream × ExprStands ts e) }
-    {
-        if !matches!(expr, Expr::Var(_)) {
-            return Ok(expr);
-        }
-        let mut expr = expr;
-        while self.stream.at_dot()? {
-            self.stream.take()?;
-            let (name, _) = self.expect_ident("identifier")?;
-            expr = nodes::attribute(self.alloc, expr, name, self.stream.expand_span(span))?;
-        }
-        Ok(expr)
-    }
-
-    /// An expression.
-    #[tactic(auto, unfolding(crate::specs::Reading::operand_of))]
-    fn parse_expr<V: TemplateValue>(&mut self) -> Result<Expr<'s, V>, Error<'s>>
-        ensures read { Gives (expr_tree V.contents) result self.new.stream
-            (spec.expr V.functions (left self.old.stream)) }
-        ensures ending { KeepsEnding result self.old.stream.stream.ending self.new.stream.stream.ending }
-        ensures cause { IfErr result (IsFailure self.new.stream.stream.ending) }
-        ensures spans { (ts : _) → IsOver ts self.old.stream →
-            IfOk result (λ e. IsOver ts self.new.stream × ExprStands ts e) }
-    {
-        let span = self.stream.current_span();
-        let expr = self.parse_primary()?;
-        self.parse_postfix(expr, span)
-    }
-
-    /// A name that may be assigned to.
-    #[tactic(auto, unfolding(crate::specs::Reading::target_of))]
-    fn parse_assign_name<V: TemplateValue>(&mut self) -> Result<Expr<'s, V>, Error<'s>>
-        ensures read { Gives (expr_tree V.contents) result self.new.stream
-            (spec.target_of (left self.old.stream)) }
-        ensures ending { KeepsEnding result self.old.stream.stream.ending self.new.stream.stream.ending }
-        ensures cause { IfErr result (IsFailure self.new.stream.stream.ending) }
-        ensures spans { (ts : _) → IsOver ts self.old.stream →
-            IfOk result (λ e. IsOver ts self.new.stream × ExprStands ts e) }
-    {
-        let (name, span) = self.expect_ident("identifier")?;
-        if is_reserved(name) {
-            return Err(self.error(Detail::ReservedName(name)));
-        }
-        Ok(nodes::variable(self.alloc, name, span)?)
-    }
-
-    /// What follows the word `set`.
-    #[tactic(auto, unfolding(crate::specs::Reading::set_of))]
-    fn parse_set<V: TemplateValue>(&mut self) -> Result<Set<'s, V>, Error<'s>>
-        ensures read { Gives (λ s. tree.assignment (expr_tree V.contents s.target) (expr_tree V.contents s.expr)) result self.new.stream
-            (spec.set_of (spec.expr V.functions) (left self.old.stream)) }
-        ensures ending { KeepsEnding result self.old.stream.stream.ending self.new.stream.stream.ending }
-        ensures cause { IfErr result (IsFailure self.new.stream.stream.ending) }
-        ensures spans { (ts : _) → IsOver ts self.old.stream →
-            IfOk result (λ s. IsOver ts self.new.stream × ExprStands ts s.target × ExprStands ts s.expr) }
-    {
-        let target = self.parse_assign_name()?;
-        self.expect_assign()?;
-        let expr = self.parse_expr()?;
-        Ok(Set { target, expr })
-    }
-
-    /// A statement, from its first word on.
-    #[tactic(auto, unfolding(crate::specs::Reading::stmt_of))]
-    fn parse_stmt<V: TemplateValue>(&mut self) -> Result<Stmt<'s, V>, Error<'s>>
-        ensures read { Gives (stmt_tree V.contents) result self.new.stream
-            (spec.stmt V.functions (left self.old.stream)) }
-        ensures ending { KeepsEnding result self.old.stream.stream.ending self.new.stream.stream.ending }
-        ensures cause { IfErr result (IsFailure self.new.stream.stream.ending) }
-        ensures spans { (ts : _) → IsOver ts self.old.stream →
-            IfOk result (λ s. IsOver ts self.new.stream × StmtStands ts s) }
-    {
-        let (word, span) = self.expect_ident("block keyword")?;
-        if word != "set" {
-            return Err(self.error(Detail::UnknownStatement(word)));
-        }
-        let set = self.parse_set()?;
-        Ok(nodes::assignment(self.alloc, set, self.stream.expand_span(span))?)
-    }
-
-    /// An output, from behind its start on.
-    fn parse_output<V: TemplateValue>(&mut self, span: Span) -> Result<Stmt<'s, V>, Error<'s>>
-        ensures read { Gives (stmt_tree V.contents) result self.new.stream
-            (spec.output_of (spec.expr V.functions) (left self.old.stream)) }
-        ensures ending { KeepsEnding result self.old.stream.stream.ending self.new.stream.stream.ending }
-        ensures cause { IfErr result (IsFailure self.new.stream.stream.ending) }
-        ensures spans { (ts : _) → IsOver ts self.old.stream → StartsAtToken ts span →
-            IfOk result (λ s. IsOver ts self.new.stream × StmtStands ts s) }
-    {
-        let expr = self.parse_expr()?;
-        let span = self.stream.expand_span(span);
-        self.expect_variable_end()?;
-        Ok(nodes::output(self.alloc, expr, span)?)
-    }
-
-    /// A statement and its end, from behind its start on.
-    fn parse_tag<V: TemplateValue>(&mut self) -> Result<Stmt<'s, V>, Error<'s>>
-        ensures read { Gives (stmt_tree V.contents) result self.new.stream
-            (spec.tag_of (spec.stmt V.functions) (left self.old.stream)) }
-        ensures ending { KeepsEnding result self.old.stream.stream.ending self.new.stream.stream.ending }
-        ensures cause { IfErr result (IsFailure self.new.stream.stream.ending) }
-        ensures spans { (ts : _) → IsOver ts self.old.stream →
-            IfOk result (λ s. IsOver ts self.new.stream × StmtStands ts s) }
-    {
-        let stmt = self.parse_stmt()?;
-        self.expect_block_end()?;
-        Ok(stmt)
-    }
-
-    fn parse_data<V: TemplateValue>(
-        &self,
-        raw: &'s str,
-        span: Span,
-    ) -> Result<Stmt<'s, V>, Error<'s>>
-        ensures tree { IfOk result (λ s. stmt_tree V.contents s ≡ tree.data_text raw.now) }
-        ensures memory { IfErr result (λ e. kind_of e ≡ OutOfMemory) }
-        ensures spans { (ts : _) → Contains ts (template_data raw.now, span) → IfOk result (StmtStands ts) }
-    {
-        Ok(nodes::data(self.alloc, raw, span)?)
-    }
-
-    /// Data, an output or a statement, which begins with the token.
-    #[tactic(auto, unfolding(crate::specs::Reading::part_of))]
-    fn parse_part<V: TemplateValue>(
-        &mut self,
-        token: Token<'s>,
-        span: Span,
-    ) -> Result<Stmt<'s, V>, Error<'s>>
-        ensures read { Gives (stmt_tree V.contents) result self.new.stream
-            (spec.part V.functions (tok_of token.entry ∷ left self.old.stream)) }
-        ensures ending { KeepsEnding result self.old.stream.stream.ending self.new.stream.stream.ending }
-        ensures cause { IfErr result (IsFailure self.new.stream.stream.ending) }
-        ensures spans { (ts : _) → IsOver ts self.old.stream → Contains ts (tok_of token.entry, span) →
-            IfOk result (λ s. IsOver ts self.new.stream × StmtStands ts s) }
-    {
-        match token {
-            Token::TemplateData(raw) => self.parse_data(raw, span),
-            Token::VariableStart => self.parse_output(span),
-            Token::BlockStart => self.parse_tag(),
-            _ => Err(self.error(Detail::UnexpectedToken("template data or the start of a tag"))),
-        }
-    }
-
-    /// The statements up to the end of the tokens.
-    fn subparse<V: TemplateValue>(&mut self) -> Result<Vec<Stmt<'s, V>>, Error<'s>>
-        ensures read { Gives (λ v. map (stmt_tree V.contents) v.items) result self.new.stream
-            (spec.parts_from V.functions [] (left self.old.stream)) }
-        ensures whole { IfOk result (λ _. left self.new.stream ≡ []) }
+    /// Refuses any token.
+    fn expect_end(&mut self) -> Result<(), Error<'s>>
+        ensures whole { IfOk result (λ _. left self.old.stream ≡ []) }
+        ensures none_left { IfOk result (λ _. left self.new.stream ≡ []) }
         ensures unrefused { IfOk result (λ _. self.new.stream.stream.ending ≡ finished) }
-        ensures ending { KeepsEnding result self.old.stream.stream.ending self.new.stream.stream.ending }
+        ensures refused { IfErr result (λ e. kind_of e ≢ OutOfMemory → self.new.stream.stream.ending ≡ finished → left self.old.stream ≢ []) }
+        ensures keeps { Keeps result self.old.stream self.new.stream }
         ensures cause { IfErr result (IsFailure self.new.stream.stream.ending) }
-        ensures spans { (ts : _) → IsOver ts self.old.stream →
-            IfOk result (λ v. IsOver ts self.new.stream × AllStand ts v.items) }
     {
-        let mut children = Vec::new(self.alloc);
-        while let Some((token, span)) = self.stream.take()? {
-            children.push(self.parse_part(token, span)?)?;
+        match self.stream.take()? {
+            None => Ok(()),
+            Some(_) => Err(self.error(Detail::UnexpectedToken("end of input"))),
         }
-        Ok(children)
     }
 
     /// The template, up to the end of the tokens.
-    #[tactic(auto, unfolding(crate::specs::Reading::tree_of))]
-    pub fn parse<V: TemplateValue>(&mut self) -> Result<Stmt<'s, V>, Error<'s>>
+    #[tactic(auto, unfolding(crate::specs::TemplateReading::tree_of))]
+    fn whole_template<V: TemplateValue>(&mut self) -> Result<Stmt<'s, V>, Error<'s>>
         ensures read { GivesAll (stmt_tree V.contents) result self.new.stream.stream
-            (spec.tree_of V.functions (left self.old.stream)) }
-        ensures ending { KeepsEnding result self.old.stream.stream.ending self.new.stream.stream.ending }
+            (tree_of V.functions self.old.stream.source (left self.old.stream)) }
+        ensures whole { IfOk result (λ _. left self.new.stream ≡ []) }
+        ensures keeps { Keeps result self.old.stream self.new.stream }
         ensures cause { IfErr result (IsFailure self.new.stream.stream.ending) }
         ensures spans { (ts : _) → IsOver ts self.old.stream → IfOk result (StmtStands ts) }
-        ensures memory { self.old.stream.stream ≡ out_of_memory → IsErrAnd result (λ e. kind_of e ≡ OutOfMemory) }
     {
-        self.stream.ready()?;
         let span = self.stream.last_span();
         let children = self.subparse()?;
         Ok(nodes::template(self.alloc, children, self.stream.expand_span(span))?)
     }
+
+    /// The expression, up to the end of the tokens.
+    #[tactic(auto, unfolding(crate::specs::Reading::tree_of_expr))]
+    fn whole_expr<V: TemplateValue>(&mut self) -> Result<Expr<'s, V>, Error<'s>>
+        ensures read { GivesAll (expr_tree V.contents) result self.new.stream.stream
+            (tree_of_expr V.functions self.old.stream.source (left self.old.stream)) }
+        ensures whole { IfOk result (λ _. left self.new.stream ≡ []) }
+        ensures keeps { Keeps result self.old.stream self.new.stream }
+        ensures cause { IfErr result (IsFailure self.new.stream.stream.ending) }
+        ensures spans { (ts : _) → IsOver ts self.old.stream → IfOk result (ExprStands ts) }
+    {
+        let expr = self.parse_expr(MAX_DEPTH)?;
+        self.expect_end()?;
+        Ok(expr)
+    }
+
+    /// The tree of the tokens that are left, as a template. Then none is left, and a later call gives the empty template.
+    /// A refusal stands from then on: each later call answers one of its kind and span.
+    /// Errors: a syntax error or a bad escape, and memory that was refused.
+    pub fn parse<V: TemplateValue>(&mut self) -> Result<Stmt<'s, V>, Error<'s>>
+        // What is answered is derived from the tokens that are left.
+        ensures found { IfOk result (λ s. IsTemplateTree V.functions (ahead_of self.old).source (stream_of self.old) (stmt_tree V.contents s)) }
+
+        // From what is refused as a syntax error or for a bad escape nothing is derived.
+        ensures refused { IfErr result (λ e. IsRefusal e → (t : _) →
+            IsTemplateTree V.functions (ahead_of self.old).source (stream_of self.old) t → ⊥) }
+
+        // What is derived is answered, and is the one tree, unless memory ran out.
+        ensures only { (t : _) → IsTemplateTree V.functions (ahead_of self.old).source (stream_of self.old) t →
+            MatchResult result (λ s. stmt_tree V.contents s ≡ t) (λ e. kind_of e ≡ OutOfMemory) }
+
+        ensures causes { IfErr result (λ e. IsTokenizerKind (kind_of e)) }
+
+        // A bad escape is the one that the tokens end with.
+        ensures bad_escape { IfErr result (λ e. kind_of e ≡ BadEscape → (stream_of self.old).ending ≡ refused BadEscape (span_of e)) }
+
+        ensures well_formed { IfOk result (λ s. IsWellFormed (stmt_tree V.contents s)) }
+
+        // Each node goes from token to token of the source.
+        ensures spans { (ts : _) → IsOver ts (ahead_of self.old) → IfOk result (StmtStands ts) }
+
+        // Behind a tree no token is left, and behind a refusal that refusal, which is answered again from then on.
+        ensures spent { IfOk result (λ _. IsSpent self.new) }
+        ensures kept { IfErr result (λ e. HasRefused self.new (kind_of e) (span_of e)) }
+        ensures again { (kind : _) (span : _) → HasRefused self.old kind span →
+            IsErrAnd result (λ e. (kind_of e ≡ kind) × (span_of e ≡ span)) }
+
+        // Behind the last token stands the empty template, unless memory ran out.
+        ensures empty { IsSpent self.old → MatchResult result (λ s. stmt_tree V.contents s ≡ template done) (λ e. kind_of e ≡ OutOfMemory) }
+    {
+        self.stream.current()?;
+        match self.whole_template() {
+            Ok(template) => Ok(template),
+            Err(refusal) => {
+                self.stream.refuse(refusal);
+                Err(refusal)
+            }
+        }
+    }
+
+    /// The tree of the tokens that are left, as one expression. Then none is left, and a later call is a syntax error.
+    /// A refusal stands from then on: each later call answers one of its kind and span.
+    /// Errors: a syntax error or a bad escape, and memory that was refused.
+    pub fn parse_standalone_expr<V: TemplateValue>(&mut self) -> Result<Expr<'s, V>, Error<'s>>
+        // What is answered is derived from the tokens that are left.
+        ensures found { IfOk result (λ x. IsExprTree V.functions (ahead_of self.old).source (stream_of self.old) (expr_tree V.contents x)) }
+
+        // From what is refused as a syntax error or for a bad escape nothing is derived.
+        ensures refused { IfErr result (λ e. IsRefusal e → (t : _) →
+            IsExprTree V.functions (ahead_of self.old).source (stream_of self.old) t → ⊥) }
+
+        // What is derived is answered, and is the one tree, unless memory ran out.
+        ensures only { (t : _) → IsExprTree V.functions (ahead_of self.old).source (stream_of self.old) t →
+            MatchResult result (λ x. expr_tree V.contents x ≡ t) (λ e. kind_of e ≡ OutOfMemory) }
+
+        ensures causes { IfErr result (λ e. IsTokenizerKind (kind_of e)) }
+
+        // A bad escape is the one that the tokens end with.
+        ensures bad_escape { IfErr result (λ e. kind_of e ≡ BadEscape → (stream_of self.old).ending ≡ refused BadEscape (span_of e)) }
+
+        ensures well_formed { IfOk result (λ x. IsWhole (expr_tree V.contents x)) }
+
+        // Each node goes from token to token of the source.
+        ensures spans { (ts : _) → IsOver ts (ahead_of self.old) → IfOk result (ExprStands ts) }
+
+        // Behind a tree no token is left, and behind a refusal that refusal, which is answered again from then on.
+        ensures spent { IfOk result (λ _. IsSpent self.new) }
+        ensures kept { IfErr result (λ e. HasRefused self.new (kind_of e) (span_of e)) }
+        ensures again { (kind : _) (span : _) → HasRefused self.old kind span →
+            IsErrAnd result (λ e. (kind_of e ≡ kind) × (span_of e ≡ span)) }
+
+        // Behind the last token stands no expression.
+        ensures nothing { IsSpent self.old → IsErrAnd result (λ e. (kind_of e ≡ SyntaxError) ⊎ (kind_of e ≡ OutOfMemory)) }
+    {
+        self.stream.current()?;
+        match self.whole_expr() {
+            Ok(expr) => Ok(expr),
+            Err(refusal) => {
+                self.stream.refuse(refusal);
+                Err(refusal)
+            }
+        }
+    }
 }
 
-/// The first length of a source that is too long, in bytes.
-const SOURCE_LIMIT: usize = 1 << 32;
+/// The refusal of a source that is too long.
+fn too_long<'s>(filename: &'s str) -> Error<'s>
+    ensures { kind_of result ≡ SourceTooLong }
+{
+    Error::new(
+        ErrorKind::SourceTooLong,
+        Detail::SourceTooLong,
+        Some(filename),
+        None,
+    )
+}
 
 fn parse_template<'s, V: TemplateValue>(
     alloc: Global,
@@ -414,16 +291,42 @@ fn parse_template<'s, V: TemplateValue>(
     syntax: &SyntaxConfig,
 ) -> Result<Stmt<'s, V>, Error<'s>>
     requires { length source.now < 2 ^ 32 }
-    ensures read { GivesAll (stmt_tree V.contents) result (tokens_of_template syntax.now source.now)
-        (spec.tree_of V.functions (toks (tokens_of_template syntax.now source.now))) }
-    ensures cause { IfErr result (IsFailure (tokens_of_template syntax.now source.now).ending) }
+    ensures found { IfOk result (λ s. IsDerived V.functions syntax.now source.now (stmt_tree V.contents s)) }
+    ensures refused { IfErr result (λ e. IsRefusal e → (t : _) →
+        IsDerived V.functions syntax.now source.now t → ⊥) }
+    ensures only { (t : _) → IsDerived V.functions syntax.now source.now t →
+        MatchResult result (λ s. stmt_tree V.contents s ≡ t) IsLimit }
+    ensures causes { IfErr result (λ e. IsTokenizerKind (kind_of e)) }
+    ensures bad_escape { IfErr result (λ e. kind_of e ≡ BadEscape → (tokens_of_template syntax.now source.now).ending ≡ refused BadEscape (span_of e)) }
+    ensures well_formed { IfOk result (λ s. IsWellFormed (stmt_tree V.contents s)) }
     ensures spans { IfOk result (StmtStands (tokens_of_template syntax.now source.now).tokens) }
 {
     let mut parser = Parser::new(alloc, source, filename, false, syntax);
     parser.parse()
 }
 
-/// The tree of a template.
+fn parse_expression<'s, V: TemplateValue>(
+    alloc: Global,
+    source: &'s str,
+) -> Result<Expr<'s, V>, Error<'s>>
+    requires { length source.now < 2 ^ 32 }
+    ensures found { IfOk result (λ x. IsExprDerived V.functions default_syntax source.now (expr_tree V.contents x)) }
+    ensures refused { IfErr result (λ e. IsRefusal e → (t : _) →
+        IsExprDerived V.functions default_syntax source.now t → ⊥) }
+    ensures only { (t : _) → IsExprDerived V.functions default_syntax source.now t →
+        MatchResult result (λ x. expr_tree V.contents x ≡ t) IsLimit }
+    ensures causes { IfErr result (λ e. IsTokenizerKind (kind_of e)) }
+    ensures bad_escape { IfErr result (λ e. kind_of e ≡ BadEscape → (tokens_of_expression default_syntax source.now).ending ≡ refused BadEscape (span_of e)) }
+    ensures well_formed { IfOk result (λ x. IsWhole (expr_tree V.contents x)) }
+    ensures spans { IfOk result (ExprStands (tokens_of_expression default_syntax source.now).tokens) }
+{
+    let syntax = SyntaxConfig::default();
+    let mut parser = Parser::new(alloc, source, EXPRESSION_NAME, true, &syntax);
+    parser.parse_standalone_expr()
+}
+
+/// The tree of a template, which errors name `filename`.
+/// Errors: a syntax error or a bad escape, memory that was refused, and a source of 2^32 bytes or more.
 pub fn parse<'s, V: TemplateValue>(
     alloc: Global,
     source: &'s str,
@@ -453,12 +356,41 @@ pub fn parse<'s, V: TemplateValue>(
     ensures spans { IfOk result (StmtStands (tokens_of_template syntax.now source.now).tokens) }
 {
     if source.len() >= SOURCE_LIMIT {
-        return Err(Error::new(
-            ErrorKind::SourceTooLong,
-            Detail::SourceTooLong,
-            Some(filename),
-            None,
-        ));
+        return Err(too_long(filename));
     }
     parse_template(alloc, source, filename, syntax)
+}
+
+/// The tree of one expression, in the default syntax. Errors name the source `<expression>`.
+/// Errors: a syntax error or a bad escape, memory that was refused, and a source of 2^32 bytes or more.
+pub fn parse_expr<'s, V: TemplateValue>(
+    alloc: Global,
+    source: &'s str,
+) -> Result<Expr<'s, V>, Error<'s>>
+    // What is answered is derived.
+    ensures found { IfOk result (λ x. IsExprDerived V.functions default_syntax source.now (expr_tree V.contents x)) }
+
+    // What is refused as a syntax error or for a bad escape is not derived, whatever the tree.
+    ensures refused { IfErr result (λ e. IsRefusal e → (t : _) →
+        IsExprDerived V.functions default_syntax source.now t → ⊥) }
+
+    // What is derived is answered, and is the one tree, unless memory ran out or the source is too long.
+    ensures only { (t : _) → IsExprDerived V.functions default_syntax source.now t →
+        MatchResult result (λ x. expr_tree V.contents x ≡ t) IsLimit }
+
+    // A source is too long exactly from 2^32 bytes on.
+    ensures too_long { 2 ^ 32 ≤ length source.now → IsErrAnd result (λ e. kind_of e ≡ SourceTooLong) }
+    ensures too_long_only { IfErr result (λ e. kind_of e ≡ SourceTooLong → 2 ^ 32 ≤ length source.now) }
+
+    // A bad escape is the one that the tokens end with.
+    ensures bad_escape { IfErr result (λ e. kind_of e ≡ BadEscape → (tokens_of_expression default_syntax source.now).ending ≡ refused BadEscape (span_of e)) }
+
+    ensures causes { IfErr result IsCause }
+    ensures well_formed { IfOk result (λ x. IsWhole (expr_tree V.contents x)) }
+    ensures spans { IfOk result (ExprStands (tokens_of_expression default_syntax source.now).tokens) }
+{
+    if source.len() >= SOURCE_LIMIT {
+        return Err(too_long(EXPRESSION_NAME));
+    }
+    parse_expression(alloc, source)
 }

@@ -1,4 +1,14 @@
 pub mod Nodes
+pub mod BinOps
+pub mod CompareOps
 pub mod Tree
+pub mod Comparisons
+pub mod Operators
+pub mod Folding
 pub mod Erasure
 pub mod WellFormed
+pub mod WellFormedTests
+pub mod Descriptions
+pub mod ExprSpans
+pub mod Callees
+pub mod CallTypes

@@ -1,5 +1,5 @@
 -- Options are read one after the other, and in one way only.
-use Rattle.std.proofs.Common.{◌≡◌, refl, sym, ◌∙◌, ap, subst, ℕ, ◌+◌, Bool, List, [], ◌∷◌, ◌++◌, drop, append_assoc, true, false, Option, None, Some, IfSome, codes, nat_eq, if◌then◌else◌}
+use Rattle.std.proofs.Common.{◌≡◌, refl, sym, ◌∙◌, ap, subst, arith, ℕ, ◌+◌, ◌≤◌, ◌<◌, length, slice_index_or, Bool, List, [], ◌∷◌, ◌++◌, drop, append_assoc, true, false, Option, None, Some, IfSome, codes, nat_eq, if◌then◌else◌}
 use Rattle.std.specs.List.{fold, flat_map, starts_with}
 use Rattle.std.specs.Str.{bytes_eq}
 use Rattle.std.specs.Borrow.{Bor}
@@ -8,7 +8,7 @@ use Rattle.std.proofs.lemmas.Slice.Eq.{bytes_eq-Decides}
 use Rattle.minijinja_base.specs.Values.{Text}
 use Rattle.minijinja_base.specs.Syntax.{Syntax}
 use Rattle.mjc.specs.Settings.{Setting, block, variable, comment, line_statement, line_comment, trim_blocks, lstrip_blocks, keep_newline, words_of, with_setting, option_named, setting_of, first_setting, Takes, texts}
-use Rattle.mjc.specs.Usage.{IsFile, option_words, command_word, Asks}
+use Rattle.mjc.specs.Usage.{IsFile, option_words, command_word, Asks, AsksExpr}
 use Rattle.mjc.specs.declared.options.OptionName.{OptionName}
 use Rattle.mjc.specs.declared.options.OptionName.TheVariants.{Block, Variable, Comment, LineStatement, LineComment, TrimBlocks, LstripBlocks, KeepNewline}
 use Rattle.mjc.specs.declared.usage.Action.{Action}
@@ -163,3 +163,10 @@ asks args word rest action settings file e named said is_file = record {
   words = ap texts e ∙ (ap (λ w. w ∷ texts rest) named ∙ ap (λ ws. command_word action ∷ ws) said);
   file = is_file;
 }
+
+-- two words, of which the first is `expr`
+pub asks_expr : (args : List (Bor Text)) (d e : Bor Text) → 2 ≤ length args → length args < 3 → bytes_eq (slice_index_or args 0 d).now (codes "expr") ≡ true → AsksExpr args (slice_index_or args 1 e).now
+asks_expr [] d e least below same = absurd (omega arith)
+asks_expr (a ∷ []) d e least below same = absurd (omega arith)
+asks_expr (a ∷ b ∷ []) d e least below same = ap (λ (w : Text). w ∷ b.now ∷ []) ((bytes_eq-Decides a.now (codes "expr")).0 same)
+asks_expr (a ∷ b ∷ c ∷ rest) d e least below same = absurd (omega arith)

@@ -1,5 +1,5 @@
 -- How `mjc` is called.
-use Rattle.std.specs.Prelude.{◌≡◌, List, [], ◌∷◌, ◌++◌, false, nat_eq, codes}
+use Rattle.std.specs.Prelude.{◌≡◌, ◌⊎◌, List, [], ◌∷◌, ◌++◌, false, nat_eq, codes}
 use Rattle.std.specs.List.{starts_with, flat_map}
 use Rattle.std.specs.Borrow.{Bor}
 use Rattle.minijinja_base.specs.Values.{Text}
@@ -8,6 +8,8 @@ use Rattle.mjc.specs.Settings.{Setting, texts, words_of, syntax_of, syntax_with}
 use Rattle.mjc.specs.declared.usage.Action.{Action}
 use Rattle.mjc.specs.declared.usage.Action.TheVariants.{Tokens, Code}
 use Rattle.mjc.specs.declared.usage.Command.{Command}
+use Rattle.mjc.specs.declared.usage.Command.TheVariants.{File, Expr}
+use Rattle.mjc.specs.declared.usage.FileCommand.{FileCommand}
 
 -- a word that may name a file: one that begins with `--` is an option
 abbrev pub IsFile : Text → Type 0
@@ -33,10 +35,23 @@ pub record Asks (args : List (Bor Text)) (request : Request) : Type 0 where
   pub words : texts args ≡ command_word request.action ∷ option_words request.settings request.file
   pub file : IsFile request.file
 
--- the words ask for something
-pub record IsUsage (args : List (Bor Text)) : Type 0 where
+-- the words ask for something of a file
+pub record IsFileUsage (args : List (Bor Text)) : Type 0 where
   pub request : Request
   pub asks : Asks args request
+
+-- the words ask for the code of the expression that this text is
+abbrev pub AsksExpr : List (Bor Text) → Text → Type 0
+AsksExpr args text = texts args ≡ codes "expr" ∷ text ∷ []
+
+-- the words ask for the code of an expression
+pub record IsExprUsage (args : List (Bor Text)) : Type 0 where
+  pub text : Text
+  pub asks : AsksExpr args text
+
+-- the words ask for something
+abbrev pub IsUsage : List (Bor Text) → Type 0
+IsUsage args = IsFileUsage args ⊎ IsExprUsage args
 
 -- the words ask for a syntax that cannot be built
 pub record IsUnbuildable (args : List (Bor Text)) : Type 0 where
@@ -45,7 +60,17 @@ pub record IsUnbuildable (args : List (Bor Text)) : Type 0 where
   pub unbuildable : ¬ IsBuildable (syntax_with request.settings)
 
 -- the command does what is asked for
-pub record IsCommandFor (request : Request) (command : Command) : Type 0 where
+pub record IsCommandFor (request : Request) (command : FileCommand) : Type 0 where
   pub action : command.action ≡ request.action
   pub syntax : syntax_of command.options ≡ syntax_with request.settings
   pub file : command.file.now ≡ request.file
+
+-- the command does what is asked for of a file
+abbrev pub IsFileCommandFor : Request → Command → Type 0
+IsFileCommandFor request (File command) = IsCommandFor request command
+IsFileCommandFor request (Expr text) = ⊥
+
+-- the command is for the code of this text
+abbrev pub IsExprCommandFor : Text → Command → Type 0
+IsExprCommandFor text (File command) = ⊥
+IsExprCommandFor text (Expr t) = t.now ≡ text

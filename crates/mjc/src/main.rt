@@ -1,4 +1,4 @@
-//! The program `mjc`, which shows the tokens of a template and what it compiles to.
+//! The program `mjc`, which shows the tokens of a template, and what a template or an expression compiles to.
 #![tactic(auto)]
 
 pub mod fault;

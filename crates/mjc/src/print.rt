@@ -1,4 +1,4 @@
-//! The printed forms of tokens and of code.
+//! The printed forms of tokens and of instructions.
 #[cfg(test)]
 mod tests;
 
@@ -60,6 +60,28 @@ pub fn print_tokens<'s, W: Write>(
     Ok(refusal)
 }
 
+/// A count of operands as it is printed: `none` where it is on top of them.
+#[derive(Clone, Copy)]
+struct PrintedCount(Option<usize>);
+
+impl PrintedCount {
+    fn of_args(count: Option<u16>) -> Self {
+        match count {
+            Some(count) => PrintedCount(Some(usize::from(count))),
+            None => PrintedCount(None),
+        }
+    }
+}
+
+impl fmt::Display for PrintedCount {
+    fn fmt<W: fmt::Write>(&self, f: &mut fmt::Formatter<W>) -> fmt::Result {
+        match self.0 {
+            Some(count) => write!(f, "{count}"),
+            None => write!(f, "none"),
+        }
+    }
+}
+
 /// An instruction as it is printed: its name and, in parentheses, its parts.
 #[derive(Clone, Copy)]
 struct Printed<'i, 's>(&'i Instruction<'s, Value>);
@@ -68,11 +90,68 @@ impl fmt::Display for Printed<'_, '_> {
     fn fmt<W: fmt::Write>(&self, f: &mut fmt::Formatter<W>) -> fmt::Result {
         match self.0 {
             Instruction::EmitRaw(text) => write!(f, "EmitRaw({})", Quoted(text)),
+            Instruction::StoreLocal(name) => write!(f, "StoreLocal({})", Quoted(name)),
             Instruction::Lookup(name) => write!(f, "Lookup({})", Quoted(name)),
             Instruction::GetAttr(name) => write!(f, "GetAttr({})", Quoted(name)),
+            Instruction::GetItem => write!(f, "GetItem"),
+            Instruction::Slice => write!(f, "Slice"),
             Instruction::LoadConst(value) => write!(f, "LoadConst({value})"),
-            Instruction::StoreLocal(name) => write!(f, "StoreLocal({})", Quoted(name)),
+            Instruction::BuildMap(count) => write!(f, "BuildMap({count})"),
+            Instruction::BuildKwargs(count) => write!(f, "BuildKwargs({count})"),
+            Instruction::MergeKwargs(count) => write!(f, "MergeKwargs({count})"),
+            Instruction::BuildList(count) => write!(f, "BuildList({})", PrintedCount(*count)),
+            Instruction::BuildTuple(count) => write!(f, "BuildTuple({})", PrintedCount(*count)),
+            Instruction::UnpackLists(count) => write!(f, "UnpackLists({count})"),
+            Instruction::Add => write!(f, "Add"),
+            Instruction::Sub => write!(f, "Sub"),
+            Instruction::Mul => write!(f, "Mul"),
+            Instruction::Div => write!(f, "Div"),
+            Instruction::IntDiv => write!(f, "IntDiv"),
+            Instruction::Rem => write!(f, "Rem"),
+            Instruction::Pow => write!(f, "Pow"),
+            Instruction::Neg => write!(f, "Neg"),
+            Instruction::Eq => write!(f, "Eq"),
+            Instruction::Ne => write!(f, "Ne"),
+            Instruction::Gt => write!(f, "Gt"),
+            Instruction::Gte => write!(f, "Gte"),
+            Instruction::Lt => write!(f, "Lt"),
+            Instruction::Lte => write!(f, "Lte"),
+            Instruction::Not => write!(f, "Not"),
+            Instruction::StringConcat => write!(f, "StringConcat"),
+            Instruction::In => write!(f, "In"),
+            Instruction::CompareAndPreserve(op) => write!(f, "CompareAndPreserve({op:?})"),
+            Instruction::ApplyFilter(name, count, id) => {
+                let count = PrintedCount::of_args(*count);
+                write!(f, "ApplyFilter({}, {count}, {id})", Quoted(name))
+            }
+            Instruction::PerformTest(name, count, id) => {
+                let count = PrintedCount::of_args(*count);
+                write!(f, "PerformTest({}, {count}, {id})", Quoted(name))
+            }
             Instruction::Emit => write!(f, "Emit"),
+            Instruction::Jump(target) => write!(f, "Jump({target})"),
+            Instruction::JumpIfFalse(target) => write!(f, "JumpIfFalse({target})"),
+            Instruction::JumpIfFalseOrPop(target) => write!(f, "JumpIfFalseOrPop({target})"),
+            Instruction::JumpIfTrueOrPop(target) => write!(f, "JumpIfTrueOrPop({target})"),
+            Instruction::BeginCapture(mode) => write!(f, "BeginCapture({mode:?})"),
+            Instruction::EndCapture => write!(f, "EndCapture"),
+            Instruction::CallFunction(name, count) => {
+                let count = PrintedCount::of_args(*count);
+                write!(f, "CallFunction({}, {count})", Quoted(name))
+            }
+            Instruction::CallMethod(name, count) => {
+                let count = PrintedCount::of_args(*count);
+                write!(f, "CallMethod({}, {count})", Quoted(name))
+            }
+            Instruction::CallObject(count) => {
+                write!(f, "CallObject({})", PrintedCount::of_args(*count))
+            }
+            Instruction::DupTop => write!(f, "DupTop"),
+            Instruction::DiscardTop => write!(f, "DiscardTop"),
+            Instruction::FastSuper => write!(f, "FastSuper"),
+            Instruction::FastRecurse => write!(f, "FastRecurse"),
+            Instruction::Swap => write!(f, "Swap"),
+            Instruction::CallBlock(name) => write!(f, "CallBlock({})", Quoted(name)),
         }
     }
 }
@@ -101,5 +180,12 @@ pub fn print_code<W: Write>(out: &mut W, code: &Compiled<'_, Value>) -> io::Resu
         print_instructions(out, instructions)?;
     }
     writeln!(out, "hint {}", code.buffer_size_hint)?;
+    out.flush()
+}
+
+/// Writes the code of an expression.
+pub fn print_expression<W: Write>(out: &mut W, code: &Instructions<'_, Value>) -> io::Result<()> {
+    writeln!(out, "expression")?;
+    print_instructions(out, code)?;
     out.flush()
 }

@@ -2,14 +2,15 @@
 ghost use Rattle.std.specs.Prelude.{◌≡◌, ◌≤◌, IfOk, IfSome, IsErr, IsErrAnd, IsErrOf, OnOk, string_bytes};
 ghost use Rattle.std.specs.Io.KnownBytes.{IsAtEnd};
 ghost use Rattle.mjc.specs.Settings.{syntax_with};
-ghost use Rattle.mjc.specs.Usage.{IsUsage, IsUnbuildable, Request, Asks};
+ghost use Rattle.minijinja_base.specs.Syntax.{IsBuildable};
+ghost use Rattle.mjc.specs.Usage.{IsUsage, IsFileUsage, IsExprUsage, IsUnbuildable, IsCommandFor, Request, Asks};
 ghost use Rattle.mjc.specs.Reading.{IsNoText};
 ghost use Rattle.mjc.specs.Fault.{status_of};
 
 use crate::fault::Fault;
-use crate::print::{print_code, print_tokens};
-use crate::usage::{Action, Command, parse};
-use minijinja_compiler::compile::compile;
+use crate::print::{print_code, print_expression, print_tokens};
+use crate::usage::{Action, Command, FileCommand, parse};
+use minijinja_compiler::compile::{compile, compile_expression};
 use minijinja_compiler::lexer::Tokenizer;
 use minijinja_compiler::syntax::SyntaxConfig;
 use minijinja_compiler::value::Value;
@@ -41,10 +42,13 @@ pub fn run<R: Read, Q: Read, W: Write, X: Write>(
     ensures unbuilt_unread { IsUnbuildable args.now → file.new ≡ file.old }
     ensures unbuilt_unwritten { IsUnbuildable args.now → out.new ≡ out.old }
 
-    // A file that is no text fails, and nothing is printed of it. What succeeds has read all of the file.
-    ensures unreadable { IsNoText (R.remaining file.old) → 1 ≤ result }
-    ensures unprinted { IsNoText (R.remaining file.old) → out.new ≡ out.old }
-    ensures whole { result ≡ 0 → IsAtEnd (R.remaining file.new) }
+    // A file that is no text fails, and nothing is printed of it. What succeeds with a file has read all of it.
+    ensures unreadable { IsFileUsage args.now → IsNoText (R.remaining file.old) → 1 ≤ result }
+    ensures unprinted { IsFileUsage args.now → IsNoText (R.remaining file.old) → out.new ≡ out.old }
+    ensures whole { IsFileUsage args.now → result ≡ 0 → IsAtEnd (R.remaining file.new) }
+
+    // An expression stands in the words: no file is read.
+    ensures expr { IsExprUsage args.now → file.new ≡ file.old }
 {
     let _ = answers;
     match run_command(alloc, args, file, out) {
@@ -73,27 +77,27 @@ fn run_command<'a, R: Read, W: Write>(
     ensures unbuilt { IsUnbuildable args.now → IsErrAnd result (λ fault. status_of fault ≡ 1) }
     ensures unbuilt_unread { IsUnbuildable args.now → file.new ≡ file.old }
     ensures unbuilt_unwritten { IsUnbuildable args.now → out.new ≡ out.old }
-    ensures unreadable { IsNoText (R.remaining file.old) → IsErr result }
-    ensures unprinted { IsNoText (R.remaining file.old) → out.new ≡ out.old }
-    ensures whole { OnOk result (IsAtEnd (R.remaining file.new)) }
+    ensures unreadable { IsFileUsage args.now → IsNoText (R.remaining file.old) → IsErr result }
+    ensures unprinted { IsFileUsage args.now → IsNoText (R.remaining file.old) → out.new ≡ out.old }
+    ensures whole { IsFileUsage args.now → OnOk result (IsAtEnd (R.remaining file.new)) }
+    ensures expr { IsExprUsage args.now → file.new ≡ file.old }
 {
-    let (command, syntax) = prepare(alloc, args)?;
-    show(alloc, &command, &syntax, file, out)
+    match parse(args).ok_or(Fault::Usage)? {
+        Command::File(command) => run_on_file(alloc, &command, file, out),
+        Command::Expr(text) => show_expression(alloc, text, out),
+    }
 }
 
-/// The command that the words are, and the syntax that it asks for.
-fn prepare<'a>(alloc: Global, args: &[&'a str]) -> Result<(Command<'a>, SyntaxConfig), Fault<'a>>
-    ensures misused { ¬ IsUsage args.now → IsErrOf result Fault.Usage }
-    ensures used { OnOk result (IsUsage args.now) }
-    ensures syntax { (request : Request) → Asks args.now request → IfOk result (λ r. r.1 ≡ syntax_with request.settings) }
-    ensures unbuilt { IsUnbuildable args.now → IsErrAnd result (λ fault. status_of fault ≡ 1) }
+/// The syntax that the options of a command ask for.
+fn syntax_of<'a>(alloc: Global, command: &FileCommand<'a>) -> Result<SyntaxConfig, Fault<'a>>
+    ensures syntax { (request : Request) → IsCommandFor request command.now → IfOk result (λ syntax. syntax ≡ syntax_with request.settings) }
+    ensures unbuilt { (request : Request) → IsCommandFor request command.now → ¬ IsBuildable (syntax_with request.settings) → IsErrAnd result (λ fault. status_of fault ≡ 1) }
 {
-    let command = parse(args).ok_or(Fault::Usage)?;
     let syntax = command
         .options
         .build(alloc)
         .map_err(|error| Fault::of_refusal(&error))?;
-    Ok((command, syntax))
+    Ok(syntax)
 }
 
 /// The whole of a reader, which has to be UTF-8.
@@ -107,10 +111,28 @@ fn read_text<R: Read>(alloc: Global, reader: &mut R) -> io::Result<String>
     Ok(text)
 }
 
+/// Does what is asked of a file. A syntax that cannot be built is refused before the file is read.
+fn run_on_file<'a, R: Read, W: Write>(
+    alloc: Global,
+    command: &FileCommand<'a>,
+    file: &mut R,
+    out: &mut W,
+) -> Result<(), Fault<'a>>
+    ensures unbuilt { (request : Request) → IsCommandFor request command.now → ¬ IsBuildable (syntax_with request.settings) → IsErrAnd result (λ fault. status_of fault ≡ 1) }
+    ensures unbuilt_unread { (request : Request) → IsCommandFor request command.now → ¬ IsBuildable (syntax_with request.settings) → file.new ≡ file.old }
+    ensures unbuilt_unwritten { (request : Request) → IsCommandFor request command.now → ¬ IsBuildable (syntax_with request.settings) → out.new ≡ out.old }
+    ensures unreadable { IsNoText (R.remaining file.old) → IsErr result }
+    ensures unprinted { IsNoText (R.remaining file.old) → out.new ≡ out.old }
+    ensures whole { OnOk result (IsAtEnd (R.remaining file.new)) }
+{
+    let syntax = syntax_of(alloc, command)?;
+    show(alloc, command, &syntax, file, out)
+}
+
 /// Reads the file of a command and writes what is asked of it.
 fn show<'a, R: Read, W: Write>(
     alloc: Global,
-    command: &Command<'a>,
+    command: &FileCommand<'a>,
     syntax: &SyntaxConfig,
     file: &mut R,
     out: &mut W,
@@ -156,6 +178,14 @@ fn show_code<'a, W: Write>(
 ) -> Result<(), Fault<'a>> {
     match compile::<Value>(alloc, text, path, syntax) {
         Ok(code) => print_code(out, &code).map_err(|error| Fault::of_write(&error)),
+        Err(error) => Err(Fault::of_refusal(&error)),
+    }
+}
+
+/// Compiles an expression and writes its code.
+fn show_expression<'a, W: Write>(alloc: Global, text: &str, out: &mut W) -> Result<(), Fault<'a>> {
+    match compile_expression::<Value>(alloc, text) {
+        Ok(code) => print_expression(out, &code).map_err(|error| Fault::of_write(&error)),
         Err(error) => Err(Fault::of_refusal(&error)),
     }
 }

@@ -1,4 +1,5 @@
 //! Runs of the program in memory: what is printed and which status comes is proved by no clause.
+mod expr;
 mod tokens;
 mod words;
 

@@ -3,7 +3,7 @@ ghost use Rattle.std.specs.Prelude.{◌≡◌, ◌≤◌, ◌↔◌, length, dro
 ghost use Rattle.std.specs.List.{fold};
 ghost use Rattle.minijinja_base.specs.Values.{Text};
 ghost use Rattle.mjc.specs.Settings.{Setting, texts, syntax_of, with_setting};
-ghost use Rattle.mjc.specs.Usage.{IsUsage, Request, Asks, IsCommandFor, IsFile, option_words};
+ghost use Rattle.mjc.specs.Usage.{IsUsage, IsFileUsage, IsExprUsage, Request, Asks, AsksExpr, IsCommandFor, IsFileCommandFor, IsExprCommandFor, IsFile, option_words};
 
 use crate::options::Options;
 
@@ -35,7 +35,16 @@ impl Action {
 
 /// What the words ask for.
 #[derive(Drop)]
-pub struct Command<'a> {
+pub enum Command<'a> {
+    /// What a file holds.
+    File(FileCommand<'a>),
+    /// The code of the expression that this text is.
+    Expr(&'a str),
+}
+
+/// What is asked of a file.
+#[derive(Drop)]
+pub struct FileCommand<'a> {
     /// What is done with the file.
     pub action: Action,
     /// The syntax that its text has.
@@ -74,28 +83,51 @@ fn lone_file<'a>(words: &[&'a str]) -> Option<&'a str>
     }
 }
 
-/// The command that the words are: its word, options, and one file. Options take their words as they are, and of a
+/// What is asked of a file: the word of a command, options, and one file. Options take their words as they are, and of a
 /// repeated one the last counts.
-pub fn parse<'a>(args: &[&'a str]) -> Option<Command<'a>>
-    ensures usage { IsSome result ↔ IsUsage args.now }
+fn parse_file_command<'a>(args: &[&'a str]) -> Option<FileCommand<'a>>
+    ensures usage { IsSome result ↔ IsFileUsage args.now }
     ensures asked { (request : Request) → Asks args.now request → IsSomeAnd result (IsCommandFor request) }
 {
     let (word, rest) = args.split_first()?;
     let action = Action::of_word(*word)?;
     let mut options = Options::none();
     let file = lone_file(read_options(&mut options, rest))?;
-    Some(Command {
+    Some(FileCommand {
         action,
         options,
         file,
     })
 }
 
+/// The text of the expression whose code is asked for.
+fn parse_expr_command<'a>(args: &[&'a str]) -> Option<&'a str>
+    ensures usage { IsSome result ↔ IsExprUsage args.now }
+    ensures asked { IfSome result (λ text. AsksExpr args.now text.now) }
+{
+    match args {
+        [word, text] if *word == "expr" => Some(*text),
+        _ => None,
+    }
+}
+
+/// The command that the words are: `expr` and a text, or what is asked of a file.
+pub fn parse<'a>(args: &[&'a str]) -> Option<Command<'a>>
+    ensures usage { IsSome result ↔ IsUsage args.now }
+    ensures file { (request : Request) → Asks args.now request → IsSomeAnd result (IsFileCommandFor request) }
+    ensures expr { (text : Text) → AsksExpr args.now text → IsSomeAnd result (IsExprCommandFor text) }
+{
+    match parse_expr_command(args) {
+        Some(text) => Some(Command::Expr(text)),
+        None => Some(Command::File(parse_file_command(args)?)),
+    }
+}
+
 /// The file that the words name.
 pub fn file_named<'a>(args: &[&'a str]) -> Option<&'a str>
-    ensures usage { IsSome result ↔ IsUsage args.now }
+    ensures usage { IsSome result ↔ IsFileUsage args.now }
     ensures file { (request : Request) → Asks args.now request → IsSomeAnd result (λ path. path.now ≡ request.file) }
 {
-    let command = parse(args)?;
+    let command = parse_file_command(args)?;
     Some(command.file)
 }

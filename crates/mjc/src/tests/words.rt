@@ -4,7 +4,7 @@ use std::io;
 
 #[test]
 fn refuses_bad_usage(rt: HostRuntime) {
-    let rows: [&[&str]; 22] = [
+    let rows: [&[&str]; 24] = [
         &[],
         &["code"],
         &["tokens"],
@@ -13,7 +13,9 @@ fn refuses_bad_usage(rt: HostRuntime) {
         &["code", "a", "b"],
         &["names", "a"],
         &["replay", "a", "b"],
-        &["expr", "a"],
+        &["expr"],
+        &["expr", "a", "b"],
+        &["expr", "--trim-blocks", "a"],
         &["Code", "a"],
         &["", "a"],
         &["--trim-blocks", "code", "a"],

@@ -2,23 +2,21 @@ use Rattle.std.proofs.Common.{◌<◌, ◌+◌, length, map, drop, sym, ap, ◌�
 use Rattle.std.proofs.lemmas.List.{at_drop_more}
 use Rattle.minijinja_tree.specs.Erasure.{stmt_tree}
 use Rattle.minijinja_tree.specs.Tree.{stmts_of, also}
-use Rattle.minijinja_code.specs.Code.{code_of}
-use Rattle.minijinja_code.proofs.OneByOne.{going_on}
+use Rattle.minijinja_code.specs.Layout as layout
+use Rattle.minijinja_code.proofs.Exits.{added_err}
+use Rattle.minijinja_code.proofs.Lengths.{stmts_exact}
+use Rattle.minijinja_code.proofs.OneByOne.{going_refused}
 use Rattle.minijinja_code.proofs.codegen.compile_all.Goals as goal
 
-pub loop-stmt-preserved : goal.loop-stmt-preserved
-loop-stmt-preserved g c =
+pub returns-in_err-compile_inner-clause-added : goal.returns-in_err-compile_inner-clause-added
+returns-in_err-compile_inner-clause-added g c =
     let v = g.V.TemplateValue.contents in
+    let f = g.V.TemplateValue.functions in
     let xs = c.args.stmts.now in
     let i = c.loop-stmt.stmt-index in
     let x = c.stmt-item.result in
     let rest = stmts_of (map (stmt_tree v) (drop (i + 1) xs)) in
     let within : i < length xs = omega arith in
     let split = at_drop_more (λ ys. stmts_of (map (stmt_tree v) ys)) xs i x within ∙ ap (λ y. also (stmt_tree v y) rest) (sym c.stmt-item.is) in
-    let sum = c.saturating_add-data_bytes.ensures in (
-      going_on (code_of v c.args.code.now) (code_of v c.loop-stmt.code) (code_of v c.compile_inner.new.code) (stmts_of (map (stmt_tree v) xs)) (stmt_tree v x) rest (stmts_of (map (stmt_tree v) (drop i xs))) c.loop-stmt.data_bytes c.in_ok-compile_inner.field-0 c.saturating_add-data_bytes.result
-          split c.in_ok-compile_inner.ensures.added c.in_ok-compile_inner.ensures.counted sum c.loop-stmt.invariant.0,
-      omega arith,
-      c.compile_inner.ensures.name ∙ c.loop-stmt.invariant.2,
-      c.compile_inner.ensures.source ∙ c.loop-stmt.invariant.3,
-    )
+    added_err c.from_residual.result c.from_residual.ensures.1 (λ d h. cc)
+    (going_refused (layout.stmt f (stmt_tree v x)) (ap (layout.stmts f) split) (stmts_exact f rest) c.loop-stmt.invariant.going c.in_err-compile_inner.ensures.added.err)

@@ -5,17 +5,13 @@ use Rattle.minijinja_code.proofs.codegen.compile_stmt.Goals as goal
 
 pub compile_all-requires : goal.compile_all-requires
 compile_all-requires g c =
-    let e = tree_is g.V.TemplateValue.contents c.args.stmt.now c.in-Template.template c.node.result.now c.deref.result.now c.in-Template.is c.node.ensures c.deref.ensures.value in
+    let e = tree_is {F = g.row.V-Fault.Denot} g.V.TemplateValue.contents c.args.stmt.now c.in-Template.template c.node.result.now c.deref.result.now c.in-Template.is c.node.ensures c.deref.ensures.value in
     subst IsWellFormed e c.requires
 
 pub returns-in-Template-clause-added : goal.returns-in-Template-clause-added
 returns-in-Template-clause-added g c =
-    rw (tree_is g.V.TemplateValue.contents c.args.stmt.now c.in-Template.template c.node.result.now c.deref.result.now c.in-Template.is c.node.ensures c.deref.ensures.value) c.compile_all.ensures.added
+    rw (tree_is {F = g.row.V-Fault.Denot} g.V.TemplateValue.contents c.args.stmt.now c.in-Template.template c.node.result.now c.deref.result.now c.in-Template.is c.node.ensures c.deref.ensures.value) c.compile_all.ensures.added
 
 pub returns-in-Template-clause-counted : goal.returns-in-Template-clause-counted
 returns-in-Template-clause-counted g c =
-    rw (tree_is g.V.TemplateValue.contents c.args.stmt.now c.in-Template.template c.node.result.now c.deref.result.now c.in-Template.is c.node.ensures c.deref.ensures.value) c.compile_all.ensures.counted
-
-pub returns-in-Template-clause-too_many : goal.returns-in-Template-clause-too_many
-returns-in-Template-clause-too_many g c =
-    rw (tree_is g.V.TemplateValue.contents c.args.stmt.now c.in-Template.template c.node.result.now c.deref.result.now c.in-Template.is c.node.ensures c.deref.ensures.value) c.compile_all.ensures.too_many
+    rw (tree_is {F = g.row.V-Fault.Denot} g.V.TemplateValue.contents c.args.stmt.now c.in-Template.template c.node.result.now c.deref.result.now c.in-Template.is c.node.ensures c.deref.ensures.value) c.compile_all.ensures.counted

@@ -1,14 +1,26 @@
+use Rattle.minijinja_base.specs.declared.error.ErrorKind.TheVariants.{OutOfMemory}
+use Rattle.std.proofs.Common.{None}
 use Rattle.minijinja_tree.specs.Erasure.{stmt_tree}
+use Rattle.minijinja_parser.specs.Derived.{IsTemplateTree}
 use Rattle.minijinja_parser.specs.NodeSpans.{StmtStands}
-use Rattle.minijinja_parser.proofs.Claims.{given, failed, stand}
+use Rattle.minijinja_parser.proofs.Claims.{came-found, came-refused, came-only, came-bad_escape, came-stand}
 use Rattle.minijinja_parser.proofs.parser.parse_template.Goals as goal
 
-pub returns-clause-read : goal.returns-clause-read
-returns-clause-read g c =
-    given (stmt_tree g.V.TemplateValue.contents) g.V.TemplateValue.functions _ _ _ c.parse.result c.new-parser.ensures.stream c.parse.ensures.memory c.parse.ensures.ending c.parse.ensures.read
+pub returns-clause-found : goal.returns-clause-found
+returns-clause-found g c =
+    came-found (stmt_tree g.V.TemplateValue.contents) (IsTemplateTree g.V.TemplateValue.functions) _ _ c.new-parser.result.stream c.new-parser.ensures.source c.parse.result c.new-parser.ensures.stream (c.parse.ensures.again OutOfMemory None) c.parse.ensures.found
 
-pub returns-clause-cause : goal.returns-clause-cause
-returns-clause-cause g c = failed _ _ _ c.parse.result c.new-parser.ensures.stream c.parse.ensures.memory c.parse.ensures.ending c.parse.ensures.cause
+pub returns-clause-refused : goal.returns-clause-refused
+returns-clause-refused g c =
+    came-refused (stmt_tree g.V.TemplateValue.contents) (IsTemplateTree g.V.TemplateValue.functions) _ _ c.new-parser.result.stream c.new-parser.ensures.source c.parse.result c.new-parser.ensures.stream (c.parse.ensures.again OutOfMemory None) c.parse.ensures.refused
+
+pub returns-clause-only : goal.returns-clause-only
+returns-clause-only g c =
+    came-only (stmt_tree g.V.TemplateValue.contents) (IsTemplateTree g.V.TemplateValue.functions) _ _ c.new-parser.result.stream c.new-parser.ensures.source c.parse.result c.new-parser.ensures.stream (c.parse.ensures.again OutOfMemory None) c.parse.ensures.only
+
+pub returns-clause-bad_escape : goal.returns-clause-bad_escape
+returns-clause-bad_escape g c = came-bad_escape _ c.new-parser.result.stream c.parse.result c.new-parser.ensures.stream (c.parse.ensures.again OutOfMemory None) c.parse.ensures.bad_escape
 
 pub returns-clause-spans : goal.returns-clause-spans
-returns-clause-spans g c = stand (λ ts s. StmtStands ts s) _ c.new-parser.result.stream c.parse.result c.new-parser.ensures.stream c.parse.ensures.memory c.new-parser.ensures.last c.parse.ensures.spans
+returns-clause-spans g c =
+    came-stand (λ ts s. StmtStands ts s) _ c.new-parser.result.stream c.parse.result c.new-parser.ensures.stream (c.parse.ensures.again OutOfMemory None) c.new-parser.ensures.last c.parse.ensures.spans

@@ -2,15 +2,17 @@ use Rattle.std.proofs.Common.{◌≡◌, List, [], length, map}
 use Rattle.minijinja_tree.specs.Erasure.{stmt_tree}
 use Rattle.minijinja_parser.specs.Ahead.{left}
 use Rattle.minijinja_lexer.specs.Stream.{SpannedTok}
+use Rattle.minijinja_parser.specs.Gives.{SameText}
 use Rattle.minijinja_parser.specs.Over.{AllStand, IsOver}
-use Rattle.minijinja_parser.specs.Reading as spec
+use Rattle.minijinja_parser.specs.TemplateReading as spec
 use Rattle.minijinja_parser.proofs.parser.Parser.subparse.Given as goal
 
 abbrev pub invariant-loop-children : goal.invariant-loop-children
 invariant-loop-children g l = record {
-  same : spec.parts_from g.V.TemplateValue.functions [] (left l.fn.self.stream) ≡ spec.parts_from g.V.TemplateValue.functions (map (stmt_tree g.V.TemplateValue.contents) l.children.items) (left l.self.stream);
+  same : spec.parts_from g.V.TemplateValue.functions l.fn.self.stream.source [] (left l.fn.self.stream) ≡
+      spec.parts_from g.V.TemplateValue.functions l.fn.self.stream.source (map (stmt_tree g.V.TemplateValue.contents) l.children.items) (left l.self.stream);
   spans : (ts : List SpannedTok) → IsOver ts l.fn.self.stream → IsOver ts l.self.stream × AllStand ts l.children.items;
-  ending : l.self.stream.stream.ending ≡ l.fn.self.stream.stream.ending;
+  keeps : SameText l.fn.self.stream l.self.stream;
 }
 
 abbrev pub decreases-loop-children : goal.decreases-loop-children

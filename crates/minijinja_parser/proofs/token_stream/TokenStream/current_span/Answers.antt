@@ -3,11 +3,11 @@ use Rattle.minijinja_parser.specs.NodeSpans.{StartsAtToken}
 use Rattle.minijinja_parser.proofs.Spans.{current_start}
 use Rattle.minijinja_parser.proofs.token_stream.TokenStream.current_span.Goals as goal
 
-pub returns-in-Ok-Some : goal.returns-in-Ok-Some
-returns-in-Ok-Some c = λ ts h.
+pub returns-in-Ok-Some-clause-stands : goal.returns-in-Ok-Some-clause-stands
+returns-in-Ok-Some-clause-stands c = λ ts h.
     let some : c.in-Ok-Some.field-0 ≡ Some (c.in-Ok-Some.field-0-0-0, c.in-Ok-Some.span) = first_of (cc, search rules, grind arith) in
     current_start ts c.args.self.now c.self.inside.current c.in-Ok-Some.field-0 (c.in-Ok-Some.field-0-0-0, c.in-Ok-Some.span) c.self.inside.tokenizer.stream
     (ap (λ s. s.stream) c.self.view_is) c.in-Ok-Some.is some h
 
-pub returns-in_default : goal.returns-in_default
-returns-in_default c = λ ts h. let l = ap (λ s. s.last) c.self.view_is in subst (λ s. StartsAtToken ts s) (sym l) h.last.start
+pub returns-in_default-clause-stands : goal.returns-in_default-clause-stands
+returns-in_default-clause-stands c = λ ts h. let l = ap (λ s. s.last) c.self.view_is in subst (λ s. StartsAtToken ts s) (sym l) h.last.start

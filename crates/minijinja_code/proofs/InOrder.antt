@@ -1,0 +1,68 @@
+-- Expressions that are added in order, and pairs of them.
+use Rattle.std.proofs.Common.{◌≡◌, ℕ, suc, ◌+◌, ◌<◌, ◌≤◌, List, [], ◌∷◌, length, drop, get_or, refl, sym, ap, ◌∙◌, subst, arith}
+use Rattle.std.proofs.lemmas.List.{at_drop_more, at_drop_all}
+use Rattle.minijinja_base.specs.Values.{Functions}
+use Rattle.minijinja_base.specs.declared.error.Error.{Error}
+use Rattle.minijinja_tree.specs.Erasure.{expr_tree, exprs_of}
+use Rattle.minijinja_tree.specs.WellFormed.{IsWhole, AreWhole, expr_count}
+use Rattle.minijinja_tree.specs.declared.ast.Expr.{Expr}
+use Rattle.minijinja_code.specs.Layout as layout
+use Rattle.minijinja_code.specs.Layout.{items, each, paired, pair_count}
+use Rattle.minijinja_code.specs.Pieces.{Piece, nothing, ◌▸◌}
+use Rattle.minijinja_code.specs.Making.{Made, here_of, Refuses}
+use Rattle.minijinja_code.proofs.Lengths.{Exact, then_exact, expr_exact, paired_exact, each_exact}
+use Rattle.minijinja_code.proofs.OneByOne.{Going, going_refused}
+
+pub count_length : {V K C : Type 0} (c : V → C) (xs : List (Expr V K)) → expr_count (exprs_of c xs) ≡ length xs
+count_length c [] = refl
+count_length c (x ∷ xs) = ap suc (count_length c xs)
+
+module _ {V K C : Type 0} (c : V → C) where
+  -- an expression in its place is whole, and so are those behind it
+  pub whole_here : (xs : List (Expr V K)) (i : ℕ) (x : Expr V K) → i < length xs → x ≡ get_or xs i x → AreWhole (exprs_of c (drop i xs)) → IsWhole (expr_tree c x)
+  whole_here xs i x within at w =
+      let more = subst AreWhole (at_drop_more (λ ys. exprs_of c ys) xs i x within) w in
+      subst (λ y. IsWhole (expr_tree c y)) (sym at) more.0
+
+  pub whole_behind : (xs : List (Expr V K)) (i : ℕ) (x : Expr V K) → i < length xs → AreWhole (exprs_of c (drop i xs)) → AreWhole (exprs_of c (drop (i + 1) xs))
+  whole_behind xs i x within w = (subst AreWhole (at_drop_more (λ ys. exprs_of c ys) xs i x within) w).1
+
+module _ {V K C F : Type 0} (f : Functions C F) (c : V → C) where
+  pub items_next : (xs : List (Expr V K)) (i : ℕ) (x : Expr V K) → i < length xs → x ≡ get_or xs i x →
+      items f (exprs_of c (drop i xs)) ≡ layout.expr f (expr_tree c x) ▸ items f (exprs_of c (drop (i + 1) xs))
+  items_next xs i x within at = at_drop_more (λ ys. items f (exprs_of c ys)) xs i x within ∙ ap (λ y. layout.expr f (expr_tree c y) ▸ items f (exprs_of c (drop (i + 1) xs))) (sym at)
+
+  pub items_end : (xs : List (Expr V K)) (i : ℕ) → length xs ≤ i → items f (exprs_of c (drop i xs)) ≡ nothing
+  items_end xs i past = at_drop_all (λ ys. items f (exprs_of c ys)) xs i past
+
+  abbrev pub pairs : List (Expr V K) → List (Expr V K) → Piece C
+  pairs ks vs = paired (each f (exprs_of c ks)) (each f (exprs_of c vs))
+
+  pub pairs_next : (ks vs : List (Expr V K)) (i : ℕ) (k v : Expr V K) → i < length ks → i < length vs → k ≡ get_or ks i k → v ≡ get_or vs i v →
+      pairs (drop i ks) (drop i vs) ≡ layout.expr f (expr_tree c k) ▸ (layout.expr f (expr_tree c v) ▸ pairs (drop (i + 1) ks) (drop (i + 1) vs))
+  pairs_next ks vs i k v within also at there =
+      at_drop_more (λ ys. pairs ys (drop i vs)) ks i k within
+      ∙ at_drop_more (λ ys. pairs (get_or ks i k ∷ drop (i + 1) ks) ys) vs i v also
+      ∙ ap (λ y. layout.expr f (expr_tree c y) ▸ (layout.expr f (expr_tree c (get_or vs i v)) ▸ pairs (drop (i + 1) ks) (drop (i + 1) vs))) (sym at)
+      ∙ ap (λ y. layout.expr f (expr_tree c k) ▸ (layout.expr f (expr_tree c y) ▸ pairs (drop (i + 1) ks) (drop (i + 1) vs))) (sym there)
+
+  pub pairs_end : (ks vs : List (Expr V K)) (i : ℕ) → length ks ≤ i → pairs (drop i ks) (drop i vs) ≡ nothing
+  pairs_end ks vs i past = at_drop_all (λ ys. pairs ys (drop i vs)) ks i past
+
+  pub pairs_count : (ks vs : List (Expr V K)) → length ks ≡ length vs → pair_count (each f (exprs_of c ks)) (each f (exprs_of c vs)) ≡ length ks
+  pairs_count [] vs e = refl
+  pairs_count (k ∷ ks) [] e = absurd (omega (arith, e))
+  pairs_count (k ∷ ks) (v ∷ vs) e = ap suc (pairs_count ks vs (omega (arith, e)))
+
+  pairs_exact : (ks vs : List (Expr V K)) → Exact (pairs ks vs)
+  pairs_exact ks vs = paired_exact (each f (exprs_of c ks)) (each f (exprs_of c vs)) (each_exact f (exprs_of c ks)) (each_exact f (exprs_of c vs))
+
+  pub pair_refused : {e : Error} {old now : Made C} {whole : Piece C} (ks vs : List (Expr V K)) (i : ℕ) (k : Expr V K) → i < length ks → i < length vs → k ≡ get_or ks i k →
+      Going old now whole (pairs (drop i ks) (drop i vs)) → Refuses e ((layout.expr f (expr_tree c k)).past (here_of now)) → Refuses e (whole.past (here_of old))
+  pair_refused ks [] i k within also at g r = absurd (omega (arith, also))
+  pair_refused ks (x ∷ vs) i k within also at g r =
+      let v = get_or (x ∷ vs) i x in
+      let next = at_drop_more (λ ys. pairs ys (drop i (x ∷ vs))) ks i k within
+      ∙ at_drop_more (λ ys. pairs (get_or ks i k ∷ drop (i + 1) ks) ys) (x ∷ vs) i x also
+      ∙ ap (λ y. layout.expr f (expr_tree c y) ▸ (layout.expr f (expr_tree c v) ▸ pairs (drop (i + 1) ks) (drop (i + 1) (x ∷ vs)))) (sym at) in
+      going_refused (layout.expr f (expr_tree c k)) next (then_exact (expr_exact f (expr_tree c v)) (pairs_exact (drop (i + 1) ks) (drop (i + 1) (x ∷ vs)))) g r

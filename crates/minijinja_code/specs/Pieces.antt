@@ -1,0 +1,71 @@
+-- Pieces of code: what stands behind a piece that begins here, and its instructions.
+use Rattle.std.specs.Prelude.{ℕ, suc, ◌+◌, List, [], ◌∷◌, ◌++◌, if◌then◌else◌, bytes_eq, nat_lt}
+use Rattle.minijinja_base.specs.Values.{Text}
+use Rattle.minijinja_code.specs.Code.{Instr, Jump, JumpIfFalse}
+
+-- where code stands: its place in the list, and the names of filters and of tests that have an id by then, in order of first use
+pub record Here : Type 0 where
+  pub place : ℕ
+  pub filters : List Text
+  pub tests : List Text
+
+-- so many instructions further on
+abbrev pub behind : ℕ → Here → Here
+behind n h = record h { place = h.place + n }
+
+-- a piece of code, wherever it stands
+pub record Piece (C : Type 0) : Type 0 where
+  pub past : Here → Here
+  pub code : Here → List (Instr C)
+
+-- where the code of a template, or of an expression by itself, begins
+abbrev pub start : Here
+start = record { place = 0; filters = []; tests = [] }
+
+-- no instruction
+abbrev pub nothing : {C : Type 0} → Piece C
+nothing = record { past = λ h. h; code = λ h. [] }
+
+-- one instruction
+abbrev pub one : {C : Type 0} → Instr C → Piece C
+one i = record { past = behind 1; code = λ h. i ∷ [] }
+
+-- one piece and then another
+infixr 5 ◌▸◌
+abbrev pub ◌▸◌ : {C : Type 0} → Piece C → Piece C → Piece C
+p ▸ q = record { past = λ h. q.past (p.past h); code = λ h. p.code h ++ q.code (p.past h) }
+
+-- an instruction that may lead past a piece, and the piece
+abbrev pub skipping : {C : Type 0} → (ℕ → Instr C) → Piece C → Piece C
+skipping jump p = record { past = λ h. p.past (behind 1 h); code = λ h. jump (p.past (behind 1 h)).place ∷ p.code (behind 1 h) }
+
+-- the first piece where the value on top is true, else the second
+abbrev pub branches : {C : Type 0} → Piece C → Piece C → Piece C
+branches p q = record {
+  past = λ h. q.past (behind 1 (p.past (behind 1 h)));
+  code = λ h.
+      let other = behind 1 (p.past (behind 1 h)) in
+      JumpIfFalse other.place ∷ (p.code (behind 1 h) ++ Jump (q.past other).place ∷ q.code other);
+}
+
+-- how many names of filters, and of tests, have an id of their own
+abbrev pub most_ids : ℕ
+most_ids = 50
+
+-- the id of a name, behind n others: its place among the names, the next one for a new name, and 255 where the ids are all taken
+abbrev pub id_behind : ℕ → Text → List Text → ℕ
+id_behind n x [] = if nat_lt n most_ids then n else 255
+id_behind n x (y ∷ names) = if bytes_eq x y then n else id_behind (suc n) x names
+
+-- the id of a name among these
+abbrev pub id_of : Text → List Text → ℕ
+id_of = id_behind 0
+
+-- the names that have an id, once this one is used behind n others
+abbrev pub noted_behind : ℕ → Text → List Text → List Text
+noted_behind n x [] = if nat_lt n most_ids then x ∷ [] else []
+noted_behind n x (y ∷ names) = if bytes_eq x y then y ∷ names else y ∷ noted_behind (suc n) x names
+
+-- the names, once this one is used
+abbrev pub noted : Text → List Text → List Text
+noted = noted_behind 0

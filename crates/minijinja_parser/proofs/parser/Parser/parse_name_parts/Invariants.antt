@@ -1,0 +1,17 @@
+use Rattle.std.proofs.Common.{◌≡◌, List, length}
+use Rattle.minijinja_lexer.specs.Stream.{SpannedTok}
+use Rattle.minijinja_parser.specs.Ahead.{left}
+use Rattle.minijinja_parser.specs.Depth as spec
+use Rattle.minijinja_parser.specs.Gives.{SameText}
+use Rattle.minijinja_parser.specs.Over.{IsOver}
+use Rattle.minijinja_parser.proofs.parser.Parser.parse_name_parts.Given as goal
+
+abbrev pub invariant-loop-self : goal.invariant-loop-self
+invariant-loop-self l = record {
+  same : spec.name_parts l.fn.first (left l.fn.self.stream) ≡ spec.name_parts l.last (left l.self.stream);
+  text : SameText l.fn.self.stream l.self.stream;
+  spans : (ts : List SpannedTok) → IsOver ts l.fn.self.stream → IsOver ts l.self.stream;
+}
+
+abbrev pub decreases-loop-self : goal.decreases-loop-self
+decreases-loop-self l = length (left l.self.stream)

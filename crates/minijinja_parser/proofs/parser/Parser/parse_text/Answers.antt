@@ -1,4 +1,0 @@
-use Rattle.minijinja_parser.proofs.parser.Parser.parse_text.Goals as goal
-
-pub returns-clause-spans : goal.returns-clause-spans
-returns-clause-spans g c = λ ts t h. c.in_ok-constant.ensures.spans ts t h

@@ -1,0 +1,79 @@
+-- The same as `WellFormed`, as tests.
+use Rattle.std.specs.Prelude.{Bool, true, false, ◌&&◌, ◌==◌, nat_le}
+use Rattle.minijinja_tree.specs.Tree.{Expr, variable, constant, slice, unary, binary, compare, if_expr, filter, test, attribute, item, call, list, tuple, map, Optional, absent, present, Exprs, no_more, more, Comparisons, compared, against, Args, no_args, pos, pos_splat, kwarg, kwarg_splat, Stmt, template, data_text, output, assignment, Stmts, done, also}
+use Rattle.minijinja_tree.specs.WellFormed.{most_arguments, expr_count, arg_count}
+
+-- two comparisons or more
+abbrev pub is_chain : {C : Type 0} → Comparisons C → Bool
+is_chain compared = false
+is_chain (against o e compared) = false
+is_chain (against o e (against o' e' cs)) = true
+
+abbrev mutual
+  pub is_whole : {C : Type 0} → Expr C → Bool
+  is_whole (variable x) = true
+  is_whole (constant c) = true
+  is_whole (slice e start stop step) = is_whole e && (is_whole_if_any start && (is_whole_if_any stop && is_whole_if_any step))
+  is_whole (unary o e) = is_whole e
+  is_whole (binary o a b) = is_whole a && is_whole b
+  is_whole (compare e cs) = is_chain cs && (is_whole e && are_compared cs)
+  is_whole (if_expr t a b) = is_whole t && (is_whole a && is_whole_if_any b)
+  is_whole (filter e x args) = is_whole_operand e && (nat_le (arg_count args) most_arguments && are_arguments args)
+  is_whole (test e x args) = is_whole e && (nat_le (arg_count args) most_arguments && are_arguments args)
+  is_whole (attribute e x) = is_whole e
+  is_whole (item e k) = is_whole e && is_whole k
+  is_whole (call e args) = is_whole e && (nat_le (arg_count args) most_arguments && are_arguments args)
+  is_whole (list es) = are_whole es
+  is_whole (tuple es) = are_whole es
+  is_whole (map ks vs) = (expr_count ks == expr_count vs) && (are_whole ks && are_whole vs)
+
+  -- an expression that may be absent
+  pub is_whole_if_any : {C : Type 0} → Optional C → Bool
+  is_whole_if_any absent = true
+  is_whole_if_any (present e) = is_whole e
+
+  -- an expression that is to be there
+  pub is_whole_operand : {C : Type 0} → Optional C → Bool
+  is_whole_operand absent = false
+  is_whole_operand (present e) = is_whole e
+
+  -- each of these expressions
+  pub are_whole : {C : Type 0} → Exprs C → Bool
+  are_whole no_more = true
+  are_whole (more e es) = is_whole e && are_whole es
+
+  -- each operand of these comparisons
+  pub are_compared : {C : Type 0} → Comparisons C → Bool
+  are_compared compared = true
+  are_compared (against o e cs) = is_whole e && are_compared cs
+
+  -- the value of each argument
+  pub are_arguments : {C : Type 0} → Args C → Bool
+  are_arguments no_args = true
+  are_arguments (pos e args) = is_whole e && are_arguments args
+  are_arguments (pos_splat e args) = is_whole e && are_arguments args
+  are_arguments (kwarg x e args) = is_whole e && are_arguments args
+  are_arguments (kwarg_splat e args) = is_whole e && are_arguments args
+
+-- a name may be assigned to
+abbrev pub is_target : {C : Type 0} → Expr C → Bool
+is_target (variable x) = true
+is_target _ = false
+
+abbrev mutual
+  -- a statement that stands in a template
+  pub is_inner : {C : Type 0} → Stmt C → Bool
+  is_inner (template ss) = false
+  is_inner (data_text t) = true
+  is_inner (output e) = is_whole e
+  is_inner (assignment e v) = is_target e && is_whole v
+
+  -- each of these statements
+  pub are_inner : {C : Type 0} → Stmts C → Bool
+  are_inner done = true
+  are_inner (also s rest) = is_inner s && are_inner rest
+
+-- a template, or a statement that stands in one
+abbrev pub is_well_formed : {C : Type 0} → Stmt C → Bool
+is_well_formed (template ss) = are_inner ss
+is_well_formed s = is_inner s
