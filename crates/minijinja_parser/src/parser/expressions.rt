@@ -1,5 +1,5 @@
 //! Expressions: a function for each rule of the grammar. `depth` says how deep expressions and primaries may still nest, and
-//! `span` starts where the operand does.
+//! `span` starts where the node that is being read will.
 ghost use Rattle.std.specs.Prelude.{◌≤◌, length, Contains, IfErr, IfOk};
 ghost use Rattle.minijinja_base.specs.Tokens.{tok_of};
 ghost use Rattle.minijinja_tree.specs.Erasure.{compare_op, expr_tree};
