@@ -1,4 +1,5 @@
--- The text of a token is the slice of the text at its span, and spans are in order.
+-- The text of a token is the slice of the text at its span, and spans are in order and begin and end between characters.
+use Rattle.std.specs.Str.{IsCharBoundary}
 use Rattle.std.specs.Prelude.{◌≡◌, ℕ, ◌+◌, ◌-◌, ◌≤◌, List, [], ◌∷◌, ◌++◌, length, Some, IsSome}
 use Rattle.minijinja_base.specs.Values.{Text}
 use Rattle.minijinja_base.specs.Syntax.{Syntax}
@@ -49,3 +50,8 @@ AreCutSlices s text (g ∷ gs) ts = (first : List SpannedTok) × (later : List S
 abbrev pub AreInOrder : ℕ → List SpannedTok → Type 0
 AreInOrder place [] = Unit {0}
 AreInOrder place (t ∷ ts) = (place ≤ t.1.start_offset) × (t.1.start_offset ≤ t.1.end_offset) × AreInOrder t.1.end_offset ts
+
+-- the text may be cut where the span begins and where it ends
+pub record IsBetweenChars (text : Text) (span : Span) : Type 0 where
+  pub start : IsCharBoundary text span.start_offset
+  pub end : IsCharBoundary text span.end_offset

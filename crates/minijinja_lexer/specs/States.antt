@@ -9,6 +9,7 @@ use Rattle.minijinja_lexer.specs.declared.raw.RawBlock.{RawBlock}
 use Rattle.minijinja_lexer.specs.Faults.{fault_kind}
 use Rattle.minijinja_lexer.specs.Stream.{Stream, finished, refused, before, ended, out_of_memory, NeedsMemory}
 use Rattle.minijinja_lexer.specs.Place.{Place}
+use Rattle.minijinja_lexer.specs.Slices.{IsBetweenChars}
 use Rattle.minijinja_lexer.specs.TextTokens.{stream_at, stream_in, behind_expression}
 use Rattle.minijinja_lexer.specs.declared.step.State.{State}
 use Rattle.minijinja_lexer.specs.declared.step.State.TheVariants as state
@@ -42,6 +43,11 @@ Steps s old (step.Token t span state) p = (old ≡ before ((tok_of t, span) ∷ 
 Steps s old step.Over p = old ≡ ended finished
 Steps s old (step.Failed f span) p = old ≡ ended (refused (fault_kind f) (Some span))
 Steps s old step.NoMemory p = (old ≡ out_of_memory) ⊎ NeedsMemory old.tokens
+
+-- the token that a step takes stands between characters
+abbrev pub TakesBetweenChars : Text → Step → Type 0
+TakesBetweenChars text (step.Token t span state) = IsBetweenChars text span
+TakesBetweenChars text _ = Unit {0}
 
 -- a step that gives the token of a raw block, and goes on behind it
 abbrev pub RawSteps : Text → RawBlock → Step → Place → Type 0

@@ -32,6 +32,7 @@ impl<'s> Cursor<'s> {
     ghost use Rattle.std.specs.Str.{IsCharBoundary};
     ghost use Rattle.minijinja_base.specs.Positions.{span_at, line_after, column_after};
     ghost use Rattle.minijinja_lexer.specs.Place.{Place};
+    ghost use Rattle.minijinja_lexer.specs.Slices.{IsBetweenChars};
     ghost use Rattle.minijinja_lexer.specs.TextTokens.{refusal_span, fault_span};
 
     pub(crate) fn new(text: &'s str) -> Self
@@ -87,6 +88,7 @@ impl<'s> Cursor<'s> {
         requires start_boundary { IsCharBoundary self.old.text start }
         requires stop_boundary { IsCharBoundary self.old.text stop }
         ensures span { result ≡ span_at self.old.text start stop }
+        ensures between { IsBetweenChars self.old.text result }
         ensures place { self.new ≡ record { text = self.old.text; at = stop } }
     {
         self.advance(start);

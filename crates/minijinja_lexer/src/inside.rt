@@ -4,7 +4,7 @@ ghost use Rattle.std.specs.Str.{IsCharBoundary};
 ghost use Rattle.minijinja_base.specs.Syntax.{Syntax};
 ghost use Rattle.minijinja_lexer.specs.Places.{ClosePlaces};
 ghost use Rattle.minijinja_lexer.specs.TextTokens.{stream_in, close_stream, behind_expression};
-ghost use Rattle.minijinja_lexer.specs.States.{Steps, StateFits, behind, stream_from};
+ghost use Rattle.minijinja_lexer.specs.States.{Steps, StateFits, TakesBetweenChars, behind, stream_from};
 
 use crate::cursor::Cursor;
 use crate::fault::Fault;
@@ -27,6 +27,7 @@ pub(crate) fn step_inside<'s>(
     requires shut { shut ≤ cursor.old.at }
     ensures text { cursor.new.text ≡ cursor.old.text }
     ensures steps { Steps syntax.now (stream_in syntax.now cursor.old.text tag (behind syntax.now cursor.old.text whole) opened shut cursor.old.at) result cursor.new }
+    ensures between { TakesBetweenChars cursor.old.text result }
 {
     let text = cursor.text();
     let at = cursor.at();
@@ -56,6 +57,7 @@ fn step_end<'s>(cursor: &mut Cursor<'s>, tag: Tag, whole: bool, close: Close) ->
     requires { ClosePlaces cursor.old.text cursor.old.at close }
     ensures text { cursor.new.text ≡ cursor.old.text }
     ensures steps { (s : Syntax) → Steps s (close_stream cursor.old.text tag (behind s cursor.old.text whole) close) result cursor.new }
+    ensures between { TakesBetweenChars cursor.old.text result }
 {
     match close {
         Close::Closed(start, stop, after) => {

@@ -1,9 +1,10 @@
 //! The tokenizer. A clause sees the tokens to come.
-ghost use Rattle.std.specs.Prelude.{◌≡◌, ◌≢◌, ◌<◌, ◌^◌, length, IfErr, if◌then◌else◌};
+ghost use Rattle.std.specs.Prelude.{◌≡◌, ◌≢◌, ◌<◌, ◌^◌, length, IfErr, IfOk, IfSome, if◌then◌else◌};
 ghost use Rattle.minijinja_base.specs.Errors.{kind_of};
 ghost use Rattle.minijinja_base.specs.declared.error.ErrorKind.TheVariants.{OutOfMemory};
+ghost use Rattle.minijinja_lexer.specs.Slices.{IsBetweenChars};
 ghost use Rattle.minijinja_lexer.specs.Stream.{Answers, IsNamed, IsTokenizerKind};
-ghost use Rattle.minijinja_lexer.specs.States.{StateFits, Steps, stream_from};
+ghost use Rattle.minijinja_lexer.specs.States.{StateFits, Steps, TakesBetweenChars, stream_from};
 ghost use Rattle.minijinja_lexer.specs.TextTokens.{text_of, tokens_of_template, tokens_of_expression};
 
 use crate::cursor::Cursor;
@@ -30,6 +31,7 @@ fn next_step<'s>(
     requires { StateFits cursor.old state }
     ensures text { cursor.new.text ≡ cursor.old.text }
     ensures steps { Steps syntax.now (stream_from syntax.now cursor.old state) result cursor.new }
+    ensures between { TakesBetweenChars cursor.old.text result }
 {
     match state {
         State::Outside => step_outside(syntax, cursor),
@@ -111,6 +113,8 @@ impl<'s, 'c> Tokenizer<'s, 'c> {
     /// A decoded string and an integer from 2^64 on take memory; where that is refused the tokenizer ends by it.
     pub fn next_token(&mut self) -> Result<Option<(Token<'s>, Span)>, Error<'s>>
         ensures answers { Answers self.old.stream result self.new.stream }
+        // The text may be cut where a token begins and where it ends.
+        ensures between { IfOk result (λ token. IfSome token (λ t. IsBetweenChars self.old.source t.1)) }
         ensures cause { IfErr result (λ e. IsTokenizerKind (kind_of e)) }
         ensures named { IfErr result (λ e. kind_of e ≢ OutOfMemory → IsNamed self.old.filename e) }
         ensures filename { self.new.filename ≡ self.old.filename }

@@ -6,7 +6,7 @@ ghost use Rattle.minijinja_base.specs.Syntax.{start_of};
 ghost use Rattle.minijinja_lexer.specs.Cut as spec;
 ghost use Rattle.minijinja_lexer.specs.TextTokens.{stream_at};
 ghost use Rattle.minijinja_lexer.specs.RawPlaces.{RawBlockPlaces};
-ghost use Rattle.minijinja_lexer.specs.States.{Steps, RawSteps};
+ghost use Rattle.minijinja_lexer.specs.States.{Steps, RawSteps, TakesBetweenChars};
 ghost use Rattle.minijinja_lexer.specs.Raw.{raw_at};
 ghost use Rattle.minijinja_lexer.specs.Whitespace.{control_len, control_behind};
 ghost use Rattle.minijinja_lexer.specs.Found.{IsFound};
@@ -141,7 +141,8 @@ fn step_raw<'s>(cursor: &mut Cursor<'s>, text: &'s str, block: RawBlock) -> Step
     requires text { text.now ≡ cursor.old.text }
     requires onwards { cursor.old.at ≤ block.begin }
     requires places { RawBlockPlaces text.now block.begin block }
-    ensures { RawSteps cursor.old.text block result cursor.new }
+    ensures steps { RawSteps cursor.old.text block result cursor.new }
+    ensures between { TakesBetweenChars cursor.old.text result }
 {
     let RawBlock {
         begin,
@@ -163,6 +164,7 @@ fn step_raw<'s>(cursor: &mut Cursor<'s>, text: &'s str, block: RawBlock) -> Step
 pub(crate) fn step_outside<'s>(syntax: &SyntaxConfig, cursor: &mut Cursor<'s>) -> Step<'s>
     ensures text { cursor.new.text ≡ cursor.old.text }
     ensures steps { Steps syntax.now (stream_at syntax.now cursor.old.text cursor.old.at) result cursor.new }
+    ensures between { TakesBetweenChars cursor.old.text result }
 {
     let text = cursor.text();
     while cursor.at() < text.len() {

@@ -1,6 +1,6 @@
 -- What a token stream says of itself.
 use Rattle.std.specs.Borrow.{Bor}
-use Rattle.std.specs.Prelude.{◌≡◌, ◌≢◌, ◌⊎◌, List, [], ◌∷◌, Option, Some, None, Result, Ok, Err}
+use Rattle.std.specs.Prelude.{◌≡◌, ◌≢◌, ◌⊎◌, List, [], ◌∷◌, Option, Some, None, Result, Ok, Err, IfOk, IfSome}
 use Rattle.minijinja_base.specs.Values.{Text}
 use Rattle.minijinja_base.specs.declared.tokens.Token.{Token}
 use Rattle.minijinja_base.specs.declared.tokens.Span.{Span}
@@ -8,6 +8,7 @@ use Rattle.minijinja_base.specs.Errors.{kind_of, span_of}
 use Rattle.minijinja_base.specs.declared.error.Error.{Error}
 use Rattle.minijinja_base.specs.declared.error.ErrorKind.TheVariants.{OutOfMemory}
 use Rattle.minijinja_base.specs.Tokens.{tok_of}
+use Rattle.minijinja_lexer.specs.Slices.{IsBetweenChars}
 use Rattle.minijinja_lexer.specs.Stream.{SpannedTok, Stream, Answers, Refuses, IsTokenizerKind, NeedsMemory, before, ended, finished, refused, out_of_memory, spanned_tok}
 use Rattle.minijinja_parser.specs.Grammar.{Tokens}
 
@@ -68,3 +69,7 @@ abbrev pub last_after : Result (Option (Token × Span)) Error → Span → Span
 last_after (Ok (Some t)) last = t.1
 last_after (Ok None) last = last
 last_after (Err e) last = last
+
+-- the text may be cut where the token that was answered begins and where it ends
+abbrev pub StandsBetweenChars : Text → Result (Option (Token × Span)) Error → Type 0
+StandsBetweenChars text r = IfOk r (λ answer. IfSome answer (λ t. IsBetweenChars text t.1))

@@ -1,9 +1,11 @@
 -- The model of `TokenStream`.
-use Rattle.minijinja_parser.specs.Ahead.{Ahead, joined, IsAnswerBefore}
+use Rattle.minijinja_parser.specs.Ahead.{Ahead, joined, IsAnswerBefore, StandsBetweenChars}
 use Rattle.minijinja_parser.specs.declared.token_stream.TokenStream.TheInside.{Inside}
 
 abbrev pub stream_view : Inside → Ahead
 stream_view a = record { source = a.tokenizer.source; stream = joined a.current a.tokenizer.stream; last = a.last_span }
 
-abbrev pub IsStream : Inside → Type 0
-IsStream a = IsAnswerBefore a.current a.tokenizer.stream
+-- the token in view is ahead of those of the tokenizer, and stands between characters
+pub record IsStream (a : Inside) : Type 0 where
+  pub ahead : IsAnswerBefore a.current a.tokenizer.stream
+  pub between : StandsBetweenChars a.tokenizer.source a.current

@@ -4,6 +4,7 @@ ghost use Rattle.minijinja_base.specs.Errors.{kind_of, name_of, span_of};
 ghost use Rattle.minijinja_base.specs.Syntax.{default_syntax};
 ghost use Rattle.minijinja_base.specs.Tokens.{tok_of, ident};
 ghost use Rattle.minijinja_base.specs.declared.error.ErrorKind.TheVariants.{BadEscape, OutOfMemory, SourceTooLong, SyntaxError};
+ghost use Rattle.minijinja_lexer.specs.Slices.{IsBetweenChars};
 ghost use Rattle.minijinja_lexer.specs.Stream.{IsTokenizerKind, finished, refused, spanned_tok};
 ghost use Rattle.minijinja_lexer.specs.TextTokens.{text_of, tokens_of_template, tokens_of_expression};
 ghost use Rattle.minijinja_tree.specs.Erasure.{expr_tree, stmt_tree};
@@ -99,6 +100,7 @@ impl<'s, 'c> Parser<'s, 'c> {
     /// Takes a token.
     fn expect_token(&mut self, wanted: &'static str) -> Result<(Token<'s>, Span), Error<'s>>
         ensures read { Gives spanned_tok result self.new.stream (first_token (left self.old.stream)) }
+        ensures between { IfOk result (λ t. IsBetweenChars self.old.stream.source t.1) }
         ensures keeps { Keeps result self.old.stream self.new.stream }
         ensures cause { IfErr result (IsFailure self.new.stream.stream.ending) }
         ensures spans { (ts : _) → IsOver ts self.old.stream →
@@ -113,6 +115,7 @@ impl<'s, 'c> Parser<'s, 'c> {
     /// Takes an identifier.
     fn expect_ident(&mut self, wanted: &'static str) -> Result<(&'s str, Span), Error<'s>>
         ensures read { Gives (λ t. (t.0.now, t.1)) result self.new.stream (ident_at (left self.old.stream)) }
+        ensures between { IfOk result (λ t. IsBetweenChars self.old.stream.source t.1) }
         ensures keeps { Keeps result self.old.stream self.new.stream }
         ensures cause { IfErr result (IsFailure self.new.stream.stream.ending) }
         ensures spans { (ts : _) → IsOver ts self.old.stream →

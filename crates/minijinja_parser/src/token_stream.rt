@@ -6,7 +6,7 @@ ghost use Rattle.minijinja_base.specs.declared.error.ErrorKind.TheVariants.{OutO
 ghost use Rattle.minijinja_lexer.specs.Stream.{IsTokenizerKind, ended, out_of_memory, refused};
 ghost use Rattle.minijinja_lexer.specs.TextTokens.{text_of, tokens_of_template, tokens_of_expression};
 ghost use Rattle.minijinja_tree.specs.Erasure.{bin_op, compare_op};
-ghost use Rattle.minijinja_parser.specs.Ahead.{AnswersAhead, Comes, Shows, Takes, left, last_after, next_span};
+ghost use Rattle.minijinja_parser.specs.Ahead.{AnswersAhead, Comes, Shows, StandsBetweenChars, Takes, left, last_after, next_span};
 ghost use Rattle.minijinja_parser.specs.Gives.{IsFailure, IsStop, Keeps};
 ghost use Rattle.minijinja_parser.specs.Grammar.{at, comes};
 ghost use Rattle.minijinja_parser.specs.Marks.{begins, level_op, mark_tok};
@@ -71,6 +71,7 @@ impl<'s, 'c> TokenStream<'s, 'c> {
     /// Takes the next token. After the end there is none, and a refusal is given again.
     pub fn next(&mut self) -> Result<Option<(Token<'s>, Span)>, Error<'s>>
         ensures answers { AnswersAhead self.old.stream result self.new.stream }
+        ensures between { StandsBetweenChars self.old.source result }
         ensures cause { IfErr result (λ e. IsTokenizerKind (kind_of e)) }
         ensures last { self.new.last ≡ last_after result self.old.last }
         ensures source { self.new.source ≡ self.old.source }
@@ -119,6 +120,7 @@ impl<'s, 'c> TokenStream<'s, 'c> {
     /// As `next`, and refuses at once where memory was refused for the token behind.
     pub(crate) fn take(&mut self) -> Result<Option<(Token<'s>, Span)>, Error<'s>>
         ensures answers { Takes self.old.stream result self.new.stream }
+        ensures between { StandsBetweenChars self.old.source result }
         ensures stop { IfErr result (IsStop self.new.stream.ending) }
         ensures keeps { Keeps result self.old self.new }
         ensures cause { IfErr result (IsFailure self.new.stream.ending) }

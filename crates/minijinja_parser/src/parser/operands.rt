@@ -1,11 +1,12 @@
 //! The parts of expressions in which no expression is nested.
-ghost use Rattle.std.specs.Prelude.{◌≡◌, ◌<◌, ◌++◌, ◌&&◌, length, true, false, Contains, IfErr, IfOk, IfSome, Some, if◌then◌else◌};
+ghost use Rattle.std.specs.Prelude.{◌≡◌, ◌<◌, ◌++◌, ◌&&◌, length, true, false, Contains, IfErr, IfOk, Some, if◌then◌else◌};
 ghost use Rattle.std.specs.String.{string_bytes};
 ghost use Rattle.minijinja_base.specs.Errors.{kind_of};
 ghost use Rattle.minijinja_base.specs.Positions.{slice};
 ghost use Rattle.minijinja_base.specs.Tokens as tok;
 ghost use Rattle.minijinja_base.specs.Tokens.{brace_close, comma, ident};
 ghost use Rattle.minijinja_base.specs.declared.error.ErrorKind.TheVariants.{OutOfMemory, SyntaxError};
+ghost use Rattle.minijinja_lexer.specs.Slices.{IsBetweenChars};
 ghost use Rattle.minijinja_tree.specs.Erasure.{compare_op, expr_tree};
 ghost use Rattle.minijinja_tree.specs.Tree as tree;
 ghost use Rattle.minijinja_parser.specs.Ahead.{left};
@@ -30,18 +31,17 @@ use minijinja_base::error::{Detail, Error};
 use minijinja_base::tokens::{Span, Token};
 use minijinja_base::value::TemplateValue;
 use minijinja_tree::ast::{CallArg, CompareOpKind, Expr};
-use std::alloc::AllocError;
 
-/// The source from the start of a span to the end of another, if these are places between characters.
-fn source_between<'s>(source: &'s str, first: Span, last: Span) -> Option<&'s str>
-    ensures { IfSome result (λ s. s.now ≡ slice source.now first.start_offset last.end_offset) }
+/// The source from the start of a span to the end of another.
+fn source_between<'s>(source: &'s str, first: Span, last: Span) -> &'s str
+    requires first { IsBetweenChars source.now first }
+    requires last { IsBetweenChars source.now last }
+    ensures { result.now ≡ slice source.now first.start_offset last.end_offset }
 {
     let start = first.start_offset as usize;
-    let end = last.end_offset as usize;
-    if start > end || !source.is_char_boundary(start) || !source.is_char_boundary(end) {
-        return None;
-    }
-    Some(&source[start..end])
+    // The last part never ends before the first begins; a slice has to be told.
+    let end = start.max(last.end_offset as usize);
+    &source[start..end]
 }
 
 /// How many arguments a call may have.
@@ -131,16 +131,15 @@ impl<'s, 'c> Parser<'s, 'c> {
             return Ok(name);
         }
         let last = self.parse_name_parts(first)?;
-        match source_between(self.stream.source(), first, last) {
-            Some(name) => Ok(name),
-            None => Err(Error::from(AllocError)),
-        }
+        Ok(source_between(self.stream.source(), first, last))
     }
 
     /// Where the last part of a name stands, behind the first one.
     #[tactic(auto, using(crate::proofs::Turns::name_parts_done))]
     fn parse_name_parts(&mut self, first: Span) -> Result<Span, Error<'s>>
+        requires { IsBetweenChars self.old.stream.source first }
         ensures read { Gives (λ s. s) result self.new.stream (spec.name_parts first (left self.old.stream)) }
+        ensures between { IfOk result (IsBetweenChars self.old.stream.source) }
         ensures keeps { Keeps result self.old.stream self.new.stream }
         ensures cause { IfErr result (IsFailure self.new.stream.stream.ending) }
         ensures spans { (ts : _) → IsOver ts self.old.stream → IfOk result (λ _. IsOver ts self.new.stream) }

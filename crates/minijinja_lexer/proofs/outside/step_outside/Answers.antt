@@ -58,7 +58,7 @@ returns-in-Raw-clause-steps c =
     let d = (goal.at-returns-in-Raw-clause-steps c).After-found_at in
     subst (λ (x : Stream). Steps c.args.syntax.now x c.step_raw.result c.step_raw.new.cursor) (sym (from_here d))
     (outside_raw c.args.syntax.now c.text-text.result.now c.at-at.result c.in-Raw.block c.step_raw.result c.step_raw.new.cursor
-    (inside d) c.in-Raw.ensures (subst (λ x. RawSteps x c.in-Raw.block c.step_raw.result c.step_raw.new.cursor) (same_text d) c.step_raw.ensures))
+    (inside d) c.in-Raw.ensures (subst (λ x. RawSteps x c.in-Raw.block c.step_raw.result c.step_raw.new.cursor) (same_text d) c.step_raw.ensures.steps))
 
 pub returns-in-Tag-clause-steps : goal.returns-in-Tag-clause-steps
 returns-in-Tag-clause-steps c =

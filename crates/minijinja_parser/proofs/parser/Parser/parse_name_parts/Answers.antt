@@ -1,6 +1,7 @@
-use Rattle.std.proofs.Common.{rules, ◌≡◌, ◌<◌, length, true, ap, sym, ◌∙◌, arith}
+use Rattle.std.proofs.Common.{rules, ◌≡◌, ◌<◌, length, true, ap, sym, ◌∙◌, subst, arith}
 use Rattle.std.proofs.lemmas.Grind.{common_steps}
 use Rattle.minijinja_base.specs.Tokens.{dot}
+use Rattle.minijinja_lexer.specs.Slices.{IsBetweenChars}
 use Rattle.minijinja_parser.specs.Ahead.{left}
 use Rattle.minijinja_parser.specs.Depth as spec
 use Rattle.minijinja_parser.specs.Grammar.{at}
@@ -28,5 +29,6 @@ loop-self-preserved c =
     record {
       same = e ∙ ap (λ q. and_then q (λ x. spec.name_parts x.1)) c.in_ok-part.ensures.read;
       text = same_trans _ _ _ c.loop-self.invariant.text (same_trans _ _ _ c.in_ok-skip.ensures.keeps c.in_ok-part.ensures.keeps);
+      between = subst (λ s. IsBetweenChars s c.in_ok-part.part) (c.in_ok-skip.ensures.keeps.source ∙ c.loop-self.invariant.text.source) c.in_ok-part.ensures.between;
       spans = λ ts h. (c.in_ok-part.ensures.spans ts (c.in_ok-skip.ensures.over ts (c.loop-self.invariant.spans ts h))).0;
     }

@@ -1,4 +1,5 @@
 use Rattle.std.proofs.Common.{◌≡◌, List, length}
+use Rattle.minijinja_lexer.specs.Slices.{IsBetweenChars}
 use Rattle.minijinja_lexer.specs.Stream.{SpannedTok}
 use Rattle.minijinja_parser.specs.Ahead.{left}
 use Rattle.minijinja_parser.specs.Depth as spec
@@ -10,6 +11,7 @@ abbrev pub invariant-loop-self : goal.invariant-loop-self
 invariant-loop-self l = record {
   same : spec.name_parts l.fn.first (left l.fn.self.stream) ≡ spec.name_parts l.last (left l.self.stream);
   text : SameText l.fn.self.stream l.self.stream;
+  between : IsBetweenChars l.fn.self.stream.source l.last;
   spans : (ts : List SpannedTok) → IsOver ts l.fn.self.stream → IsOver ts l.self.stream;
 }
 
