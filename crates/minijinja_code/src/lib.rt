@@ -3,5 +3,4 @@
 
 pub mod codegen;
 pub mod instructions;
-#[cfg(test)]
-mod tests;
+pub mod laws;

@@ -1,10 +1,9 @@
 //! From the tokens of a template to its tree.
 #![tactic(auto)]
 
+pub mod laws;
 mod marks;
 mod nodes;
 pub mod parser;
-#[cfg(test)]
-mod tests;
 mod token_stream;
 mod words;
