@@ -2,7 +2,7 @@
 use Rattle.std.proofs.Common.{◌≡◌, ℕ, ◌+◌, ◌*◌, ◌^◌, ◌<◌, ◌≤◌, min, List, [], ◌++◌, length, sym, ap, ◌∙◌, subst, arith, inl, inr, ⊎_elim, Option, Some, None, IfNone, Result, Ok, Err, IfErr, IsErrAnd}
 use Rattle.std.proofs.lemmas.Bool.{cases_lt}
 use Rattle.minijinja_base.specs.declared.error.Error.{Error}
-use Rattle.minijinja_parser.specs.Causes.{IsRefusal}
+use Rattle.minijinja_grammar.specs.Causes.{IsRefusal}
 use Rattle.minijinja_code.specs.Code.{Instr}
 use Rattle.minijinja_code.specs.InstructionLists.{IsAddError}
 use Rattle.minijinja_code.specs.Pieces.{Here, start}

@@ -7,8 +7,8 @@ use Rattle.minijinja_base.specs.Errors.{kind_of}
 use Rattle.minijinja_base.specs.declared.error.Error.{Error}
 use Rattle.minijinja_base.specs.declared.error.ErrorKind.TheVariants.{OutOfMemory, SourceTooLong, TooManyInstructions}
 use Rattle.minijinja_tree.specs.Tree.{Expr, Stmt}
-use Rattle.minijinja_parser.specs.Causes.{IsRefusal}
-use Rattle.minijinja_parser.specs.Derived.{IsDerived, IsExprDerived}
+use Rattle.minijinja_grammar.specs.Causes.{IsRefusal}
+use Rattle.minijinja_grammar.specs.Derived.{IsDerived, IsExprDerived}
 use Rattle.minijinja_code.specs.Instructions.{code_of}
 use Rattle.minijinja_code.specs.Pieces.{start}
 use Rattle.minijinja_code.specs.Layout.{expr_code, stmt_code}

@@ -4,9 +4,9 @@ ghost use Rattle.minijinja_base.specs.Errors.{kind_of, span_of};
 ghost use Rattle.minijinja_base.specs.declared.error.ErrorKind.TheVariants.{BadEscape, SourceTooLong, TooManyInstructions};
 ghost use Rattle.minijinja_lexer.specs.Stream as ending;
 ghost use Rattle.minijinja_lexer.specs.TextTokens.{tokens_of_template, tokens_of_expression};
-ghost use Rattle.minijinja_parser.specs.Causes.{IsRefusal};
+ghost use Rattle.minijinja_grammar.specs.Causes.{IsRefusal};
 ghost use Rattle.minijinja_base.specs.Syntax.{default_syntax};
-ghost use Rattle.minijinja_parser.specs.Derived.{IsDerived, IsExprDerived};
+ghost use Rattle.minijinja_grammar.specs.Derived.{IsDerived, IsExprDerived};
 ghost use Rattle.minijinja_compiler.specs.Headline.{IsCompiled, IsCompiledExpr, HasTooLongCode, HasTooLongExprCode, IsLimit, IsCause};
 
 use minijinja_base::error::Error;

@@ -1,5 +1,5 @@
 -- The model of `TokenStream`.
-use Rattle.minijinja_parser.specs.Ahead.{Ahead, joined, IsAnswerBefore, StandsBetweenChars}
+use Rattle.minijinja_grammar.specs.Ahead.{Ahead, joined, IsAnswerBefore, StandsBetweenChars}
 use Rattle.minijinja_parser.specs.declared.token_stream.TokenStream.TheInside.{Inside}
 
 abbrev pub stream_view : Inside → Ahead

@@ -4,7 +4,7 @@ use Rattle.minijinja_base.specs.Values.{Text}
 use Rattle.minijinja_base.specs.declared.tokens.Span.{Span}
 use Rattle.minijinja_base.specs.declared.error.ErrorKind.{ErrorKind}
 use Rattle.minijinja_lexer.specs.Stream.{Stream, ended, finished, refused}
-use Rattle.minijinja_parser.specs.Ahead.{Ahead}
+use Rattle.minijinja_grammar.specs.Ahead.{Ahead}
 use Rattle.minijinja_parser.specs.declared.parser.Parser.{Parser}
 
 -- the name of the source

@@ -10,24 +10,24 @@ ghost use Rattle.minijinja_lexer.specs.TextTokens.{text_of, tokens_of_template, 
 ghost use Rattle.minijinja_tree.specs.Erasure.{expr_tree, stmt_tree};
 ghost use Rattle.minijinja_tree.specs.Tree.{done, template};
 ghost use Rattle.minijinja_tree.specs.WellFormed.{IsWellFormed, IsWhole};
-ghost use Rattle.minijinja_parser.specs.Ahead.{left, Comes};
-ghost use Rattle.minijinja_parser.specs.Causes.{IsCause, IsLimit, IsRefusal};
-ghost use Rattle.minijinja_parser.specs.Derived.{IsDerived, IsExprDerived, IsExprTree, IsTemplateTree};
-ghost use Rattle.minijinja_parser.specs.Gives.{Gives, GivesAll, IsFailure, Keeps};
-ghost use Rattle.minijinja_parser.specs.Marks.{mark_tok};
-ghost use Rattle.minijinja_parser.specs.NodeSpans.{ExprStands, StmtStands, no_place};
-ghost use Rattle.minijinja_parser.specs.Over.{IsOver};
+ghost use Rattle.minijinja_grammar.specs.Ahead.{left, Comes};
+ghost use Rattle.minijinja_grammar.specs.Causes.{IsCause, IsLimit, IsRefusal};
+ghost use Rattle.minijinja_grammar.specs.Derived.{IsDerived, IsExprDerived, IsExprTree, IsTemplateTree};
+ghost use Rattle.minijinja_grammar.specs.Gives.{Gives, GivesAll, IsFailure, Keeps};
+ghost use Rattle.minijinja_grammar.specs.Marks.{mark_tok};
+ghost use Rattle.minijinja_grammar.specs.NodeSpans.{ExprStands, StmtStands, no_place};
+ghost use Rattle.minijinja_grammar.specs.Over.{IsOver};
 ghost use Rattle.minijinja_parser.specs.Parsing.{HasRefused, IsSpent, ahead_of, filename_of, stream_of};
-ghost use Rattle.minijinja_parser.specs.Reading.{first_token, ident_at, token, tree_of_expr};
-ghost use Rattle.minijinja_parser.specs.TemplateReading.{tree_of};
+ghost use Rattle.minijinja_grammar.specs.Reading.{first_token, ident_at, token, tree_of_expr};
+ghost use Rattle.minijinja_grammar.specs.TemplateReading.{tree_of};
 
-use crate::marks::{Mark, is_mark, name_of};
-use crate::nodes;
 pub use crate::token_stream::TokenStream;
 use minijinja_base::error::{Detail, Error, ErrorKind};
 use minijinja_base::syntax::SyntaxConfig;
 use minijinja_base::tokens::{Span, Token};
 use minijinja_base::value::TemplateValue;
+use minijinja_grammar::marks::{Mark, is_mark, name_of};
+use minijinja_grammar::nodes;
 use minijinja_tree::ast::{Expr, Stmt};
 use std::alloc::Global;
 
@@ -157,7 +157,7 @@ impl<'s, 'c> Parser<'s, 'c> {
     }
 
     /// The template, up to the end of the tokens.
-    #[tactic(auto, unfolding(crate::specs::TemplateReading::tree_of))]
+    #[tactic(auto, unfolding(minijinja_grammar::specs::TemplateReading::tree_of))]
     fn whole_template<V: TemplateValue>(&mut self) -> Result<Stmt<'s, V>, Error<'s>>
         ensures read { GivesAll (stmt_tree V.contents) result self.new.stream.stream
             (tree_of V.functions self.old.stream.source (left self.old.stream)) }
@@ -172,7 +172,7 @@ impl<'s, 'c> Parser<'s, 'c> {
     }
 
     /// The expression, up to the end of the tokens.
-    #[tactic(auto, unfolding(crate::specs::Reading::tree_of_expr))]
+    #[tactic(auto, unfolding(minijinja_grammar::specs::Reading::tree_of_expr))]
     fn whole_expr<V: TemplateValue>(&mut self) -> Result<Expr<'s, V>, Error<'s>>
         ensures read { GivesAll (expr_tree V.contents) result self.new.stream.stream
             (tree_of_expr V.functions self.old.stream.source (left self.old.stream)) }

@@ -6,19 +6,21 @@ ghost use Rattle.minijinja_base.specs.declared.error.ErrorKind.TheVariants.{OutO
 ghost use Rattle.minijinja_lexer.specs.Stream.{IsTokenizerKind, ended, out_of_memory, refused};
 ghost use Rattle.minijinja_lexer.specs.TextTokens.{text_of, tokens_of_template, tokens_of_expression};
 ghost use Rattle.minijinja_tree.specs.Erasure.{bin_op, compare_op};
-ghost use Rattle.minijinja_parser.specs.Ahead.{AnswersAhead, Comes, Shows, StandsBetweenChars, Takes, left, last_after, next_span};
-ghost use Rattle.minijinja_parser.specs.Gives.{IsFailure, IsStop, Keeps};
-ghost use Rattle.minijinja_parser.specs.Grammar.{at, comes};
-ghost use Rattle.minijinja_parser.specs.Marks.{begins, level_op, mark_tok};
-ghost use Rattle.minijinja_parser.specs.NodeSpans.{IsOfTokens, StartsAtToken, no_place};
-ghost use Rattle.minijinja_parser.specs.Over.{IsOver, TakenFrom, expanded};
-ghost use Rattle.minijinja_parser.specs.Reading.{first_held, rest};
-ghost use Rattle.minijinja_parser.specs.Words as words;
+ghost use Rattle.minijinja_grammar.specs.Ahead.{AnswersAhead, Comes, Shows, StandsBetweenChars, Takes, left, last_after, next_span};
+ghost use Rattle.minijinja_grammar.specs.Gives.{IsFailure, IsStop, Keeps};
+ghost use Rattle.minijinja_grammar.specs.Grammar.{at, comes};
+ghost use Rattle.minijinja_grammar.specs.Marks.{begins, level_op, mark_tok};
+ghost use Rattle.minijinja_grammar.specs.NodeSpans.{IsOfTokens, StartsAtToken, no_place};
+ghost use Rattle.minijinja_grammar.specs.Over.{IsOver, TakenFrom, expanded};
+ghost use Rattle.minijinja_grammar.specs.Reading.{first_held, rest};
+ghost use Rattle.minijinja_grammar.specs.Words as words;
 
-use crate::marks::{Level, Mark, Part, begins_part, compare_operator, is_mark, level_operator};
 use minijinja_base::error::{Error, ErrorKind};
 use minijinja_base::syntax::SyntaxConfig;
 use minijinja_base::tokens::{Span, Token};
+use minijinja_grammar::marks::{
+    Level, Mark, Part, begins_part, compare_operator, is_mark, level_operator,
+};
 use minijinja_lexer::lexer::Tokenizer;
 use minijinja_tree::ast::{BinOpKind, CompareOpKind};
 use std::alloc::Global;
@@ -34,7 +36,7 @@ pub struct TokenStream<'s, 'c> {
 }
 
 impl<'s, 'c> Model for TokenStream<'s, 'c> {
-    ghost use Rattle.minijinja_parser.specs.Ahead.{Ahead};
+    ghost use Rattle.minijinja_grammar.specs.Ahead.{Ahead};
 
     ghost Value = { Ahead };
 

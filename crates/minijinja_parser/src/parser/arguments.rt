@@ -1,25 +1,25 @@
 //! The arguments of calls, filters and tests.
 ghost use Rattle.std.specs.Prelude.{[], IfErr, IfOk};
 ghost use Rattle.minijinja_tree.specs.Erasure.{expr_tree};
-ghost use Rattle.minijinja_parser.specs.Ahead.{left};
-ghost use Rattle.minijinja_parser.specs.Depth as spec;
-ghost use Rattle.minijinja_parser.specs.Gives.{Gives, IsFailure, Keeps};
-ghost use Rattle.minijinja_parser.specs.NodeSpans.{ExprStands};
-ghost use Rattle.minijinja_parser.specs.Over.{AllArgsStand, CallArgStands, IsOver};
-ghost use Rattle.minijinja_parser.specs.Views.{arg_view, args_view};
+ghost use Rattle.minijinja_grammar.specs.Ahead.{left};
+ghost use Rattle.minijinja_grammar.specs.Depth as spec;
+ghost use Rattle.minijinja_grammar.specs.Gives.{Gives, IsFailure, Keeps};
+ghost use Rattle.minijinja_grammar.specs.NodeSpans.{ExprStands};
+ghost use Rattle.minijinja_grammar.specs.Over.{AllArgsStand, CallArgStands, IsOver};
+ghost use Rattle.minijinja_grammar.specs.Views.{arg_view, args_view};
 
-use crate::marks::{Mark, Part};
-use crate::nodes;
 use crate::parser::Parser;
 use crate::parser::operands::is_named;
 use minijinja_base::error::Error;
 use minijinja_base::value::TemplateValue;
+use minijinja_grammar::marks::{Mark, Part};
+use minijinja_grammar::nodes;
 use minijinja_tree::ast::{CallArg, Expr};
 
 impl<'s, 'c> Parser<'s, 'c> {
     /// The arguments of a filter, if there are any.
     #[cycle(expr)]
-    #[tactic(auto, using(crate::proofs::Turns::maybe_args_is))]
+    #[tactic(auto, using(minijinja_grammar::proofs::Turns::maybe_args_is))]
     pub(crate) fn parse_maybe_args<V: TemplateValue>(
         &mut self,
         depth: usize,
@@ -37,7 +37,7 @@ impl<'s, 'c> Parser<'s, 'c> {
 
     /// Arguments in parentheses.
     #[cycle(expr)]
-    #[tactic(auto, using(crate::proofs::Turns::args_is))]
+    #[tactic(auto, using(minijinja_grammar::proofs::Turns::args_is))]
     pub(crate) fn parse_args<V: TemplateValue>(
         &mut self,
         depth: usize,
@@ -55,7 +55,7 @@ impl<'s, 'c> Parser<'s, 'c> {
 
     /// The arguments between the parentheses.
     #[cycle(expr)]
-    #[tactic(auto, using(crate::proofs::Turns::args_from_more, crate::proofs::Turns::args_from_done, crate::proofs::Turns::also_arg_is))]
+    #[tactic(auto, using(minijinja_grammar::proofs::Turns::args_from_more, minijinja_grammar::proofs::Turns::args_from_done, minijinja_grammar::proofs::Turns::also_arg_is))]
     fn parse_arg_items<V: TemplateValue>(
         &mut self,
         depth: usize,
@@ -81,7 +81,7 @@ impl<'s, 'c> Parser<'s, 'c> {
 
     /// An argument.
     #[cycle(expr)]
-    #[tactic(auto, using(crate::proofs::Turns::arg_is))]
+    #[tactic(auto, using(minijinja_grammar::proofs::Turns::arg_is))]
     fn parse_arg<V: TemplateValue>(&mut self, depth: usize) -> Result<CallArg<'s, V>, Error<'s>>
         ensures read { Gives (arg_view V.contents) result self.new.stream (spec.arg V.functions self.old.stream.source depth (left self.old.stream)) }
         ensures keeps { Keeps result self.old.stream self.new.stream }
@@ -102,7 +102,7 @@ impl<'s, 'c> Parser<'s, 'c> {
 
     /// An argument, whose first expression is read.
     #[cycle(expr)]
-    #[tactic(auto, using(crate::proofs::Turns::rest_plain, crate::proofs::Turns::rest_no_name, crate::proofs::Turns::rest_named))]
+    #[tactic(auto, using(minijinja_grammar::proofs::Turns::rest_plain, minijinja_grammar::proofs::Turns::rest_no_name, minijinja_grammar::proofs::Turns::rest_named))]
     fn parse_rest_of_arg<V: TemplateValue>(
         &mut self,
         expr: Expr<'s, V>,

@@ -3,20 +3,20 @@
 ghost use Rattle.std.specs.Prelude.{◌≤◌, length, Contains, IfErr, IfOk};
 ghost use Rattle.minijinja_base.specs.Tokens.{tok_of};
 ghost use Rattle.minijinja_tree.specs.Erasure.{compare_op, expr_tree};
-ghost use Rattle.minijinja_parser.specs.Ahead.{left};
-ghost use Rattle.minijinja_parser.specs.Depth as spec;
-ghost use Rattle.minijinja_parser.specs.Gives.{Gives, IsFailure, Keeps};
-ghost use Rattle.minijinja_parser.specs.NodeSpans.{ExprStands, StartsAtToken};
-ghost use Rattle.minijinja_parser.specs.Over.{AllArgsStand, AllComparedStand, AllExprsStand, AnyStands, IsOver};
-ghost use Rattle.minijinja_parser.specs.Reading.{expr_at, primary_at};
-ghost use Rattle.minijinja_parser.specs.Views.{all_compared, any_tree, args_view, trees};
+ghost use Rattle.minijinja_grammar.specs.Ahead.{left};
+ghost use Rattle.minijinja_grammar.specs.Depth as spec;
+ghost use Rattle.minijinja_grammar.specs.Gives.{Gives, IsFailure, Keeps};
+ghost use Rattle.minijinja_grammar.specs.NodeSpans.{ExprStands, StartsAtToken};
+ghost use Rattle.minijinja_grammar.specs.Over.{AllArgsStand, AllComparedStand, AllExprsStand, AnyStands, IsOver};
+ghost use Rattle.minijinja_grammar.specs.Reading.{expr_at, primary_at};
+ghost use Rattle.minijinja_grammar.specs.Views.{all_compared, any_tree, args_view, trees};
 
-use crate::marks::{Level, Mark, Part};
-use crate::nodes;
 use crate::parser::Parser;
 use minijinja_base::error::{Detail, Error};
 use minijinja_base::tokens::{Span, Token};
 use minijinja_base::value::TemplateValue;
+use minijinja_grammar::marks::{Level, Mark, Part};
+use minijinja_grammar::nodes;
 use minijinja_tree::ast::{CallArg, CompareOp, CompareOpKind, Expr, IfExpr, Slice, UnaryOpKind};
 
 const TOO_DEEP: Detail<'static> = Detail::UnexpectedToken("an expression that is nested less deep");
@@ -24,7 +24,7 @@ const TOO_DEEP: Detail<'static> = Detail::UnexpectedToken("an expression that is
 impl<'s, 'c> Parser<'s, 'c> {
     /// An expression.
     #[cycle(expr)]
-    #[tactic(auto, using(crate::proofs::Turns::expr_zero, crate::proofs::Turns::expr_next))]
+    #[tactic(auto, using(minijinja_grammar::proofs::Turns::expr_zero, minijinja_grammar::proofs::Turns::expr_next))]
     pub(crate) fn parse_expr<V: TemplateValue>(
         &mut self,
         depth: usize,
@@ -42,7 +42,7 @@ impl<'s, 'c> Parser<'s, 'c> {
 
     /// An if expression, or what stands for its true part alone.
     #[cycle(expr)]
-    #[tactic(auto, using(crate::proofs::Turns::cond_is, crate::proofs::Turns::ifs_more, crate::proofs::Turns::ifs_done))]
+    #[tactic(auto, using(minijinja_grammar::proofs::Turns::cond_is, minijinja_grammar::proofs::Turns::ifs_more, minijinja_grammar::proofs::Turns::ifs_done))]
     fn parse_if<V: TemplateValue>(&mut self, depth: usize) -> Result<Expr<'s, V>, Error<'s>>
         ensures read { Gives (expr_tree V.contents) result self.new.stream (spec.cond V.functions self.old.stream.source depth (left self.old.stream)) }
         ensures keeps { Keeps result self.old.stream self.new.stream }
@@ -60,7 +60,7 @@ impl<'s, 'c> Parser<'s, 'c> {
 
     /// What follows a true part, from the word `if` on.
     #[cycle(expr)]
-    #[tactic(auto, using(crate::proofs::Turns::if_tail_is))]
+    #[tactic(auto, using(minijinja_grammar::proofs::Turns::if_tail_is))]
     fn parse_test_of_if<V: TemplateValue>(
         &mut self,
         expr: Expr<'s, V>,
@@ -85,7 +85,7 @@ impl<'s, 'c> Parser<'s, 'c> {
 
     /// An else part, if there is one.
     #[cycle(expr)]
-    #[tactic(auto, using(crate::proofs::Turns::else_part_is))]
+    #[tactic(auto, using(minijinja_grammar::proofs::Turns::else_part_is))]
     fn parse_else<V: TemplateValue>(
         &mut self,
         depth: usize,
@@ -104,7 +104,7 @@ impl<'s, 'c> Parser<'s, 'c> {
 
     /// The operators of a level, grouped to the left.
     #[cycle(expr)]
-    #[tactic(auto, using(crate::proofs::Turns::level_is, crate::proofs::Turns::operators_more, crate::proofs::Turns::operators_done))]
+    #[tactic(auto, using(minijinja_grammar::proofs::Turns::level_is, minijinja_grammar::proofs::Turns::operators_more, minijinja_grammar::proofs::Turns::operators_done))]
     fn parse_binary<V: TemplateValue>(
         &mut self,
         level: Level,
@@ -127,7 +127,7 @@ impl<'s, 'c> Parser<'s, 'c> {
 
     /// A side of an operator of the level.
     #[cycle(expr)]
-    #[tactic(auto, unfolding(crate::specs::Depth::below, crate::specs::Depth::level, crate::specs::Depth::denial, crate::specs::Depth::unary))]
+    #[tactic(auto, unfolding(minijinja_grammar::specs::Depth::below, minijinja_grammar::specs::Depth::level, minijinja_grammar::specs::Depth::denial, minijinja_grammar::specs::Depth::unary))]
     fn parse_side<V: TemplateValue>(
         &mut self,
         level: Level,
@@ -150,7 +150,7 @@ impl<'s, 'c> Parser<'s, 'c> {
 
     /// A comparison behind any number of the word `not`.
     #[cycle(expr)]
-    #[tactic(auto, using(crate::proofs::Turns::denial_is))]
+    #[tactic(auto, using(minijinja_grammar::proofs::Turns::denial_is))]
     fn parse_not<V: TemplateValue>(&mut self, depth: usize) -> Result<Expr<'s, V>, Error<'s>>
         ensures read { Gives (expr_tree V.contents) result self.new.stream (spec.denial V.functions self.old.stream.source depth (left self.old.stream)) }
         ensures keeps { Keeps result self.old.stream self.new.stream }
@@ -173,7 +173,7 @@ impl<'s, 'c> Parser<'s, 'c> {
 
     /// No comparison, one, or a chain of them.
     #[cycle(expr)]
-    #[tactic(auto, using(crate::proofs::Turns::cmp_is, crate::proofs::Turns::chain_done, crate::proofs::Turns::chain_more))]
+    #[tactic(auto, using(minijinja_grammar::proofs::Turns::cmp_is, minijinja_grammar::proofs::Turns::chain_done, minijinja_grammar::proofs::Turns::chain_more))]
     fn parse_compare<V: TemplateValue>(&mut self, depth: usize) -> Result<Expr<'s, V>, Error<'s>>
         ensures read { Gives (expr_tree V.contents) result self.new.stream (spec.cmp V.functions self.old.stream.source depth (left self.old.stream)) }
         ensures keeps { Keeps result self.old.stream self.new.stream }
@@ -207,7 +207,7 @@ impl<'s, 'c> Parser<'s, 'c> {
 
     /// A chain of comparisons, of which two are read.
     #[cycle(expr)]
-    #[tactic(auto, using(crate::proofs::Turns::chain_more, crate::proofs::Turns::chain_done))]
+    #[tactic(auto, using(minijinja_grammar::proofs::Turns::chain_more, minijinja_grammar::proofs::Turns::chain_done))]
     fn parse_chain<V: TemplateValue>(
         &mut self,
         expr: Expr<'s, V>,
@@ -231,7 +231,7 @@ impl<'s, 'c> Parser<'s, 'c> {
 
     /// A comparison and what stands behind it.
     #[cycle(expr)]
-    #[tactic(auto, using(crate::proofs::Turns::comparison_is))]
+    #[tactic(auto, using(minijinja_grammar::proofs::Turns::comparison_is))]
     fn parse_comparison<V: TemplateValue>(
         &mut self,
         depth: usize,
@@ -248,7 +248,7 @@ impl<'s, 'c> Parser<'s, 'c> {
 
     /// An operand, and the filters and tests behind it.
     #[cycle(expr)]
-    #[tactic(auto, using(crate::proofs::Turns::unary_is, crate::proofs::Turns::suffixes_more, crate::proofs::Turns::suffixes_done))]
+    #[tactic(auto, using(minijinja_grammar::proofs::Turns::unary_is, minijinja_grammar::proofs::Turns::suffixes_more, minijinja_grammar::proofs::Turns::suffixes_done))]
     fn parse_unary<V: TemplateValue>(&mut self, depth: usize) -> Result<Expr<'s, V>, Error<'s>>
         ensures read { Gives (expr_tree V.contents) result self.new.stream (spec.unary V.functions self.old.stream.source depth (left self.old.stream)) }
         ensures keeps { Keeps result self.old.stream self.new.stream }
@@ -264,7 +264,7 @@ impl<'s, 'c> Parser<'s, 'c> {
 
     /// A filter or a test.
     #[cycle(expr)]
-    #[tactic(auto, using(crate::proofs::Turns::suffix_is))]
+    #[tactic(auto, using(minijinja_grammar::proofs::Turns::suffix_is))]
     fn parse_suffix<V: TemplateValue>(
         &mut self,
         expr: Expr<'s, V>,
@@ -285,7 +285,7 @@ impl<'s, 'c> Parser<'s, 'c> {
 
     /// A filter, from behind its `|` on.
     #[cycle(expr)]
-    #[tactic(auto, using(crate::proofs::Turns::filter_is))]
+    #[tactic(auto, using(minijinja_grammar::proofs::Turns::filter_is))]
     fn parse_filter<V: TemplateValue>(
         &mut self,
         expr: Expr<'s, V>,
@@ -304,7 +304,7 @@ impl<'s, 'c> Parser<'s, 'c> {
 
     /// A test, from behind the word `is` on.
     #[cycle(expr)]
-    #[tactic(auto, using(crate::proofs::Turns::test_is))]
+    #[tactic(auto, using(minijinja_grammar::proofs::Turns::test_is))]
     fn parse_test<V: TemplateValue>(
         &mut self,
         expr: Expr<'s, V>,
@@ -331,7 +331,7 @@ impl<'s, 'c> Parser<'s, 'c> {
 
     /// The name of a test and its arguments.
     #[cycle(expr)]
-    #[tactic(auto, using(crate::proofs::Turns::test_named_is))]
+    #[tactic(auto, using(minijinja_grammar::proofs::Turns::test_named_is))]
     fn parse_named_test<V: TemplateValue>(
         &mut self,
         expr: Expr<'s, V>,
@@ -350,7 +350,7 @@ impl<'s, 'c> Parser<'s, 'c> {
 
     /// The arguments of a test: in parentheses, or one without them.
     #[cycle(expr)]
-    #[tactic(auto, using(crate::proofs::Turns::test_args_is))]
+    #[tactic(auto, using(minijinja_grammar::proofs::Turns::test_args_is))]
     fn parse_test_args<V: TemplateValue>(
         &mut self,
         depth: usize,
@@ -374,7 +374,7 @@ impl<'s, 'c> Parser<'s, 'c> {
 
     /// A primary and what follows it, behind any number of `-`.
     #[cycle(expr)]
-    #[tactic(auto, using(crate::proofs::Turns::operand_is))]
+    #[tactic(auto, using(minijinja_grammar::proofs::Turns::operand_is))]
     fn parse_operand<V: TemplateValue>(&mut self, depth: usize) -> Result<Expr<'s, V>, Error<'s>>
         ensures read { Gives (expr_tree V.contents) result self.new.stream (spec.operand V.functions self.old.stream.source depth (left self.old.stream)) }
         ensures keeps { Keeps result self.old.stream self.new.stream }
@@ -397,7 +397,7 @@ impl<'s, 'c> Parser<'s, 'c> {
 
     /// A primary and what follows it.
     #[cycle(expr)]
-    #[tactic(auto, using(crate::proofs::Turns::postfixed_is, crate::proofs::Turns::postfixes_more, crate::proofs::Turns::postfixes_done))]
+    #[tactic(auto, using(minijinja_grammar::proofs::Turns::postfixed_is, minijinja_grammar::proofs::Turns::postfixes_more, minijinja_grammar::proofs::Turns::postfixes_done))]
     fn parse_postfixed<V: TemplateValue>(&mut self, depth: usize) -> Result<Expr<'s, V>, Error<'s>>
         ensures read { Gives (expr_tree V.contents) result self.new.stream (spec.postfixed V.functions self.old.stream.source depth (left self.old.stream)) }
         ensures keeps { Keeps result self.old.stream self.new.stream }
@@ -416,7 +416,7 @@ impl<'s, 'c> Parser<'s, 'c> {
 
     /// An attribute, an item, a slice or a call.
     #[cycle(expr)]
-    #[tactic(auto, using(crate::proofs::Turns::postfix_is))]
+    #[tactic(auto, using(minijinja_grammar::proofs::Turns::postfix_is))]
     fn parse_postfix<V: TemplateValue>(
         &mut self,
         expr: Expr<'s, V>,
@@ -442,7 +442,7 @@ impl<'s, 'c> Parser<'s, 'c> {
 
     /// An item or a slice, from behind its bracket on.
     #[cycle(expr)]
-    #[tactic(auto, using(crate::proofs::Turns::subscript_is))]
+    #[tactic(auto, using(minijinja_grammar::proofs::Turns::subscript_is))]
     fn parse_subscript<V: TemplateValue>(
         &mut self,
         expr: Expr<'s, V>,
@@ -464,7 +464,7 @@ impl<'s, 'c> Parser<'s, 'c> {
 
     /// A slice, from behind its first `:` on.
     #[cycle(expr)]
-    #[tactic(auto, using(crate::proofs::Turns::range_is))]
+    #[tactic(auto, using(minijinja_grammar::proofs::Turns::range_is))]
     fn parse_range<V: TemplateValue>(
         &mut self,
         expr: Expr<'s, V>,
@@ -491,7 +491,7 @@ impl<'s, 'c> Parser<'s, 'c> {
 
     /// The step of a slice, if there is one.
     #[cycle(expr)]
-    #[tactic(auto, using(crate::proofs::Turns::step_is))]
+    #[tactic(auto, using(minijinja_grammar::proofs::Turns::step_is))]
     fn parse_step<V: TemplateValue>(
         &mut self,
         depth: usize,
@@ -510,7 +510,7 @@ impl<'s, 'c> Parser<'s, 'c> {
 
     /// An expression, if one begins.
     #[cycle(expr)]
-    #[tactic(auto, using(crate::proofs::Turns::maybe_expr_is))]
+    #[tactic(auto, using(minijinja_grammar::proofs::Turns::maybe_expr_is))]
     fn parse_maybe_expr<V: TemplateValue>(
         &mut self,
         depth: usize,
@@ -528,7 +528,7 @@ impl<'s, 'c> Parser<'s, 'c> {
 
     /// A variable, a constant, a literal or what stands in brackets.
     #[cycle(expr)]
-    #[tactic(auto, using(crate::proofs::Turns::primary_zero, crate::proofs::Turns::primary_is))]
+    #[tactic(auto, using(minijinja_grammar::proofs::Turns::primary_zero, minijinja_grammar::proofs::Turns::primary_is))]
     fn parse_primary<V: TemplateValue>(&mut self, depth: usize) -> Result<Expr<'s, V>, Error<'s>>
         ensures read { Gives (expr_tree V.contents) result self.new.stream (primary_at V.functions self.old.stream.source depth (left self.old.stream)) }
         ensures keeps { Keeps result self.old.stream self.new.stream }
@@ -570,7 +570,7 @@ impl<'s, 'c> Parser<'s, 'c> {
 
     /// What stands in parentheses, from behind the opening one on.
     #[cycle(expr)]
-    #[tactic(auto, using(crate::proofs::Turns::group_is))]
+    #[tactic(auto, using(minijinja_grammar::proofs::Turns::group_is))]
     fn parse_group<V: TemplateValue>(
         &mut self,
         span: Span,
@@ -595,7 +595,7 @@ impl<'s, 'c> Parser<'s, 'c> {
 
     /// What follows the first expression in parentheses.
     #[cycle(expr)]
-    #[tactic(auto, using(crate::proofs::Turns::rest_of_group_is))]
+    #[tactic(auto, using(minijinja_grammar::proofs::Turns::rest_of_group_is))]
     fn parse_rest_of_group<V: TemplateValue>(
         &mut self,
         expr: Expr<'s, V>,
@@ -617,7 +617,7 @@ impl<'s, 'c> Parser<'s, 'c> {
 
     /// A tuple, from behind its first comma on.
     #[cycle(expr)]
-    #[tactic(auto, using(crate::proofs::Turns::rest_of_tuple_is))]
+    #[tactic(auto, using(minijinja_grammar::proofs::Turns::rest_of_tuple_is))]
     fn parse_tuple<V: TemplateValue>(
         &mut self,
         expr: Expr<'s, V>,
@@ -638,7 +638,7 @@ impl<'s, 'c> Parser<'s, 'c> {
 
     /// A list, from behind its bracket on.
     #[cycle(expr)]
-    #[tactic(auto, using(crate::proofs::Turns::list_is))]
+    #[tactic(auto, using(minijinja_grammar::proofs::Turns::list_is))]
     fn parse_list<V: TemplateValue>(
         &mut self,
         span: Span,
@@ -656,7 +656,7 @@ impl<'s, 'c> Parser<'s, 'c> {
 
     /// Expressions between commas, behind those so far.
     #[cycle(expr)]
-    #[tactic(auto, using(crate::proofs::Turns::exprs_more, crate::proofs::Turns::exprs_done))]
+    #[tactic(auto, using(minijinja_grammar::proofs::Turns::exprs_more, minijinja_grammar::proofs::Turns::exprs_done))]
     fn parse_exprs<V: TemplateValue>(
         &mut self,
         items: Vec<Expr<'s, V>>,
@@ -679,7 +679,7 @@ impl<'s, 'c> Parser<'s, 'c> {
 
     /// A map, from behind its brace on.
     #[cycle(expr)]
-    #[tactic(auto, using(crate::proofs::Turns::map_is, crate::proofs::Turns::entries_more, crate::proofs::Turns::entries_done))]
+    #[tactic(auto, using(minijinja_grammar::proofs::Turns::map_is, minijinja_grammar::proofs::Turns::entries_more, minijinja_grammar::proofs::Turns::entries_done))]
     fn parse_map<V: TemplateValue>(
         &mut self,
         span: Span,
@@ -705,7 +705,7 @@ impl<'s, 'c> Parser<'s, 'c> {
 
     /// A key and its value.
     #[cycle(expr)]
-    #[tactic(auto, using(crate::proofs::Turns::entry_is))]
+    #[tactic(auto, using(minijinja_grammar::proofs::Turns::entry_is))]
     fn parse_entry<V: TemplateValue>(
         &mut self,
         depth: usize,

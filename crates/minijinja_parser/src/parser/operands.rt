@@ -9,27 +9,27 @@ ghost use Rattle.minijinja_base.specs.declared.error.ErrorKind.TheVariants.{OutO
 ghost use Rattle.minijinja_lexer.specs.Slices.{IsBetweenChars};
 ghost use Rattle.minijinja_tree.specs.Erasure.{compare_op, expr_tree};
 ghost use Rattle.minijinja_tree.specs.Tree as tree;
-ghost use Rattle.minijinja_parser.specs.Ahead.{left};
-ghost use Rattle.minijinja_parser.specs.Depth as spec;
-ghost use Rattle.minijinja_parser.specs.Gives.{Gives, IsFailure, IsStop, Keeps};
-ghost use Rattle.minijinja_parser.specs.Grammar as grammar;
-ghost use Rattle.minijinja_parser.specs.Grammar.{at};
-ghost use Rattle.minijinja_parser.specs.Lists.{exprs_of};
-ghost use Rattle.minijinja_parser.specs.NodeSpans.{ExprStands, IsOfTokens, StartsAtToken};
-ghost use Rattle.minijinja_parser.specs.Over.{AllExprsStand, AnyStands, IsOver};
-ghost use Rattle.minijinja_parser.specs.Readers.{read_map};
-ghost use Rattle.minijinja_parser.specs.Reading as read;
-ghost use Rattle.minijinja_parser.specs.Reading.{rest, token};
-ghost use Rattle.minijinja_parser.specs.Views.{any_tree, arg_view, trees};
-ghost use Rattle.minijinja_parser.specs.Words.{text_of};
+ghost use Rattle.minijinja_grammar.specs.Ahead.{left};
+ghost use Rattle.minijinja_grammar.specs.Depth as spec;
+ghost use Rattle.minijinja_grammar.specs.Gives.{Gives, IsFailure, IsStop, Keeps};
+ghost use Rattle.minijinja_grammar.specs.Grammar as grammar;
+ghost use Rattle.minijinja_grammar.specs.Grammar.{at};
+ghost use Rattle.minijinja_grammar.specs.Lists.{exprs_of};
+ghost use Rattle.minijinja_grammar.specs.NodeSpans.{ExprStands, IsOfTokens, StartsAtToken};
+ghost use Rattle.minijinja_grammar.specs.Over.{AllExprsStand, AnyStands, IsOver};
+ghost use Rattle.minijinja_grammar.specs.Readers.{read_map};
+ghost use Rattle.minijinja_grammar.specs.Reading as read;
+ghost use Rattle.minijinja_grammar.specs.Reading.{rest, token};
+ghost use Rattle.minijinja_grammar.specs.Views.{any_tree, arg_view, trees};
+ghost use Rattle.minijinja_grammar.specs.Words.{text_of};
 
-use crate::marks::{Mark, Part};
-use crate::nodes;
 use crate::parser::Parser;
-use crate::words::{is_false_word, is_none_word, is_true_word};
 use minijinja_base::error::{Detail, Error};
 use minijinja_base::tokens::{Span, Token};
 use minijinja_base::value::TemplateValue;
+use minijinja_grammar::marks::{Mark, Part};
+use minijinja_grammar::nodes;
+use minijinja_grammar::words::{is_false_word, is_none_word, is_true_word};
 use minijinja_tree::ast::{CallArg, CompareOpKind, Expr};
 
 /// The source from the start of a span to the end of another.
@@ -99,7 +99,7 @@ impl<'s, 'c> Parser<'s, 'c> {
     }
 
     /// An operator of a comparison.
-    #[tactic(auto, unfolding(crate::specs::Reading::cmp_op))]
+    #[tactic(auto, unfolding(minijinja_grammar::specs::Reading::cmp_op))]
     pub fn parse_compare_op(&mut self) -> Result<CompareOpKind, Error<'s>>
         ensures read { Gives compare_op result self.new.stream (read.cmp_op (left self.old.stream)) }
         ensures keeps { Keeps result self.old.stream self.new.stream }
@@ -119,7 +119,7 @@ impl<'s, 'c> Parser<'s, 'c> {
     }
 
     /// The name of a filter or a test: the source from its first part to its last.
-    #[tactic(auto, unfolding(crate::specs::Reading::name_of, crate::specs::Reading::rest_of_name, crate::specs::Depth::name_parts))]
+    #[tactic(auto, unfolding(minijinja_grammar::specs::Reading::name_of, minijinja_grammar::specs::Reading::rest_of_name, minijinja_grammar::specs::Depth::name_parts))]
     pub fn parse_name(&mut self) -> Result<&'s str, Error<'s>>
         ensures read { Gives (λ x. x.now) result self.new.stream (read.name_of self.old.stream.source (left self.old.stream)) }
         ensures keeps { Keeps result self.old.stream self.new.stream }
@@ -135,7 +135,7 @@ impl<'s, 'c> Parser<'s, 'c> {
     }
 
     /// Where the last part of a name stands, behind the first one.
-    #[tactic(auto, using(crate::proofs::Turns::name_parts_done))]
+    #[tactic(auto, using(minijinja_grammar::proofs::Turns::name_parts_done))]
     fn parse_name_parts(&mut self, first: Span) -> Result<Span, Error<'s>>
         requires { IsBetweenChars self.old.stream.source first }
         ensures read { Gives (λ s. s) result self.new.stream (spec.name_parts first (left self.old.stream)) }
@@ -154,7 +154,7 @@ impl<'s, 'c> Parser<'s, 'c> {
     }
 
     /// What follows the `.` behind an operand.
-    #[tactic(auto, unfolding(crate::specs::Depth::member))]
+    #[tactic(auto, unfolding(minijinja_grammar::specs::Depth::member))]
     pub fn parse_member<V: TemplateValue>(
         &mut self,
         expr: Expr<'s, V>,
@@ -220,7 +220,7 @@ impl<'s, 'c> Parser<'s, 'c> {
     }
 
     /// An item, whose index is read.
-    #[tactic(auto, unfolding(crate::specs::Depth::index))]
+    #[tactic(auto, unfolding(minijinja_grammar::specs::Depth::index))]
     pub fn parse_index<V: TemplateValue>(
         &mut self,
         expr: Expr<'s, V>,
@@ -259,7 +259,7 @@ impl<'s, 'c> Parser<'s, 'c> {
     }
 
     /// A constant or a variable.
-    #[tactic(auto, unfolding(crate::specs::Reading::word_tree))]
+    #[tactic(auto, unfolding(minijinja_grammar::specs::Reading::word_tree))]
     pub fn parse_word<V: TemplateValue>(
         &self,
         word: &'s str,
@@ -320,7 +320,7 @@ impl<'s, 'c> Parser<'s, 'c> {
     }
 
     /// A string without escapes, joined with its neighbours.
-    #[tactic(auto, using(crate::proofs::Turns::texts_done), unfolding(crate::specs::Depth::joined_text))]
+    #[tactic(auto, using(minijinja_grammar::proofs::Turns::texts_done), unfolding(minijinja_grammar::specs::Depth::joined_text))]
     pub fn parse_str<V: TemplateValue>(
         &mut self,
         text: &'s str,
@@ -340,7 +340,7 @@ impl<'s, 'c> Parser<'s, 'c> {
     }
 
     /// A decoded string, joined with its neighbours.
-    #[tactic(auto, using(crate::proofs::Turns::text_refused, crate::proofs::Turns::texts_done), unfolding(crate::specs::Depth::joined_text))]
+    #[tactic(auto, using(minijinja_grammar::proofs::Turns::text_refused, minijinja_grammar::proofs::Turns::texts_done), unfolding(minijinja_grammar::specs::Depth::joined_text))]
     pub fn parse_string<V: TemplateValue>(
         &mut self,
         text: String,

@@ -6,25 +6,25 @@ ghost use Rattle.minijinja_base.specs.declared.error.ErrorKind.TheVariants.{OutO
 ghost use Rattle.minijinja_lexer.specs.Stream.{finished};
 ghost use Rattle.minijinja_tree.specs.Erasure.{expr_tree, stmt_tree};
 ghost use Rattle.minijinja_tree.specs.Tree as tree;
-ghost use Rattle.minijinja_parser.specs.Ahead.{left};
-ghost use Rattle.minijinja_parser.specs.Gives.{Gives, IsFailure, Keeps};
-ghost use Rattle.minijinja_parser.specs.NodeSpans.{ExprStands, StartsAtToken, StmtStands};
-ghost use Rattle.minijinja_parser.specs.Over.{AllStand, IsOver};
-ghost use Rattle.minijinja_parser.specs.Reading.{expr_at};
-ghost use Rattle.minijinja_parser.specs.TemplateReading as spec;
+ghost use Rattle.minijinja_grammar.specs.Ahead.{left};
+ghost use Rattle.minijinja_grammar.specs.Gives.{Gives, IsFailure, Keeps};
+ghost use Rattle.minijinja_grammar.specs.NodeSpans.{ExprStands, StartsAtToken, StmtStands};
+ghost use Rattle.minijinja_grammar.specs.Over.{AllStand, IsOver};
+ghost use Rattle.minijinja_grammar.specs.Reading.{expr_at};
+ghost use Rattle.minijinja_grammar.specs.TemplateReading as spec;
 
-use crate::marks::Mark;
-use crate::nodes;
 use crate::parser::{MAX_DEPTH, Parser};
-use crate::words::is_reserved;
 use minijinja_base::error::{Detail, Error};
 use minijinja_base::tokens::{Span, Token};
 use minijinja_base::value::TemplateValue;
+use minijinja_grammar::marks::Mark;
+use minijinja_grammar::nodes;
+use minijinja_grammar::words::is_reserved;
 use minijinja_tree::ast::{Expr, Set, Stmt};
 
 impl<'s, 'c> Parser<'s, 'c> {
     /// A name that may be assigned to.
-    #[tactic(auto, unfolding(crate::specs::TemplateReading::target_of))]
+    #[tactic(auto, unfolding(minijinja_grammar::specs::TemplateReading::target_of))]
     fn parse_assign_name<V: TemplateValue>(&mut self) -> Result<Expr<'s, V>, Error<'s>>
         ensures read { Gives (expr_tree V.contents) result self.new.stream (spec.target_of (left self.old.stream)) }
         ensures keeps { Keeps result self.old.stream self.new.stream }
@@ -39,7 +39,7 @@ impl<'s, 'c> Parser<'s, 'c> {
     }
 
     /// What follows the word `set`.
-    #[tactic(auto, unfolding(crate::specs::TemplateReading::set_of))]
+    #[tactic(auto, unfolding(minijinja_grammar::specs::TemplateReading::set_of))]
     fn parse_set<V: TemplateValue>(&mut self) -> Result<Set<'s, V>, Error<'s>>
         ensures read { Gives (λ s. tree.assignment (expr_tree V.contents s.target) (expr_tree V.contents s.expr)) result self.new.stream
             (spec.set_of (expr_at V.functions self.old.stream.source 149) (left self.old.stream)) }
@@ -55,7 +55,7 @@ impl<'s, 'c> Parser<'s, 'c> {
     }
 
     /// A statement, from its first word on.
-    #[tactic(auto, unfolding(crate::specs::TemplateReading::stmt_of))]
+    #[tactic(auto, unfolding(minijinja_grammar::specs::TemplateReading::stmt_of))]
     fn parse_stmt<V: TemplateValue>(&mut self) -> Result<Stmt<'s, V>, Error<'s>>
         ensures read { Gives (stmt_tree V.contents) result self.new.stream (spec.stmt V.functions self.old.stream.source (left self.old.stream)) }
         ensures keeps { Keeps result self.old.stream self.new.stream }
@@ -71,7 +71,7 @@ impl<'s, 'c> Parser<'s, 'c> {
     }
 
     /// An output, from behind its start on.
-    #[tactic(auto, unfolding(crate::specs::TemplateReading::output_of))]
+    #[tactic(auto, unfolding(minijinja_grammar::specs::TemplateReading::output_of))]
     fn parse_output<V: TemplateValue>(&mut self, span: Span) -> Result<Stmt<'s, V>, Error<'s>>
         ensures read { Gives (stmt_tree V.contents) result self.new.stream
             (spec.output_of (spec.expr V.functions self.old.stream.source) (left self.old.stream)) }
@@ -87,7 +87,7 @@ impl<'s, 'c> Parser<'s, 'c> {
     }
 
     /// A statement and its end, from behind its start on.
-    #[tactic(auto, unfolding(crate::specs::TemplateReading::tag_of))]
+    #[tactic(auto, unfolding(minijinja_grammar::specs::TemplateReading::tag_of))]
     fn parse_tag<V: TemplateValue>(&mut self) -> Result<Stmt<'s, V>, Error<'s>>
         ensures read { Gives (stmt_tree V.contents) result self.new.stream
             (spec.tag_of (spec.stmt V.functions self.old.stream.source) (left self.old.stream)) }
@@ -113,7 +113,7 @@ impl<'s, 'c> Parser<'s, 'c> {
     }
 
     /// Data, an output or a statement, which begins with the token.
-    #[tactic(auto, unfolding(crate::specs::TemplateReading::part_of))]
+    #[tactic(auto, unfolding(minijinja_grammar::specs::TemplateReading::part_of))]
     fn parse_part<V: TemplateValue>(
         &mut self,
         token: Token<'s>,

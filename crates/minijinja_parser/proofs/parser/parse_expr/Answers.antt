@@ -1,4 +1,4 @@
-use Rattle.minijinja_parser.proofs.Claims.{caused, not_too_long}
+use Rattle.minijinja_grammar.proofs.Claims.{caused, not_too_long}
 use Rattle.minijinja_parser.proofs.parser.parse_expr.Goals as goal
 
 pub returns-clause-too_long_only : goal.returns-clause-too_long_only

@@ -3,10 +3,10 @@ use Rattle.minijinja_base.specs.declared.error.ErrorKind.TheVariants.{OutOfMemor
 use Rattle.minijinja_base.specs.Syntax.{default_syntax}
 use Rattle.minijinja_lexer.specs.TextTokens.{text_of, tokens_of_expression}
 use Rattle.minijinja_tree.specs.Erasure.{expr_tree}
-use Rattle.minijinja_parser.specs.Ahead.{Comes}
-use Rattle.minijinja_parser.specs.Derived.{IsExprTree}
-use Rattle.minijinja_parser.specs.NodeSpans.{ExprStands}
-use Rattle.minijinja_parser.proofs.Claims.{came-found, came-refused, came-only, came-bad_escape, came-stand}
+use Rattle.minijinja_grammar.specs.Ahead.{Comes}
+use Rattle.minijinja_grammar.specs.Derived.{IsExprTree}
+use Rattle.minijinja_grammar.specs.NodeSpans.{ExprStands}
+use Rattle.minijinja_grammar.proofs.Claims.{came-found, came-refused, came-only, came-bad_escape, came-stand}
 use Rattle.minijinja_parser.proofs.parser.parse_expression.Goals as goal
 
 pub returns-clause-found : goal.returns-clause-found

@@ -1,9 +1,9 @@
 use Rattle.minijinja_base.specs.declared.error.ErrorKind.TheVariants.{OutOfMemory}
 use Rattle.std.proofs.Common.{None}
 use Rattle.minijinja_tree.specs.Erasure.{stmt_tree}
-use Rattle.minijinja_parser.specs.Derived.{IsTemplateTree}
-use Rattle.minijinja_parser.specs.NodeSpans.{StmtStands}
-use Rattle.minijinja_parser.proofs.Claims.{came-found, came-refused, came-only, came-bad_escape, came-stand}
+use Rattle.minijinja_grammar.specs.Derived.{IsTemplateTree}
+use Rattle.minijinja_grammar.specs.NodeSpans.{StmtStands}
+use Rattle.minijinja_grammar.proofs.Claims.{came-found, came-refused, came-only, came-bad_escape, came-stand}
 use Rattle.minijinja_parser.proofs.parser.parse_template.Goals as goal
 
 pub returns-clause-found : goal.returns-clause-found

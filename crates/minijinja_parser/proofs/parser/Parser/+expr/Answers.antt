@@ -1,27 +1,27 @@
-use Rattle.minijinja_parser.specs.Depth as spec
-use Rattle.minijinja_parser.specs.declared.marks.Level.TheVariants as on
+use Rattle.minijinja_grammar.specs.Depth as spec
+use Rattle.minijinja_grammar.specs.declared.marks.Level.TheVariants as on
 use Rattle.minijinja_tree.specs.Tree as tree
 use Rattle.minijinja_base.specs.Tokens.{assign, colon, comma, ident, tok_of}
-use Rattle.minijinja_parser.proofs.Begun.{begun_group, begun_integer, begun_large, begun_list, begun_map, begun_no, begun_str, begun_string, begun_word}
-use Rattle.minijinja_parser.proofs.ItemTurns.{args_comma, args_last, args_not_admitted, entries_comma, entries_last, exprs_comma, exprs_last, keyword_turn, map_read, named_more, no_pairs, one_more_pair, postfixes_turn}
-use Rattle.minijinja_parser.proofs.Shorter.{arg_shorter, below_shorter, cmp_op_shorter, comparison_shorter, entry_shorter, expr_shorter, if_tail_shorter, level_shorter, maybe_expr_no_longer, name_shorter, operand_shorter, postfix_shorter, primary_shorter, rest_no_longer, rest_shorter, suffix_shorter, token_shorter}
-use Rattle.minijinja_parser.proofs.Spans.{all_compared_append, of_token}
-use Rattle.minijinja_parser.proofs.Stand.{args_stand_append, exprs_stand_append}
-use Rattle.minijinja_parser.proofs.Texts.{same_trans}
-use Rattle.minijinja_parser.proofs.Tokens.{gives_tree}
-use Rattle.minijinja_parser.proofs.Turns.{chain_done, chain_turn, cmp_is, cond_is, entries_done, ifs_turn, level_is, operators_turn, postfixed_is, range_refused, suffixes_turn, unary_is}
+use Rattle.minijinja_grammar.proofs.Begun.{begun_group, begun_integer, begun_large, begun_list, begun_map, begun_no, begun_str, begun_string, begun_word}
+use Rattle.minijinja_grammar.proofs.ItemTurns.{args_comma, args_last, args_not_admitted, entries_comma, entries_last, exprs_comma, exprs_last, keyword_turn, map_read, named_more, no_pairs, one_more_pair, postfixes_turn}
+use Rattle.minijinja_grammar.proofs.Shorter.{arg_shorter, below_shorter, cmp_op_shorter, comparison_shorter, entry_shorter, expr_shorter, if_tail_shorter, level_shorter, maybe_expr_no_longer, name_shorter, operand_shorter, postfix_shorter, primary_shorter, rest_no_longer, rest_shorter, suffix_shorter, token_shorter}
+use Rattle.minijinja_grammar.proofs.Spans.{all_compared_append, of_token}
+use Rattle.minijinja_grammar.proofs.Stand.{args_stand_append, exprs_stand_append}
+use Rattle.minijinja_grammar.proofs.Texts.{same_trans}
+use Rattle.minijinja_grammar.proofs.Tokens.{gives_tree}
+use Rattle.minijinja_grammar.proofs.Turns.{chain_done, chain_turn, cmp_is, cond_is, entries_done, ifs_turn, level_is, operators_turn, postfixed_is, range_refused, suffixes_turn, unary_is}
 use Rattle.minijinja_parser.proofs.parser.Parser.+expr.Goals.{parse_arg_items-else-named, parse_arg_items-then-named}
-use Rattle.minijinja_parser.specs.Ahead.{left}
-use Rattle.minijinja_parser.specs.Gives.{Gives}
-use Rattle.minijinja_parser.specs.Grammar.{at, comes, compare_all, is_named, is_plain, max_args}
-use Rattle.minijinja_parser.specs.Lists.{keyword, name_if_variable}
-use Rattle.minijinja_parser.specs.Marks.{level_op}
-use Rattle.minijinja_parser.specs.NodeSpans.{ExprStands, StartsAtToken}
-use Rattle.minijinja_parser.specs.Over.{AllArgsStand, AllComparedStand, AllExprsStand}
-use Rattle.minijinja_parser.specs.Readers.{and_then, read_map}
-use Rattle.minijinja_parser.specs.Reading.{first_held, rest}
-use Rattle.minijinja_parser.specs.Views.{all_compared, any_tree, arg_view, args_view, compared, trees}
-use Rattle.minijinja_parser.specs.Words.{begins_arg, begins_comparison, begins_expr, begins_postfix, begins_suffix, if_word}
+use Rattle.minijinja_grammar.specs.Ahead.{left}
+use Rattle.minijinja_grammar.specs.Gives.{Gives}
+use Rattle.minijinja_grammar.specs.Grammar.{at, comes, compare_all, is_named, is_plain, max_args}
+use Rattle.minijinja_grammar.specs.Lists.{keyword, name_if_variable}
+use Rattle.minijinja_grammar.specs.Marks.{level_op}
+use Rattle.minijinja_grammar.specs.NodeSpans.{ExprStands, StartsAtToken}
+use Rattle.minijinja_grammar.specs.Over.{AllArgsStand, AllComparedStand, AllExprsStand}
+use Rattle.minijinja_grammar.specs.Readers.{and_then, read_map}
+use Rattle.minijinja_grammar.specs.Reading.{first_held, rest}
+use Rattle.minijinja_grammar.specs.Views.{all_compared, any_tree, arg_view, args_view, compared, trees}
+use Rattle.minijinja_grammar.specs.Words.{begins_arg, begins_comparison, begins_expr, begins_postfix, begins_suffix, if_word}
 use Rattle.minijinja_tree.specs.CompareOps.{CompareOp}
 use Rattle.minijinja_tree.specs.Erasure.{bin_op, compare_op, expr_tree}
 use Rattle.minijinja_tree.specs.Tree.{Expr, constant}

@@ -1,13 +1,13 @@
-use Rattle.minijinja_parser.specs.Depth as spec
-use Rattle.minijinja_parser.specs.declared.marks.Level.TheVariants as on
+use Rattle.minijinja_grammar.specs.Depth as spec
+use Rattle.minijinja_grammar.specs.declared.marks.Level.TheVariants as on
 use Rattle.minijinja_lexer.specs.Stream.{SpannedTok}
-use Rattle.minijinja_parser.specs.Ahead.{left}
-use Rattle.minijinja_parser.specs.Gives.{SameText}
-use Rattle.minijinja_parser.specs.Grammar.{has_named}
-use Rattle.minijinja_parser.specs.NodeSpans.{ExprStands, StartsAtToken}
-use Rattle.minijinja_parser.specs.Over.{AllArgsStand, AllComparedStand, AllExprsStand, IsOver}
-use Rattle.minijinja_parser.specs.Views.{IsZipped, all_compared, args_view, trees}
-use Rattle.minijinja_parser.specs.declared.marks.Level.{Level}
+use Rattle.minijinja_grammar.specs.Ahead.{left}
+use Rattle.minijinja_grammar.specs.Gives.{SameText}
+use Rattle.minijinja_grammar.specs.Grammar.{has_named}
+use Rattle.minijinja_grammar.specs.NodeSpans.{ExprStands, StartsAtToken}
+use Rattle.minijinja_grammar.specs.Over.{AllArgsStand, AllComparedStand, AllExprsStand, IsOver}
+use Rattle.minijinja_grammar.specs.Views.{IsZipped, all_compared, args_view, trees}
+use Rattle.minijinja_grammar.specs.declared.marks.Level.{Level}
 use Rattle.minijinja_tree.specs.Erasure.{expr_tree}
 use Rattle.minijinja_tree.specs.Tree.{Expr}
 use Rattle.std.proofs.Common.{List, [], length, ℕ, ◌*◌, ◌+◌, ◌<◌, ◌≡◌, ◌≤◌}

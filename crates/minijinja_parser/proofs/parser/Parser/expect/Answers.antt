@@ -1,5 +1,5 @@
 use Rattle.std.proofs.Common.{sym, ◌∙◌}
-use Rattle.minijinja_parser.proofs.Tokens.{not_mark, is_mark}
+use Rattle.minijinja_grammar.proofs.Tokens.{not_mark, is_mark}
 use Rattle.minijinja_parser.proofs.parser.Parser.expect.Goals as goal
 
 pub returns-then-not-is_mark-clause-read : goal.returns-then-not-is_mark-clause-read

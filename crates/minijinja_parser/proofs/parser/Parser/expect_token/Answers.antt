@@ -1,4 +1,4 @@
-use Rattle.minijinja_parser.proofs.Spans.{taken_some}
+use Rattle.minijinja_grammar.proofs.Spans.{taken_some}
 use Rattle.minijinja_parser.proofs.parser.Parser.expect_token.Goals as goal
 
 pub returns-in-Some-clause-spans : goal.returns-in-Some-clause-spans

@@ -2,8 +2,8 @@ use Rattle.std.proofs.Common.{◌∙◌, sym, ap}
 use Rattle.std.proofs.lemmas.Result.{err_from_is_err_and}
 use Rattle.minijinja_lexer.specs.Stream.{Stream}
 use Rattle.minijinja_tree.specs.Erasure.{stmt_tree}
-use Rattle.minijinja_parser.proofs.Claims.{template-found, template-one, template-starved, template-empty, template-empty_starved, unread-before, fails-before, failure_kind, bad_escape, not_memory, spent, not_both, one_refusal, refused_so, not_refused}
-use Rattle.minijinja_parser.proofs.WholeTrees.{template_well_formed}
+use Rattle.minijinja_grammar.proofs.Claims.{template-found, template-one, template-starved, template-empty, template-empty_starved, unread-before, fails-before, failure_kind, bad_escape, not_memory, spent, not_both, one_refusal, refused_so, not_refused}
+use Rattle.minijinja_grammar.proofs.WholeTrees.{template_well_formed}
 use Rattle.minijinja_parser.proofs.parser.Parser.parse.Goals as goal
 
 -- the refusal that stood

@@ -1,5 +1,5 @@
 use Rattle.std.proofs.Common.{subst}
-use Rattle.minijinja_parser.specs.Over.{AnyStands}
+use Rattle.minijinja_grammar.specs.Over.{AnyStands}
 use Rattle.minijinja_parser.proofs.parser.Parser.parse_index.Goals as goal
 
 pub returns-clause-spans : goal.returns-clause-spans

@@ -1,10 +1,10 @@
 use Rattle.std.proofs.Common.{refl, ap, ◌∙◌}
 use Rattle.std.proofs.lemmas.Result.{IfOk-weaker}
 use Rattle.minijinja_tree.specs.Erasure.{expr_tree}
-use Rattle.minijinja_parser.specs.Depth.{member, member_by}
-use Rattle.minijinja_parser.specs.Readers.{and_then}
-use Rattle.minijinja_parser.proofs.Tokens.{gives_tree}
-use Rattle.minijinja_parser.proofs.Spans.{of_token}
+use Rattle.minijinja_grammar.specs.Depth.{member, member_by}
+use Rattle.minijinja_grammar.specs.Readers.{and_then}
+use Rattle.minijinja_grammar.proofs.Tokens.{gives_tree}
+use Rattle.minijinja_grammar.proofs.Spans.{of_token}
 use Rattle.minijinja_parser.proofs.parser.Parser.parse_member.Goals as goal
 
 pub returns-in-Ident-clause-read : goal.returns-in-Ident-clause-read

@@ -2,13 +2,13 @@ use Rattle.std.proofs.Common.{rules, ◌≡◌, ◌<◌, length, true, ap, sym, 
 use Rattle.std.proofs.lemmas.Grind.{common_steps}
 use Rattle.minijinja_base.specs.Tokens.{dot}
 use Rattle.minijinja_lexer.specs.Slices.{IsBetweenChars}
-use Rattle.minijinja_parser.specs.Ahead.{left}
-use Rattle.minijinja_parser.specs.Depth as spec
-use Rattle.minijinja_parser.specs.Grammar.{at}
-use Rattle.minijinja_parser.specs.Readers.{and_then}
-use Rattle.minijinja_parser.proofs.Shorter.{ident_shorter, rest_no_longer}
-use Rattle.minijinja_parser.proofs.Texts.{same_trans}
-use Rattle.minijinja_parser.proofs.Turns.{name_parts_turn}
+use Rattle.minijinja_grammar.specs.Ahead.{left}
+use Rattle.minijinja_grammar.specs.Depth as spec
+use Rattle.minijinja_grammar.specs.Grammar.{at}
+use Rattle.minijinja_grammar.specs.Readers.{and_then}
+use Rattle.minijinja_grammar.proofs.Shorter.{ident_shorter, rest_no_longer}
+use Rattle.minijinja_grammar.proofs.Texts.{same_trans}
+use Rattle.minijinja_grammar.proofs.Turns.{name_parts_turn}
 use Rattle.minijinja_parser.proofs.parser.Parser.parse_name_parts.Goals as goal
 
 pub returns-in_err-part-clause-read : goal.returns-in_err-part-clause-read

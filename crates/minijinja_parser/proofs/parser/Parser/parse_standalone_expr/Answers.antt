@@ -2,8 +2,8 @@ use Rattle.std.proofs.Common.{◌∙◌, sym, ap}
 use Rattle.std.proofs.lemmas.Result.{err_from_is_err_and}
 use Rattle.minijinja_lexer.specs.Stream.{Stream}
 use Rattle.minijinja_tree.specs.Erasure.{expr_tree}
-use Rattle.minijinja_parser.proofs.Claims.{expr-found, expr-one, expr-starved, expr-none, unescaped, unread-before, fails-before, failure_kind, bad_escape, not_memory, spent, not_both, one_refusal, refused_so, not_refused}
-use Rattle.minijinja_parser.proofs.WholeTrees.{expr_whole}
+use Rattle.minijinja_grammar.proofs.Claims.{expr-found, expr-one, expr-starved, expr-none, unescaped, unread-before, fails-before, failure_kind, bad_escape, not_memory, spent, not_both, one_refusal, refused_so, not_refused}
+use Rattle.minijinja_grammar.proofs.WholeTrees.{expr_whole}
 use Rattle.minijinja_parser.proofs.parser.Parser.parse_standalone_expr.Goals as goal
 
 -- the refusal that stood

@@ -1,11 +1,11 @@
 use Rattle.std.proofs.Common.{◌≡◌, Some, true, ◌∙◌, sym, ap, rules, arith}
 use Rattle.std.specs.Prelude.{codes}
 use Rattle.std.specs.Str.{bytes_eq}
-use Rattle.minijinja_parser.specs.Ahead.{left}
-use Rattle.minijinja_parser.specs.Reading.{expr_at}
-use Rattle.minijinja_parser.specs.TemplateReading.{set_of}
-use Rattle.minijinja_parser.proofs.Spans.{of_token}
-use Rattle.minijinja_parser.proofs.TemplateTurns.{stmt-set}
+use Rattle.minijinja_grammar.specs.Ahead.{left}
+use Rattle.minijinja_grammar.specs.Reading.{expr_at}
+use Rattle.minijinja_grammar.specs.TemplateReading.{set_of}
+use Rattle.minijinja_grammar.proofs.Spans.{of_token}
+use Rattle.minijinja_grammar.proofs.TemplateTurns.{stmt-set}
 use Rattle.minijinja_parser.proofs.parser.Parser.parse_stmt.Goals as goal
 
 pub returns-clause-read : goal.returns-clause-read

@@ -5,13 +5,13 @@ use Rattle.std.specs.Prelude.{is_some}
 use Rattle.std.specs.String.{string_bytes}
 use Rattle.minijinja_base.specs.Tokens.{tok_of}
 use Rattle.minijinja_base.specs.Values.{Text}
-use Rattle.minijinja_parser.specs.Ahead.{left}
-use Rattle.minijinja_parser.specs.Grammar.{comes}
-use Rattle.minijinja_parser.specs.Reading.{texts}
-use Rattle.minijinja_parser.specs.Words.{text_of}
-use Rattle.minijinja_parser.proofs.Texts.{same_trans}
-use Rattle.minijinja_parser.proofs.Tokens.{first_shorter}
-use Rattle.minijinja_parser.proofs.Turns.{text_in_view, texts_turn}
+use Rattle.minijinja_grammar.specs.Ahead.{left}
+use Rattle.minijinja_grammar.specs.Grammar.{comes}
+use Rattle.minijinja_grammar.specs.Reading.{texts}
+use Rattle.minijinja_grammar.specs.Words.{text_of}
+use Rattle.minijinja_grammar.proofs.Texts.{same_trans}
+use Rattle.minijinja_grammar.proofs.Tokens.{first_shorter}
+use Rattle.minijinja_grammar.proofs.Turns.{text_in_view, texts_turn}
 use Rattle.minijinja_parser.proofs.parser.Parser.parse_string.Goals as goal
 
 pub loop-joined-smaller : goal.loop-joined-smaller

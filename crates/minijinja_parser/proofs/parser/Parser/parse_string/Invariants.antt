@@ -1,10 +1,10 @@
 use Rattle.std.proofs.Common.{◌≡◌, List, length}
 use Rattle.std.specs.String.{string_bytes}
 use Rattle.minijinja_lexer.specs.Stream.{SpannedTok}
-use Rattle.minijinja_parser.specs.Ahead.{left}
-use Rattle.minijinja_parser.specs.Gives.{SameText}
-use Rattle.minijinja_parser.specs.Over.{IsOver}
-use Rattle.minijinja_parser.specs.Reading.{texts}
+use Rattle.minijinja_grammar.specs.Ahead.{left}
+use Rattle.minijinja_grammar.specs.Gives.{SameText}
+use Rattle.minijinja_grammar.specs.Over.{IsOver}
+use Rattle.minijinja_grammar.specs.Reading.{texts}
 use Rattle.minijinja_parser.proofs.parser.Parser.parse_string.Given as goal
 
 abbrev pub invariant-loop-joined : goal.invariant-loop-joined

@@ -1,4 +1,4 @@
-use Rattle.minijinja_parser.proofs.Spans.{of_token}
+use Rattle.minijinja_grammar.proofs.Spans.{of_token}
 use Rattle.minijinja_parser.proofs.parser.Parser.parse_word.Goals as goal
 
 pub returns-in_ok-constant-clause-spans : goal.returns-in_ok-constant-clause-spans

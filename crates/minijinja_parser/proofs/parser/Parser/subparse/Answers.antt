@@ -3,12 +3,12 @@ use Rattle.std.proofs.lemmas.List.{map-append}
 use Rattle.std.proofs.lemmas.Result.{err_from_is_err_and}
 use Rattle.minijinja_lexer.specs.Stream.{spanned_tok}
 use Rattle.minijinja_tree.specs.Erasure.{stmt_tree}
-use Rattle.minijinja_parser.specs.Ahead.{left}
-use Rattle.minijinja_parser.specs.Over.{AllStand}
-use Rattle.minijinja_parser.specs.TemplateReading.{parts_from}
-use Rattle.minijinja_parser.proofs.Spans.{taken_some, all_stand_append}
-use Rattle.minijinja_parser.proofs.TemplateTurns.{part-shorter, parts-turn, parts-refused, parts-end, some-taken, none-taken}
-use Rattle.minijinja_parser.proofs.Texts.{same_trans}
+use Rattle.minijinja_grammar.specs.Ahead.{left}
+use Rattle.minijinja_grammar.specs.Over.{AllStand}
+use Rattle.minijinja_grammar.specs.TemplateReading.{parts_from}
+use Rattle.minijinja_grammar.proofs.Spans.{taken_some, all_stand_append}
+use Rattle.minijinja_grammar.proofs.TemplateTurns.{part-shorter, parts-turn, parts-refused, parts-end, some-taken, none-taken}
+use Rattle.minijinja_grammar.proofs.Texts.{same_trans}
 use Rattle.minijinja_parser.proofs.parser.Parser.subparse.Goals as goal
 
 pub returns-in_err-parse_part-clause-read : goal.returns-in_err-parse_part-clause-read

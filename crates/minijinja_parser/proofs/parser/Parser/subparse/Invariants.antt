@@ -1,10 +1,10 @@
 use Rattle.std.proofs.Common.{◌≡◌, List, [], length, map}
 use Rattle.minijinja_tree.specs.Erasure.{stmt_tree}
-use Rattle.minijinja_parser.specs.Ahead.{left}
+use Rattle.minijinja_grammar.specs.Ahead.{left}
 use Rattle.minijinja_lexer.specs.Stream.{SpannedTok}
-use Rattle.minijinja_parser.specs.Gives.{SameText}
-use Rattle.minijinja_parser.specs.Over.{AllStand, IsOver}
-use Rattle.minijinja_parser.specs.TemplateReading as spec
+use Rattle.minijinja_grammar.specs.Gives.{SameText}
+use Rattle.minijinja_grammar.specs.Over.{AllStand, IsOver}
+use Rattle.minijinja_grammar.specs.TemplateReading as spec
 use Rattle.minijinja_parser.proofs.parser.Parser.subparse.Given as goal
 
 abbrev pub invariant-loop-children : goal.invariant-loop-children

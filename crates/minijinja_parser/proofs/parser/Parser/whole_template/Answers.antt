@@ -1,5 +1,5 @@
 use Rattle.std.proofs.Common.{sym, subst}
-use Rattle.minijinja_parser.specs.NodeSpans.{StartsAtToken}
+use Rattle.minijinja_grammar.specs.NodeSpans.{StartsAtToken}
 use Rattle.minijinja_parser.proofs.parser.Parser.whole_template.Goals as goal
 
 pub returns-clause-spans : goal.returns-clause-spans

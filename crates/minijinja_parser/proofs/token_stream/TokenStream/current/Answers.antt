@@ -1,5 +1,5 @@
 use Rattle.std.proofs.Common.{rules, ◌≡◌, Some, ap, arith}
-use Rattle.minijinja_parser.proofs.Spans.{shown}
+use Rattle.minijinja_grammar.proofs.Spans.{shown}
 use Rattle.minijinja_parser.proofs.token_stream.TokenStream.current.Goals as goal
 
 pub returns-in-Ok-Some-clause-shows : goal.returns-in-Ok-Some-clause-shows

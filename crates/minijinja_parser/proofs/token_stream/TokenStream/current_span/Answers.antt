@@ -1,6 +1,6 @@
 use Rattle.std.proofs.Common.{rules, ◌≡◌, Some, sym, ap, subst, arith}
-use Rattle.minijinja_parser.specs.NodeSpans.{StartsAtToken}
-use Rattle.minijinja_parser.proofs.Spans.{current_start}
+use Rattle.minijinja_grammar.specs.NodeSpans.{StartsAtToken}
+use Rattle.minijinja_grammar.proofs.Spans.{current_start}
 use Rattle.minijinja_parser.proofs.token_stream.TokenStream.current_span.Goals as goal
 
 pub returns-in-Ok-Some-clause-stands : goal.returns-in-Ok-Some-clause-stands

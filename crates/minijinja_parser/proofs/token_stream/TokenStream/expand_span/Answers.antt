@@ -1,7 +1,7 @@
 use Rattle.std.proofs.Common.{sym, ap, subst}
-use Rattle.minijinja_parser.specs.NodeSpans.{IsOfTokens}
-use Rattle.minijinja_parser.specs.Over.{expanded}
-use Rattle.minijinja_parser.proofs.Spans.{expanded_stands}
+use Rattle.minijinja_grammar.specs.NodeSpans.{IsOfTokens}
+use Rattle.minijinja_grammar.specs.Over.{expanded}
+use Rattle.minijinja_grammar.proofs.Spans.{expanded_stands}
 use Rattle.minijinja_parser.proofs.token_stream.TokenStream.expand_span.Goals as goal
 
 pub returns-clause-stands : goal.returns-clause-stands

@@ -1,5 +1,5 @@
 use Rattle.std.proofs.Common.{sym, ap, subst}
-use Rattle.minijinja_parser.specs.NodeSpans.{StartsAtToken}
+use Rattle.minijinja_grammar.specs.NodeSpans.{StartsAtToken}
 use Rattle.minijinja_parser.proofs.token_stream.TokenStream.last_span.Goals as goal
 
 pub returns-clause-stands : goal.returns-clause-stands

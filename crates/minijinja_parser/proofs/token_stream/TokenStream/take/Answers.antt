@@ -1,4 +1,4 @@
-use Rattle.minijinja_parser.proofs.Spans.{ahead_taken}
+use Rattle.minijinja_grammar.proofs.Spans.{ahead_taken}
 use Rattle.minijinja_parser.proofs.token_stream.TokenStream.take.Goals as goal
 
 pub returns-clause-over : goal.returns-clause-over

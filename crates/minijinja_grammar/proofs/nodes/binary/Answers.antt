@@ -1,0 +1,10 @@
+use Rattle.std.proofs.Common.{sym, subst}
+use Rattle.minijinja_grammar.specs.NodeSpans.{ExprStands, IsOfTokens}
+use Rattle.minijinja_grammar.proofs.nodes.binary.Goals as goal
+
+pub returns-clause-spans : goal.returns-clause-spans
+returns-clause-spans g c = λ ts h_left h_right i. (
+  subst (λ s. IsOfTokens ts s) (sym c.in_ok-spanned.ensures.span) i,
+  subst (λ n. ExprStands ts n.left) (sym c.in_ok-spanned.ensures.node) h_left,
+  subst (λ n. ExprStands ts n.right) (sym c.in_ok-spanned.ensures.node) h_right,
+)

@@ -1,0 +1,17 @@
+pub mod Rules
+pub mod Words
+pub mod Lists
+pub mod Grammar
+pub mod Templates
+pub mod Derived
+pub mod Readers
+pub mod Reading
+pub mod TemplateReading
+pub mod Marks
+pub mod Depth
+pub mod Ahead
+pub mod Gives
+pub mod Causes
+pub mod NodeSpans
+pub mod Over
+pub mod Views

@@ -1,0 +1,322 @@
+//! Nodes, each on the heap. Refused memory is the only error.
+ghost use Rattle.std.specs.Prelude.{◌≡◌, ◌≤◌, length, map, Contains, IfOk, Some, None};
+ghost use Rattle.std.specs.Option.{option_map};
+ghost use Rattle.minijinja_base.specs.Tokens.{ident, template_data};
+ghost use Rattle.minijinja_tree.specs.Erasure.{bin_op, compare_op, expr_tree, stmt_tree, unary_op};
+ghost use Rattle.minijinja_tree.specs.Nodes.{node_of, span_of};
+ghost use Rattle.minijinja_tree.specs.BinOps as bin;
+ghost use Rattle.minijinja_tree.specs.Tree as tree;
+ghost use Rattle.minijinja_tree.specs.Tree.{absent, present, stmts_of};
+ghost use Rattle.minijinja_grammar.specs.Grammar.{compare_all, compare_two};
+ghost use Rattle.minijinja_grammar.specs.Lists.{args_of, exprs_of, name_if_variable, optional_of};
+ghost use Rattle.minijinja_grammar.specs.NodeSpans.{ExprStands, IsOfTokens, StmtStands};
+ghost use Rattle.minijinja_grammar.specs.Over.{AllArgsStand, AllComparedStand, AllExprsStand, AllStand, AnyStands};
+ghost use Rattle.minijinja_grammar.specs.Views.{all_compared, any_tree, args_view, trees};
+
+use minijinja_base::tokens::Span;
+use minijinja_base::value::TemplateValue;
+use minijinja_tree::ast::{
+    BinOp, BinOpKind, Call, CallArg, Compare, CompareOp, CompareOpKind, Const, EmitExpr, EmitRaw,
+    Expr, Filter, GetAttr, GetItem, IfExpr, List, Map, Set, Slice, Spanned, Stmt, Template, Test,
+    Tuple, UnaryOp, UnaryOpKind, Var,
+};
+use std::alloc::{AllocError, Global};
+
+fn spanned<T: Drop>(alloc: Global, node: T, span: Span) -> Result<Spanned<T>, AllocError>
+    ensures node { IfOk result (λ s. node_of s ≡ node) }
+    ensures span { IfOk result (λ s. span_of s ≡ span) }
+{
+    match Spanned::new(alloc, node, span) {
+        Ok(spanned) => Ok(spanned),
+        // Memory is all that `new` can want.
+        Err(_) => Err(AllocError),
+    }
+}
+
+pub fn variable<'s, V: TemplateValue>(
+    alloc: Global,
+    id: &'s str,
+    span: Span,
+) -> Result<Expr<'s, V>, AllocError>
+    ensures tree { IfOk result (λ e. expr_tree V.contents e ≡ tree.variable id.now) }
+    ensures spans { (ts : _) → Contains ts (ident id.now, span) → IfOk result (ExprStands ts) }
+{
+    Ok(Expr::Var(spanned(alloc, Var { id }, span)?))
+}
+
+/// The name of an expression that is a variable.
+pub fn variable_name<'s, V: TemplateValue>(expr: &Expr<'s, V>) -> Option<&'s str>
+    ensures { option_map (λ x. x.now) result ≡ name_if_variable (expr_tree V.contents expr.now) }
+{
+    match expr {
+        Expr::Var(variable) => Some(variable.node().id),
+        _ => None,
+    }
+}
+
+pub fn constant<'s, V: TemplateValue>(
+    alloc: Global,
+    value: V,
+    span: Span,
+) -> Result<Expr<'s, V>, AllocError>
+    ensures tree { IfOk result (λ e. expr_tree V.contents e ≡ tree.constant (V.contents value)) }
+    ensures spans { (ts : _) → IsOfTokens ts span → IfOk result (ExprStands ts) }
+{
+    Ok(Expr::Const(spanned(alloc, Const { value }, span)?))
+}
+
+pub fn attribute<'s, V: TemplateValue>(
+    alloc: Global,
+    expr: Expr<'s, V>,
+    name: &'s str,
+    span: Span,
+) -> Result<Expr<'s, V>, AllocError>
+    ensures tree { IfOk result (λ e. expr_tree V.contents e ≡ tree.attribute (expr_tree V.contents expr.entry) name.now) }
+    ensures spans { (ts : _) → ExprStands ts expr.entry → IsOfTokens ts span → IfOk result (ExprStands ts) }
+{
+    Ok(Expr::GetAttr(spanned(alloc, GetAttr { expr, name }, span)?))
+}
+
+pub fn item<'s, V: TemplateValue>(
+    alloc: Global,
+    expr: Expr<'s, V>,
+    subscript_expr: Expr<'s, V>,
+    span: Span,
+) -> Result<Expr<'s, V>, AllocError>
+    ensures tree { IfOk result (λ e. expr_tree V.contents e ≡ tree.item (expr_tree V.contents expr.entry) (expr_tree V.contents subscript_expr.entry)) }
+    ensures spans { (ts : _) → ExprStands ts expr.entry → ExprStands ts subscript_expr.entry → IsOfTokens ts span → IfOk result (ExprStands ts) }
+{
+    Ok(Expr::GetItem(spanned(
+        alloc,
+        GetItem {
+            expr,
+            subscript_expr,
+        },
+        span,
+    )?))
+}
+
+pub fn slice<'s, V: TemplateValue>(
+    alloc: Global,
+    slice: Slice<'s, V>,
+    span: Span,
+) -> Result<Expr<'s, V>, AllocError>
+    ensures tree { IfOk result (λ e. expr_tree V.contents e ≡ tree.slice (expr_tree V.contents slice.entry.expr)
+        (optional_of (any_tree V.contents slice.entry.start)) (optional_of (any_tree V.contents slice.entry.stop)) (optional_of (any_tree V.contents slice.entry.step))) }
+    ensures spans { (ts : _) → ExprStands ts slice.entry.expr → AnyStands ts slice.entry.start → AnyStands ts slice.entry.stop → AnyStands ts slice.entry.step →
+        IsOfTokens ts span → IfOk result (ExprStands ts) }
+{
+    Ok(Expr::Slice(spanned(alloc, slice, span)?))
+}
+
+pub fn unary<'s, V: TemplateValue>(
+    alloc: Global,
+    op: UnaryOpKind,
+    expr: Expr<'s, V>,
+    span: Span,
+) -> Result<Expr<'s, V>, AllocError>
+    ensures tree { IfOk result (λ e. expr_tree V.contents e ≡ tree.unary (unary_op op) (expr_tree V.contents expr.entry)) }
+    ensures spans { (ts : _) → ExprStands ts expr.entry → IsOfTokens ts span → IfOk result (ExprStands ts) }
+{
+    Ok(Expr::UnaryOp(spanned(alloc, UnaryOp { op, expr }, span)?))
+}
+
+pub fn binary<'s, V: TemplateValue>(
+    alloc: Global,
+    op: BinOpKind,
+    left: Expr<'s, V>,
+    right: Expr<'s, V>,
+    span: Span,
+) -> Result<Expr<'s, V>, AllocError>
+    ensures tree { IfOk result (λ e. expr_tree V.contents e ≡ tree.binary (bin_op op) (expr_tree V.contents left.entry) (expr_tree V.contents right.entry)) }
+    ensures spans { (ts : _) → ExprStands ts left.entry → ExprStands ts right.entry → IsOfTokens ts span → IfOk result (ExprStands ts) }
+{
+    Ok(Expr::BinOp(spanned(alloc, BinOp { op, left, right }, span)?))
+}
+
+/// `not in`: a negation of `in`.
+fn not_in<'s, V: TemplateValue>(
+    alloc: Global,
+    left: Expr<'s, V>,
+    right: Expr<'s, V>,
+    span: Span,
+) -> Result<Expr<'s, V>, AllocError>
+    ensures tree { IfOk result (λ e. expr_tree V.contents e ≡ tree.unary tree.logical_not (tree.binary bin.is_in (expr_tree V.contents left.entry) (expr_tree V.contents right.entry))) }
+    ensures spans { (ts : _) → ExprStands ts left.entry → ExprStands ts right.entry → IsOfTokens ts span → IfOk result (ExprStands ts) }
+{
+    let inner = binary(alloc, BinOpKind::In, left, right, span)?;
+    unary(alloc, UnaryOpKind::Not, inner, span)
+}
+
+/// One comparison.
+pub fn comparison<'s, V: TemplateValue>(
+    alloc: Global,
+    op: CompareOpKind,
+    left: Expr<'s, V>,
+    right: Expr<'s, V>,
+    span: Span,
+) -> Result<Expr<'s, V>, AllocError>
+    ensures tree { IfOk result (λ e. expr_tree V.contents e ≡ compare_two (compare_op op) (expr_tree V.contents left.entry) (expr_tree V.contents right.entry)) }
+    ensures spans { (ts : _) → ExprStands ts left.entry → ExprStands ts right.entry → IsOfTokens ts span → IfOk result (ExprStands ts) }
+{
+    match op {
+        CompareOpKind::Eq => binary(alloc, BinOpKind::Eq, left, right, span),
+        CompareOpKind::Ne => binary(alloc, BinOpKind::Ne, left, right, span),
+        CompareOpKind::Lt => binary(alloc, BinOpKind::Lt, left, right, span),
+        CompareOpKind::Lte => binary(alloc, BinOpKind::Lte, left, right, span),
+        CompareOpKind::Gt => binary(alloc, BinOpKind::Gt, left, right, span),
+        CompareOpKind::Gte => binary(alloc, BinOpKind::Gte, left, right, span),
+        CompareOpKind::In => binary(alloc, BinOpKind::In, left, right, span),
+        CompareOpKind::NotIn => not_in(alloc, left, right, span),
+    }
+}
+
+/// A chain of two comparisons or more.
+pub fn compare<'s, V: TemplateValue>(
+    alloc: Global,
+    expr: Expr<'s, V>,
+    ops: Vec<CompareOp<'s, V>>,
+    span: Span,
+) -> Result<Expr<'s, V>, AllocError>
+    ensures tree { IfOk result (λ e. 2 ≤ length ops.entry.items → expr_tree V.contents e ≡ compare_all (expr_tree V.contents expr.entry) (all_compared V.contents ops.entry.items)) }
+    ensures spans { (ts : _) → ExprStands ts expr.entry → AllComparedStand ts ops.entry.items → IsOfTokens ts span → IfOk result (ExprStands ts) }
+{
+    Ok(Expr::Compare(spanned(alloc, Compare { expr, ops }, span)?))
+}
+
+pub fn if_expr<'s, V: TemplateValue>(
+    alloc: Global,
+    if_expr: IfExpr<'s, V>,
+    span: Span,
+) -> Result<Expr<'s, V>, AllocError>
+    ensures tree { IfOk result (λ e. expr_tree V.contents e ≡ tree.if_expr (expr_tree V.contents if_expr.entry.test_expr) (expr_tree V.contents if_expr.entry.true_expr) (optional_of (any_tree V.contents if_expr.entry.false_expr))) }
+    ensures spans { (ts : _) → ExprStands ts if_expr.entry.test_expr → ExprStands ts if_expr.entry.true_expr → AnyStands ts if_expr.entry.false_expr → IsOfTokens ts span → IfOk result (ExprStands ts) }
+{
+    Ok(Expr::IfExpr(spanned(alloc, if_expr, span)?))
+}
+
+/// A filter of that operand.
+pub fn filter<'s, V: TemplateValue>(
+    alloc: Global,
+    name: &'s str,
+    expr: Expr<'s, V>,
+    args: Vec<CallArg<'s, V>>,
+    span: Span,
+) -> Result<Expr<'s, V>, AllocError>
+    ensures tree { IfOk result (λ e. expr_tree V.contents e ≡ tree.filter (present (expr_tree V.contents expr.entry)) name.now (args_of (args_view V.contents args.entry.items))) }
+    ensures spans { (ts : _) → ExprStands ts expr.entry → AllArgsStand ts args.entry.items → IsOfTokens ts span → IfOk result (ExprStands ts) }
+{
+    Ok(Expr::Filter(spanned(
+        alloc,
+        Filter {
+            name,
+            expr: Some(expr),
+            args,
+        },
+        span,
+    )?))
+}
+
+pub fn test<'s, V: TemplateValue>(
+    alloc: Global,
+    name: &'s str,
+    expr: Expr<'s, V>,
+    args: Vec<CallArg<'s, V>>,
+    span: Span,
+) -> Result<Expr<'s, V>, AllocError>
+    ensures tree { IfOk result (λ e. expr_tree V.contents e ≡ tree.test (expr_tree V.contents expr.entry) name.now (args_of (args_view V.contents args.entry.items))) }
+    ensures spans { (ts : _) → ExprStands ts expr.entry → AllArgsStand ts args.entry.items → IsOfTokens ts span → IfOk result (ExprStands ts) }
+{
+    Ok(Expr::Test(spanned(alloc, Test { name, expr, args }, span)?))
+}
+
+pub fn call<'s, V: TemplateValue>(
+    alloc: Global,
+    expr: Expr<'s, V>,
+    args: Vec<CallArg<'s, V>>,
+    span: Span,
+) -> Result<Expr<'s, V>, AllocError>
+    ensures tree { IfOk result (λ e. expr_tree V.contents e ≡ tree.call (expr_tree V.contents expr.entry) (args_of (args_view V.contents args.entry.items))) }
+    ensures spans { (ts : _) → ExprStands ts expr.entry → AllArgsStand ts args.entry.items → IsOfTokens ts span → IfOk result (ExprStands ts) }
+{
+    Ok(Expr::Call(spanned(alloc, Call { expr, args }, span)?))
+}
+
+pub fn list<'s, V: TemplateValue>(
+    alloc: Global,
+    items: Vec<Expr<'s, V>>,
+    span: Span,
+) -> Result<Expr<'s, V>, AllocError>
+    ensures tree { IfOk result (λ e. expr_tree V.contents e ≡ tree.list (exprs_of (trees V.contents items.entry.items))) }
+    ensures spans { (ts : _) → AllExprsStand ts items.entry.items → IsOfTokens ts span → IfOk result (ExprStands ts) }
+{
+    Ok(Expr::List(spanned(alloc, List { items }, span)?))
+}
+
+pub fn tuple<'s, V: TemplateValue>(
+    alloc: Global,
+    items: Vec<Expr<'s, V>>,
+    span: Span,
+) -> Result<Expr<'s, V>, AllocError>
+    ensures tree { IfOk result (λ e. expr_tree V.contents e ≡ tree.tuple (exprs_of (trees V.contents items.entry.items))) }
+    ensures spans { (ts : _) → AllExprsStand ts items.entry.items → IsOfTokens ts span → IfOk result (ExprStands ts) }
+{
+    Ok(Expr::Tuple(spanned(alloc, Tuple { items }, span)?))
+}
+
+/// A map of these keys to these values.
+pub fn map<'s, V: TemplateValue>(
+    alloc: Global,
+    keys: Vec<Expr<'s, V>>,
+    values: Vec<Expr<'s, V>>,
+    span: Span,
+) -> Result<Expr<'s, V>, AllocError>
+    ensures tree { IfOk result (λ e. expr_tree V.contents e ≡ tree.map (exprs_of (trees V.contents keys.entry.items)) (exprs_of (trees V.contents values.entry.items))) }
+    ensures spans { (ts : _) → AllExprsStand ts keys.entry.items → AllExprsStand ts values.entry.items → IsOfTokens ts span → IfOk result (ExprStands ts) }
+{
+    Ok(Expr::Map(spanned(alloc, Map { keys, values }, span)?))
+}
+
+pub fn data<'s, V: TemplateValue>(
+    alloc: Global,
+    raw: &'s str,
+    span: Span,
+) -> Result<Stmt<'s, V>, AllocError>
+    ensures tree { IfOk result (λ s. stmt_tree V.contents s ≡ tree.data_text raw.now) }
+    ensures spans { (ts : _) → Contains ts (template_data raw.now, span) → IfOk result (StmtStands ts) }
+{
+    Ok(Stmt::EmitRaw(spanned(alloc, EmitRaw { raw }, span)?))
+}
+
+pub fn output<'s, V: TemplateValue>(
+    alloc: Global,
+    expr: Expr<'s, V>,
+    span: Span,
+) -> Result<Stmt<'s, V>, AllocError>
+    ensures tree { IfOk result (λ s. stmt_tree V.contents s ≡ tree.output (expr_tree V.contents expr.entry)) }
+    ensures spans { (ts : _) → ExprStands ts expr.entry → IsOfTokens ts span → IfOk result (StmtStands ts) }
+{
+    Ok(Stmt::EmitExpr(spanned(alloc, EmitExpr { expr }, span)?))
+}
+
+pub fn assignment<'s, V: TemplateValue>(
+    alloc: Global,
+    set: Set<'s, V>,
+    span: Span,
+) -> Result<Stmt<'s, V>, AllocError>
+    ensures tree { IfOk result (λ s. stmt_tree V.contents s ≡ tree.assignment (expr_tree V.contents set.entry.target) (expr_tree V.contents set.entry.expr)) }
+    ensures spans { (ts : _) → ExprStands ts set.entry.target → ExprStands ts set.entry.expr → IsOfTokens ts span → IfOk result (StmtStands ts) }
+{
+    Ok(Stmt::Set(spanned(alloc, set, span)?))
+}
+
+pub fn template<'s, V: TemplateValue>(
+    alloc: Global,
+    children: Vec<Stmt<'s, V>>,
+    span: Span,
+) -> Result<Stmt<'s, V>, AllocError>
+    ensures tree { IfOk result (λ s. stmt_tree V.contents s ≡ tree.template (stmts_of (map (stmt_tree V.contents) children.entry.items))) }
+    ensures spans { (ts : _) → AllStand ts children.entry.items → IsOfTokens ts span → IfOk result (StmtStands ts) }
+{
+    Ok(Stmt::Template(spanned(alloc, Template { children }, span)?))
+}
