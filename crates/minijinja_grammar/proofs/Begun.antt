@@ -1,6 +1,5 @@
 -- What a primary is, by the token that it begins with.
-use Rattle.std.proofs.Common.{◌≡◌, ℕ, Option, Some, None, refl}
-use Rattle.std.specs.String.{string_bytes}
+use Rattle.std.proofs.Common.{◌≡◌, ℕ, Some, None, refl}
 use Rattle.minijinja_base.specs.declared.tokens.Span.{Span}
 use Rattle.minijinja_base.specs.declared.tokens.Token.{Token}
 use Rattle.minijinja_base.specs.declared.tokens.Token.TheVariants as token

@@ -1,6 +1,6 @@
 -- From what reading gives to the claims about the grammar.
 use Rattle.std.specs.Borrow.{Bor}
-use Rattle.std.proofs.Common.{◌≡◌, ◌≢◌, ◌⊎◌, ◌<◌, ◌∷◌, List, [], inl, inr, Option, Some, None, Result, Ok, Err, IfOk, IfErr, IsErrAnd, MatchResult, refl, sym, ap, ◌∙◌, subst, arith}
+use Rattle.std.proofs.Common.{◌≡◌, ◌≢◌, ◌⊎◌, List, [], inl, inr, Option, Some, None, Result, Ok, Err, IfOk, IfErr, IsErrAnd, MatchResult, refl, sym, ap, ◌∙◌, subst, arith}
 use Rattle.minijinja_base.specs.Values.{Text, Functions}
 use Rattle.minijinja_base.specs.Errors.{kind_of, span_of}
 use Rattle.minijinja_base.specs.declared.tokens.Token.{Token}
@@ -11,11 +11,11 @@ use Rattle.minijinja_base.specs.declared.error.ErrorKind.TheVariants.{InvalidDel
 use Rattle.minijinja_lexer.specs.Stream.{SpannedTok, Stream, Ending, IsTokenizerKind, ended, finished, out_of_memory}
 use Rattle.minijinja_lexer.specs.Stream as stream
 use Rattle.minijinja_tree.specs.Tree.{Expr, Stmt, template, done}
-use Rattle.minijinja_grammar.specs.Grammar.{Tokens, max_depth}
+use Rattle.minijinja_grammar.specs.Grammar.{max_depth}
 use Rattle.minijinja_grammar.specs.Reading.{tree_of_expr}
 use Rattle.minijinja_grammar.specs.TemplateReading.{tree_of, whole_template}
 use Rattle.minijinja_grammar.specs.Derived.{IsTemplateTree, IsExprTree}
-use Rattle.minijinja_grammar.specs.Ahead.{Ahead, Comes, Shows, left}
+use Rattle.minijinja_grammar.specs.Ahead.{Ahead, Comes, Shows}
 use Rattle.minijinja_grammar.specs.NodeSpans.{no_place}
 use Rattle.minijinja_grammar.specs.Over.{IsOver}
 use Rattle.minijinja_grammar.specs.Gives.{IsFailure, SameText}

@@ -1,7 +1,7 @@
 -- What is read leaves fewer tokens.
-use Rattle.std.proofs.Common.{◌≡◌, ℕ, zero, suc, ◌<◌, ◌≤◌, List, [], ◌∷◌, ◌++◌, length, true, false, if◌then◌else◌, Option, Some, None, refl, ap, ◌∙◌, arith}
+use Rattle.std.proofs.Common.{◌≡◌, ℕ, ◌<◌, ◌≤◌, List, [], ◌∷◌, length, true, false, if◌then◌else◌, Option, Some, None, ap, arith}
 use Rattle.minijinja_base.specs.Values.{Text, Functions}
-use Rattle.minijinja_base.specs.Tokens.{Tok, comma}
+use Rattle.minijinja_base.specs.Tokens.{Tok}
 use Rattle.minijinja_base.specs.declared.tokens.Span.{Span}
 use Rattle.minijinja_tree.specs.CompareOps.{CompareOp}
 use Rattle.minijinja_tree.specs.Tree.{Expr, if_expr}
@@ -10,13 +10,13 @@ use Rattle.minijinja_grammar.specs.Words.{begins_expr, else_word, if_word}
 use Rattle.minijinja_grammar.specs.Rules.{Rule}
 use Rattle.minijinja_grammar.specs.Grammar as g
 use Rattle.minijinja_grammar.specs.Grammar.{Tokens, at, comes, ExprAt, PrimaryAt}
-use Rattle.minijinja_grammar.specs.Readers.{Reader, and_then, read_map}
+use Rattle.minijinja_grammar.specs.Readers.{Reader, read_map}
 use Rattle.minijinja_grammar.specs.Reading as r
 use Rattle.minijinja_grammar.specs.Reading.{count, expr_at, primary_at, rest, token}
 use Rattle.minijinja_grammar.specs.Depth as spec
 use Rattle.minijinja_grammar.specs.declared.marks.Level.{Level}
 use Rattle.minijinja_grammar.specs.declared.marks.Level.TheVariants as on
-use Rattle.minijinja_grammar.proofs.Loops.{Exact, Turns, and_then_some, read_map_some, same_read}
+use Rattle.minijinja_grammar.proofs.Loops.{Exact, and_then_some, read_map_some, same_read}
 use Rattle.minijinja_grammar.proofs.Atoms.{ident-exact, name-exact, closed_some, next-shorter}
 use Rattle.minijinja_grammar.proofs.Primaries.{entry-exact}
 use Rattle.minijinja_grammar.proofs.Arguments.{args-exact, arg-exact}

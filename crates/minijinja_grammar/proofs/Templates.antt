@@ -1,20 +1,20 @@
 -- Templates are read exactly, so a text has one tree at most.
-use Rattle.std.proofs.Common.{◌≡◌, ℕ, suc, ◌<◌, List, [], ◌∷◌, ◌++◌, Bool, true, false, Option, Some, None, refl, sym, ap, subst, arith}
-use Rattle.std.specs.Prelude.{not, if◌then◌else◌}
+use Rattle.std.proofs.Common.{◌≡◌, ◌<◌, List, [], ◌∷◌, ◌++◌, Bool, true, false, Option, Some, None, refl, ap, subst, arith}
+use Rattle.std.specs.Prelude.{not}
 use Rattle.minijinja_base.specs.Values.{Text, Functions}
 use Rattle.minijinja_base.specs.declared.tokens.Span.{Span}
 use Rattle.minijinja_base.specs.Tokens.{Tok, template_data, variable_start, variable_end, block_start, block_end, assign}
 use Rattle.minijinja_tree.specs.Tree.{Expr, variable, Stmt, template, data_text, output, assignment, stmts_of}
 use Rattle.minijinja_grammar.specs.Rules.{Rule, Also}
 use Rattle.minijinja_grammar.specs.Words.{is_reserved, set_word, data_of}
-use Rattle.minijinja_grammar.specs.Grammar.{Tokens, at, Next, next, One, one, Ident, ident_at, ExprAt, max_depth}
+use Rattle.minijinja_grammar.specs.Grammar.{Tokens, at, Next, next, one, Ident, ExprAt, max_depth}
 use Rattle.minijinja_grammar.specs.Templates.{StmtOf, set, PartOf, raw, shown, tag, StmtAt, TemplateAt, whole, at_token, IsTemplateOf}
-use Rattle.minijinja_grammar.specs.Readers.{Reader, and_then, read_map, when, loop, also}
+use Rattle.minijinja_grammar.specs.Readers.{Reader, and_then, read_map, when, also}
 use Rattle.minijinja_grammar.specs.Reading as e
 use Rattle.minijinja_grammar.specs.Reading.{count, rest, token, closed, expr_at}
 use Rattle.minijinja_grammar.specs.TemplateReading as r
 use Rattle.minijinja_grammar.proofs.Loops.{Exact, Turns, same_read, and_then_some, read_map_some, when_some, recast, also-turns, loop-sound, loop-complete, loop-more, loop-done}
-use Rattle.minijinja_grammar.proofs.Atoms.{if_next, closed_some, closed-complete, next-at, next-rest, next-shorter, ident-exact, one-exact}
+use Rattle.minijinja_grammar.proofs.Atoms.{if_next, closed_some, closed-complete, next-at, next-rest, next-shorter, ident-exact}
 use Rattle.minijinja_grammar.proofs.Whole as exprs
 
 module _ {C : Type 0} (R : Rule Tokens (Expr C)) (p : Reader Tokens (Expr C)) (h : Exact count R p) where

@@ -1,5 +1,5 @@
 -- The text stays the same from call to call, and what is read goes on.
-use Rattle.std.proofs.Common.{◌≡◌, sym, ◌∙◌, Option, Some, None, refl}
+use Rattle.std.proofs.Common.{◌∙◌}
 use Rattle.minijinja_grammar.specs.Ahead.{Ahead}
 use Rattle.minijinja_grammar.specs.Gives.{SameText}
 

@@ -1,5 +1,5 @@
 -- What each function of the parser reads, by what those that it calls read.
-use Rattle.std.proofs.Common.{◌≡◌, ℕ, zero, suc, ◌<◌, ◌≤◌, ◌-◌, List, [], ◌∷◌, ◌++◌, map, Bool, true, false, if◌then◌else◌, Option, Some, None, refl, ap, sym, ◌∙◌, subst, arith}
+use Rattle.std.proofs.Common.{◌≡◌, ℕ, zero, suc, ◌<◌, ◌-◌, List, [], ◌∷◌, ◌++◌, map, Bool, true, false, if◌then◌else◌, Option, Some, None, refl, ap, sym, ◌∙◌, subst, arith}
 use Rattle.std.specs.Prelude.{◌&&◌, not, nat_lt, is_some, length}
 use Rattle.minijinja_base.specs.Values.{Text, Functions}
 use Rattle.minijinja_base.specs.declared.tokens.Span.{Span}
@@ -10,7 +10,7 @@ use Rattle.minijinja_tree.specs.CompareOps.{CompareOp}
 use Rattle.minijinja_tree.specs.Tree as tree
 use Rattle.minijinja_tree.specs.Tree.{logical_not, negation, Expr, variable, unary, binary, if_expr, absent, present, tuple}
 use Rattle.minijinja_grammar.specs.Lists.{Arg, positional, starred, keyword, double_starred, args_of, given_args, name_if_variable, optional_of, exprs_of}
-use Rattle.minijinja_grammar.specs.Words.{if_word, else_word, not_word, is_word, text_of, begins_arg, begins_bare, begins_comparison, begins_expr, begins_postfix, begins_suffix, or_op, and_op, sum_op, cat_op, term_op, pow_op}
+use Rattle.minijinja_grammar.specs.Words.{if_word, else_word, not_word, is_word, text_of, begins_arg, begins_bare, begins_comparison, begins_expr, begins_postfix, begins_suffix}
 use Rattle.minijinja_grammar.specs.Grammar.{Tokens, at, comes, compare_all, has_named, holds, is_plain, max_args}
 use Rattle.minijinja_grammar.specs.Readers as readers
 use Rattle.minijinja_grammar.specs.Readers.{Reader, and_then, read_map, when}

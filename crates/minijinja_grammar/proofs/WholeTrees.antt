@@ -1,5 +1,5 @@
 -- Each tree of the grammar is whole.
-use Rattle.std.proofs.Common.{◌≡◌, ◌≤◌, ◌<◌, ℕ, zero, suc, List, [], ◌∷◌, ◌++◌, map, length, Bool, Option, Some, None, Result, Ok, Err, IfOk, refl, ap, arith}
+use Rattle.std.proofs.Common.{◌≡◌, ◌≤◌, ℕ, zero, suc, List, [], ◌∷◌, ◌++◌, map, length, Bool, Option, Result, Ok, Err, IfOk, refl, ap, arith}
 use Rattle.minijinja_base.specs.Values.{Text, Functions}
 use Rattle.minijinja_base.specs.Syntax.{Syntax}
 use Rattle.minijinja_base.specs.Tokens.{Tok}
@@ -14,7 +14,7 @@ use Rattle.minijinja_grammar.specs.Lists.{Arg, positional, starred, keyword, dou
 use Rattle.minijinja_grammar.specs.Rules.{Rule, Many, stop, turn, Also, also, Chain, chain, Joined, joined, Maybe, left_out, taken, Items, no_item, last_item, item_and_comma}
 use Rattle.minijinja_grammar.specs.Grammar as g
 use Rattle.minijinja_grammar.specs.Grammar.{Tokens, compare_two, compare_all, ExprAt, PrimaryAt, max_depth, IsExprOf}
-use Rattle.minijinja_grammar.specs.Templates.{StmtOf, set, PartOf, raw, shown, tag, StmtAt, TemplateAt, whole, IsTemplateOf}
+use Rattle.minijinja_grammar.specs.Templates.{StmtOf, set, PartOf, raw, shown, tag, StmtAt, whole, IsTemplateOf}
 use Rattle.minijinja_grammar.specs.Derived.{IsDerived, IsExprDerived}
 
 -- each tree of the rule is such a one

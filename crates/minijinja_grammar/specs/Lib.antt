@@ -10,6 +10,7 @@ pub mod TemplateReading
 pub mod Marks
 pub mod Depth
 pub mod Ahead
+pub mod AtTokenStream
 pub mod Gives
 pub mod Causes
 pub mod NodeSpans

@@ -2,7 +2,7 @@
 -- before it ends.
 use Rattle.std.specs.Prelude.{◌≡◌, ℕ, zero, suc, List, [], Bool, true, false}
 use Rattle.minijinja_base.specs.Values.{Text, Functions}
-use Rattle.minijinja_base.specs.Tokens.{Tok, variable_start, variable_end, block_start, block_end, assign}
+use Rattle.minijinja_base.specs.Tokens.{variable_start, variable_end, block_start, block_end, assign}
 use Rattle.minijinja_base.specs.declared.tokens.Span.{Span}
 use Rattle.minijinja_tree.specs.Tree.{Expr, variable, Stmt, template, data_text, output, assignment, stmts_of}
 use Rattle.minijinja_grammar.specs.Rules.{Rule, Row, Nothing}

@@ -1,6 +1,5 @@
 -- What the parts of a node stand for. These definitions specify functions that the parser alone calls, and need not be believed.
 use Rattle.std.specs.Prelude.{◌≡◌, List, Option, Some, None, map}
-use Rattle.std.specs.Option.{option_map}
 use Rattle.minijinja_tree.specs.Tree as tree
 use Rattle.minijinja_tree.specs.CompareOps as cmp
 use Rattle.minijinja_tree.specs.Erasure.{expr_tree, compare_op}

@@ -33,6 +33,7 @@ fn spanned<T: Drop>(alloc: Global, node: T, span: Span) -> Result<Spanned<T>, Al
     }
 }
 
+/// A variable of that name.
 pub fn variable<'s, V: TemplateValue>(
     alloc: Global,
     id: &'s str,
@@ -54,6 +55,7 @@ pub fn variable_name<'s, V: TemplateValue>(expr: &Expr<'s, V>) -> Option<&'s str
     }
 }
 
+/// A constant of that value.
 pub fn constant<'s, V: TemplateValue>(
     alloc: Global,
     value: V,
@@ -65,6 +67,7 @@ pub fn constant<'s, V: TemplateValue>(
     Ok(Expr::Const(spanned(alloc, Const { value }, span)?))
 }
 
+/// The attribute of that name of an expression.
 pub fn attribute<'s, V: TemplateValue>(
     alloc: Global,
     expr: Expr<'s, V>,
@@ -77,6 +80,7 @@ pub fn attribute<'s, V: TemplateValue>(
     Ok(Expr::GetAttr(spanned(alloc, GetAttr { expr, name }, span)?))
 }
 
+/// The item of an expression at a subscript.
 pub fn item<'s, V: TemplateValue>(
     alloc: Global,
     expr: Expr<'s, V>,
@@ -96,6 +100,7 @@ pub fn item<'s, V: TemplateValue>(
     )?))
 }
 
+/// A slice, whose parts may be absent.
 pub fn slice<'s, V: TemplateValue>(
     alloc: Global,
     slice: Slice<'s, V>,
@@ -109,6 +114,7 @@ pub fn slice<'s, V: TemplateValue>(
     Ok(Expr::Slice(spanned(alloc, slice, span)?))
 }
 
+/// A unary operator on an operand.
 pub fn unary<'s, V: TemplateValue>(
     alloc: Global,
     op: UnaryOpKind,
@@ -121,6 +127,7 @@ pub fn unary<'s, V: TemplateValue>(
     Ok(Expr::UnaryOp(spanned(alloc, UnaryOp { op, expr }, span)?))
 }
 
+/// A binary operator on two operands.
 pub fn binary<'s, V: TemplateValue>(
     alloc: Global,
     op: BinOpKind,
@@ -184,6 +191,7 @@ pub fn compare<'s, V: TemplateValue>(
     Ok(Expr::Compare(spanned(alloc, Compare { expr, ops }, span)?))
 }
 
+/// An if expression.
 pub fn if_expr<'s, V: TemplateValue>(
     alloc: Global,
     if_expr: IfExpr<'s, V>,
@@ -217,6 +225,7 @@ pub fn filter<'s, V: TemplateValue>(
     )?))
 }
 
+/// A test of that operand.
 pub fn test<'s, V: TemplateValue>(
     alloc: Global,
     name: &'s str,
@@ -230,6 +239,7 @@ pub fn test<'s, V: TemplateValue>(
     Ok(Expr::Test(spanned(alloc, Test { name, expr, args }, span)?))
 }
 
+/// A call of an expression.
 pub fn call<'s, V: TemplateValue>(
     alloc: Global,
     expr: Expr<'s, V>,
@@ -242,6 +252,7 @@ pub fn call<'s, V: TemplateValue>(
     Ok(Expr::Call(spanned(alloc, Call { expr, args }, span)?))
 }
 
+/// A list of these items.
 pub fn list<'s, V: TemplateValue>(
     alloc: Global,
     items: Vec<Expr<'s, V>>,
@@ -253,6 +264,7 @@ pub fn list<'s, V: TemplateValue>(
     Ok(Expr::List(spanned(alloc, List { items }, span)?))
 }
 
+/// A tuple of these items.
 pub fn tuple<'s, V: TemplateValue>(
     alloc: Global,
     items: Vec<Expr<'s, V>>,
@@ -277,6 +289,7 @@ pub fn map<'s, V: TemplateValue>(
     Ok(Expr::Map(spanned(alloc, Map { keys, values }, span)?))
 }
 
+/// Text as it stands in the source.
 pub fn data<'s, V: TemplateValue>(
     alloc: Global,
     raw: &'s str,
@@ -288,6 +301,7 @@ pub fn data<'s, V: TemplateValue>(
     Ok(Stmt::EmitRaw(spanned(alloc, EmitRaw { raw }, span)?))
 }
 
+/// The output of an expression.
 pub fn output<'s, V: TemplateValue>(
     alloc: Global,
     expr: Expr<'s, V>,
@@ -299,6 +313,7 @@ pub fn output<'s, V: TemplateValue>(
     Ok(Stmt::EmitExpr(spanned(alloc, EmitExpr { expr }, span)?))
 }
 
+/// An assignment.
 pub fn assignment<'s, V: TemplateValue>(
     alloc: Global,
     set: Set<'s, V>,
@@ -310,6 +325,7 @@ pub fn assignment<'s, V: TemplateValue>(
     Ok(Stmt::Set(spanned(alloc, set, span)?))
 }
 
+/// A template of these statements.
 pub fn template<'s, V: TemplateValue>(
     alloc: Global,
     children: Vec<Stmt<'s, V>>,

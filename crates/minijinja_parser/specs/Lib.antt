@@ -1,2 +1,1 @@
-pub mod AtTokenStream
 pub mod Parsing

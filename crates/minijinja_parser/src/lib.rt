@@ -2,4 +2,3 @@
 #![tactic(auto)]
 
 pub mod parser;
-mod token_stream;

@@ -1,11 +1,9 @@
 //! From the tokens of a template to its tree.
-ghost use Rattle.std.specs.Prelude.{◌≡◌, ◌≢◌, ◌<◌, ◌≤◌, ◌^◌, ◌⊎◌, [], length, Contains, IfErr, IfOk, IsErrAnd, MatchResult, Some, if◌then◌else◌};
-ghost use Rattle.minijinja_base.specs.Errors.{kind_of, name_of, span_of};
+ghost use Rattle.std.specs.Prelude.{◌≡◌, ◌≢◌, ◌<◌, ◌≤◌, ◌^◌, ◌⊎◌, [], length, IfErr, IfOk, IsErrAnd, MatchResult, if◌then◌else◌};
+ghost use Rattle.minijinja_base.specs.Errors.{kind_of, span_of};
 ghost use Rattle.minijinja_base.specs.Syntax.{default_syntax};
-ghost use Rattle.minijinja_base.specs.Tokens.{tok_of, ident};
 ghost use Rattle.minijinja_base.specs.declared.error.ErrorKind.TheVariants.{BadEscape, OutOfMemory, SourceTooLong, SyntaxError};
-ghost use Rattle.minijinja_lexer.specs.Slices.{IsBetweenChars};
-ghost use Rattle.minijinja_lexer.specs.Stream.{IsTokenizerKind, finished, refused, spanned_tok};
+ghost use Rattle.minijinja_lexer.specs.Stream.{IsTokenizerKind, finished, refused};
 ghost use Rattle.minijinja_lexer.specs.TextTokens.{text_of, tokens_of_template, tokens_of_expression};
 ghost use Rattle.minijinja_tree.specs.Erasure.{expr_tree, stmt_tree};
 ghost use Rattle.minijinja_tree.specs.Tree.{done, template};
@@ -13,27 +11,22 @@ ghost use Rattle.minijinja_tree.specs.WellFormed.{IsWellFormed, IsWhole};
 ghost use Rattle.minijinja_grammar.specs.Ahead.{left, Comes};
 ghost use Rattle.minijinja_grammar.specs.Causes.{IsCause, IsLimit, IsRefusal};
 ghost use Rattle.minijinja_grammar.specs.Derived.{IsDerived, IsExprDerived, IsExprTree, IsTemplateTree};
-ghost use Rattle.minijinja_grammar.specs.Gives.{Gives, GivesAll, IsFailure, Keeps};
-ghost use Rattle.minijinja_grammar.specs.Marks.{mark_tok};
+ghost use Rattle.minijinja_grammar.specs.Gives.{GivesAll, IsFailure, Keeps};
 ghost use Rattle.minijinja_grammar.specs.NodeSpans.{ExprStands, StmtStands, no_place};
 ghost use Rattle.minijinja_grammar.specs.Over.{IsOver};
 ghost use Rattle.minijinja_parser.specs.Parsing.{HasRefused, IsSpent, ahead_of, filename_of, stream_of};
-ghost use Rattle.minijinja_grammar.specs.Reading.{first_token, ident_at, token, tree_of_expr};
+ghost use Rattle.minijinja_grammar.specs.Reading.{tree_of_expr};
 ghost use Rattle.minijinja_grammar.specs.TemplateReading.{tree_of};
 
-pub use crate::token_stream::TokenStream;
 use minijinja_base::error::{Detail, Error, ErrorKind};
 use minijinja_base::syntax::SyntaxConfig;
-use minijinja_base::tokens::{Span, Token};
 use minijinja_base::value::TemplateValue;
-use minijinja_grammar::marks::{Mark, is_mark, name_of};
+use minijinja_expressions::expr_parser::ExprParser;
 use minijinja_grammar::nodes;
+pub use minijinja_grammar::token_stream::TokenStream;
 use minijinja_tree::ast::{Expr, Stmt};
 use std::alloc::Global;
 
-mod arguments;
-mod expressions;
-mod operands;
 mod statements;
 
 /// How deep expressions may nest.
@@ -48,9 +41,7 @@ pub const EXPRESSION_NAME: &str = "<expression>";
 /// Reads the tokens of one source.
 #[derive(Drop)]
 pub struct Parser<'s, 'c> {
-    stream: TokenStream<'s, 'c>,
-    filename: &'s str,
-    alloc: Global,
+    inner: ExprParser<'s, 'c>,
 }
 
 impl<'s, 'c> Parser<'s, 'c> {
@@ -70,9 +61,7 @@ impl<'s, 'c> Parser<'s, 'c> {
         ensures stream { Comes (if in_expr then tokens_of_expression syntax.now source.now else tokens_of_template syntax.now source.now) (stream_of result) }
     {
         Parser {
-            stream: TokenStream::new(alloc, source, filename, in_expr, syntax),
-            filename,
-            alloc,
+            inner: ExprParser::new(alloc, source, filename, in_expr, syntax),
         }
     }
 
@@ -80,108 +69,54 @@ impl<'s, 'c> Parser<'s, 'c> {
     pub fn filename(&self) -> &'s str
         ensures { result.now ≡ filename_of self.now }
     {
-        self.filename
-    }
-
-    /// A syntax error at the last token taken.
-    fn error(&self, detail: Detail<'s>) -> Error<'s>
-        ensures kind { kind_of result ≡ SyntaxError }
-        ensures name { name_of result ≡ Some self.now.filename }
-        ensures span { span_of result ≡ Some self.now.stream.last }
-    {
-        Error::new(
-            ErrorKind::SyntaxError,
-            detail,
-            Some(self.filename),
-            Some(self.stream.last_span()),
-        )
-    }
-
-    /// Takes a token.
-    fn expect_token(&mut self, wanted: &'static str) -> Result<(Token<'s>, Span), Error<'s>>
-        ensures read { Gives spanned_tok result self.new.stream (first_token (left self.old.stream)) }
-        ensures between { IfOk result (λ t. IsBetweenChars self.old.stream.source t.1) }
-        ensures keeps { Keeps result self.old.stream self.new.stream }
-        ensures cause { IfErr result (IsFailure self.new.stream.stream.ending) }
-        ensures spans { (ts : _) → IsOver ts self.old.stream →
-            IfOk result (λ t. IsOver ts self.new.stream × Contains ts (spanned_tok t)) }
-    {
-        match self.stream.take()? {
-            Some(taken) => Ok(taken),
-            None => Err(self.error(Detail::UnexpectedEnd(wanted))),
-        }
-    }
-
-    /// Takes an identifier.
-    fn expect_ident(&mut self, wanted: &'static str) -> Result<(&'s str, Span), Error<'s>>
-        ensures read { Gives (λ t. (t.0.now, t.1)) result self.new.stream (ident_at (left self.old.stream)) }
-        ensures between { IfOk result (λ t. IsBetweenChars self.old.stream.source t.1) }
-        ensures keeps { Keeps result self.old.stream self.new.stream }
-        ensures cause { IfErr result (IsFailure self.new.stream.stream.ending) }
-        ensures spans { (ts : _) → IsOver ts self.old.stream →
-            IfOk result (λ t. IsOver ts self.new.stream × Contains ts (ident t.0.now, t.1)) }
-    {
-        match self.expect_token(wanted)? {
-            (Token::Ident(name), span) => Ok((name, span)),
-            _ => Err(self.error(Detail::UnexpectedToken(wanted))),
-        }
-    }
-
-    /// Takes that token.
-    fn expect(&mut self, mark: Mark) -> Result<(), Error<'s>>
-        ensures read { Gives (λ _. tt) result self.new.stream (token (mark_tok mark) (left self.old.stream)) }
-        ensures keeps { Keeps result self.old.stream self.new.stream }
-        ensures cause { IfErr result (IsFailure self.new.stream.stream.ending) }
-        ensures spans { (ts : _) → IsOver ts self.old.stream → IfOk result (λ _. IsOver ts self.new.stream) }
-    {
-        let (token, _) = self.expect_token(name_of(mark))?;
-        if !is_mark(&token, mark) {
-            return Err(self.error(Detail::UnexpectedToken(name_of(mark))));
-        }
-        Ok(())
+        self.inner.filename
     }
 
     /// Refuses any token.
     fn expect_end(&mut self) -> Result<(), Error<'s>>
-        ensures whole { IfOk result (λ _. left self.old.stream ≡ []) }
-        ensures none_left { IfOk result (λ _. left self.new.stream ≡ []) }
-        ensures unrefused { IfOk result (λ _. self.new.stream.stream.ending ≡ finished) }
-        ensures refused { IfErr result (λ e. kind_of e ≢ OutOfMemory → self.new.stream.stream.ending ≡ finished → left self.old.stream ≢ []) }
-        ensures keeps { Keeps result self.old.stream self.new.stream }
-        ensures cause { IfErr result (IsFailure self.new.stream.stream.ending) }
+        ensures whole { IfOk result (λ _. left (ahead_of self.old) ≡ []) }
+        ensures none_left { IfOk result (λ _. left (ahead_of self.new) ≡ []) }
+        ensures unrefused { IfOk result (λ _. (stream_of self.new).ending ≡ finished) }
+        ensures refused { IfErr result (λ e. kind_of e ≢ OutOfMemory → (stream_of self.new).ending ≡ finished → left (ahead_of self.old) ≢ []) }
+        ensures keeps { Keeps result (ahead_of self.old) (ahead_of self.new) }
+        ensures cause { IfErr result (IsFailure (stream_of self.new).ending) }
     {
-        match self.stream.take()? {
+        match self.inner.stream.take()? {
             None => Ok(()),
-            Some(_) => Err(self.error(Detail::UnexpectedToken("end of input"))),
+            Some(_) => Err(self.inner.error(Detail::UnexpectedToken("end of input"))),
         }
     }
 
     /// The template, up to the end of the tokens.
     #[tactic(auto, unfolding(minijinja_grammar::specs::TemplateReading::tree_of))]
     fn whole_template<V: TemplateValue>(&mut self) -> Result<Stmt<'s, V>, Error<'s>>
-        ensures read { GivesAll (stmt_tree V.contents) result self.new.stream.stream
-            (tree_of V.functions self.old.stream.source (left self.old.stream)) }
-        ensures whole { IfOk result (λ _. left self.new.stream ≡ []) }
-        ensures keeps { Keeps result self.old.stream self.new.stream }
-        ensures cause { IfErr result (IsFailure self.new.stream.stream.ending) }
-        ensures spans { (ts : _) → IsOver ts self.old.stream → IfOk result (StmtStands ts) }
+        ensures read { GivesAll (stmt_tree V.contents) result (stream_of self.new)
+            (tree_of V.functions (ahead_of self.old).source (left (ahead_of self.old))) }
+        ensures whole { IfOk result (λ _. left (ahead_of self.new) ≡ []) }
+        ensures keeps { Keeps result (ahead_of self.old) (ahead_of self.new) }
+        ensures cause { IfErr result (IsFailure (stream_of self.new).ending) }
+        ensures spans { (ts : _) → IsOver ts (ahead_of self.old) → IfOk result (StmtStands ts) }
     {
-        let span = self.stream.last_span();
+        let span = self.inner.stream.last_span();
         let children = self.subparse()?;
-        Ok(nodes::template(self.alloc, children, self.stream.expand_span(span))?)
+        Ok(nodes::template(
+            self.inner.alloc,
+            children,
+            self.inner.stream.expand_span(span),
+        )?)
     }
 
     /// The expression, up to the end of the tokens.
     #[tactic(auto, unfolding(minijinja_grammar::specs::Reading::tree_of_expr))]
     fn whole_expr<V: TemplateValue>(&mut self) -> Result<Expr<'s, V>, Error<'s>>
-        ensures read { GivesAll (expr_tree V.contents) result self.new.stream.stream
-            (tree_of_expr V.functions self.old.stream.source (left self.old.stream)) }
-        ensures whole { IfOk result (λ _. left self.new.stream ≡ []) }
-        ensures keeps { Keeps result self.old.stream self.new.stream }
-        ensures cause { IfErr result (IsFailure self.new.stream.stream.ending) }
-        ensures spans { (ts : _) → IsOver ts self.old.stream → IfOk result (ExprStands ts) }
+        ensures read { GivesAll (expr_tree V.contents) result (stream_of self.new)
+            (tree_of_expr V.functions (ahead_of self.old).source (left (ahead_of self.old))) }
+        ensures whole { IfOk result (λ _. left (ahead_of self.new) ≡ []) }
+        ensures keeps { Keeps result (ahead_of self.old) (ahead_of self.new) }
+        ensures cause { IfErr result (IsFailure (stream_of self.new).ending) }
+        ensures spans { (ts : _) → IsOver ts (ahead_of self.old) → IfOk result (ExprStands ts) }
     {
-        let expr = self.parse_expr(MAX_DEPTH)?;
+        let expr = self.inner.parse_expr(MAX_DEPTH)?;
         self.expect_end()?;
         Ok(expr)
     }
@@ -220,11 +155,11 @@ impl<'s, 'c> Parser<'s, 'c> {
         // Behind the last token stands the empty template, unless memory ran out.
         ensures empty { IsSpent self.old → MatchResult result (λ s. stmt_tree V.contents s ≡ template done) (λ e. kind_of e ≡ OutOfMemory) }
     {
-        self.stream.current()?;
+        self.inner.stream.current()?;
         match self.whole_template() {
             Ok(template) => Ok(template),
             Err(refusal) => {
-                self.stream.refuse(refusal);
+                self.inner.stream.refuse(refusal);
                 Err(refusal)
             }
         }
@@ -264,11 +199,11 @@ impl<'s, 'c> Parser<'s, 'c> {
         // Behind the last token stands no expression.
         ensures nothing { IsSpent self.old → IsErrAnd result (λ e. (kind_of e ≡ SyntaxError) ⊎ (kind_of e ≡ OutOfMemory)) }
     {
-        self.stream.current()?;
+        self.inner.stream.current()?;
         match self.whole_expr() {
             Ok(expr) => Ok(expr),
             Err(refusal) => {
-                self.stream.refuse(refusal);
+                self.inner.stream.refuse(refusal);
                 Err(refusal)
             }
         }

@@ -12,6 +12,7 @@ ghost use Rattle.minijinja_grammar.specs.NodeSpans.{ExprStands, StartsAtToken, S
 ghost use Rattle.minijinja_grammar.specs.Over.{AllStand, IsOver};
 ghost use Rattle.minijinja_grammar.specs.Reading.{expr_at};
 ghost use Rattle.minijinja_grammar.specs.TemplateReading as spec;
+ghost use Rattle.minijinja_parser.specs.Parsing.{ahead_of, stream_of};
 
 use crate::parser::{MAX_DEPTH, Parser};
 use minijinja_base::error::{Detail, Error};
@@ -26,77 +27,77 @@ impl<'s, 'c> Parser<'s, 'c> {
     /// A name that may be assigned to.
     #[tactic(auto, unfolding(minijinja_grammar::specs::TemplateReading::target_of))]
     fn parse_assign_name<V: TemplateValue>(&mut self) -> Result<Expr<'s, V>, Error<'s>>
-        ensures read { Gives (expr_tree V.contents) result self.new.stream (spec.target_of (left self.old.stream)) }
-        ensures keeps { Keeps result self.old.stream self.new.stream }
-        ensures cause { IfErr result (IsFailure self.new.stream.stream.ending) }
-        ensures spans { (ts : _) → IsOver ts self.old.stream → IfOk result (λ e. IsOver ts self.new.stream × ExprStands ts e) }
+        ensures read { Gives (expr_tree V.contents) result (ahead_of self.new) (spec.target_of (left (ahead_of self.old))) }
+        ensures keeps { Keeps result (ahead_of self.old) (ahead_of self.new) }
+        ensures cause { IfErr result (IsFailure (stream_of self.new).ending) }
+        ensures spans { (ts : _) → IsOver ts (ahead_of self.old) → IfOk result (λ e. IsOver ts (ahead_of self.new) × ExprStands ts e) }
     {
-        let (name, span) = self.expect_ident("identifier")?;
+        let (name, span) = self.inner.expect_ident("identifier")?;
         if is_reserved(name) {
-            return Err(self.error(Detail::ReservedName(name)));
+            return Err(self.inner.error(Detail::ReservedName(name)));
         }
-        Ok(nodes::variable(self.alloc, name, span)?)
+        Ok(nodes::variable(self.inner.alloc, name, span)?)
     }
 
     /// What follows the word `set`.
     #[tactic(auto, unfolding(minijinja_grammar::specs::TemplateReading::set_of))]
     fn parse_set<V: TemplateValue>(&mut self) -> Result<Set<'s, V>, Error<'s>>
-        ensures read { Gives (λ s. tree.assignment (expr_tree V.contents s.target) (expr_tree V.contents s.expr)) result self.new.stream
-            (spec.set_of (expr_at V.functions self.old.stream.source 149) (left self.old.stream)) }
-        ensures keeps { Keeps result self.old.stream self.new.stream }
-        ensures cause { IfErr result (IsFailure self.new.stream.stream.ending) }
-        ensures spans { (ts : _) → IsOver ts self.old.stream →
-            IfOk result (λ s. IsOver ts self.new.stream × ExprStands ts s.target × ExprStands ts s.expr) }
+        ensures read { Gives (λ s. tree.assignment (expr_tree V.contents s.target) (expr_tree V.contents s.expr)) result (ahead_of self.new)
+            (spec.set_of (expr_at V.functions (ahead_of self.old).source 149) (left (ahead_of self.old))) }
+        ensures keeps { Keeps result (ahead_of self.old) (ahead_of self.new) }
+        ensures cause { IfErr result (IsFailure (stream_of self.new).ending) }
+        ensures spans { (ts : _) → IsOver ts (ahead_of self.old) →
+            IfOk result (λ s. IsOver ts (ahead_of self.new) × ExprStands ts s.target × ExprStands ts s.expr) }
     {
         let target = self.parse_assign_name()?;
-        self.expect(Mark::Assign)?;
-        let expr = self.parse_expr(MAX_DEPTH - 1)?;
+        self.inner.expect(Mark::Assign)?;
+        let expr = self.inner.parse_expr(MAX_DEPTH - 1)?;
         Ok(Set { target, expr })
     }
 
     /// A statement, from its first word on.
     #[tactic(auto, unfolding(minijinja_grammar::specs::TemplateReading::stmt_of))]
     fn parse_stmt<V: TemplateValue>(&mut self) -> Result<Stmt<'s, V>, Error<'s>>
-        ensures read { Gives (stmt_tree V.contents) result self.new.stream (spec.stmt V.functions self.old.stream.source (left self.old.stream)) }
-        ensures keeps { Keeps result self.old.stream self.new.stream }
-        ensures cause { IfErr result (IsFailure self.new.stream.stream.ending) }
-        ensures spans { (ts : _) → IsOver ts self.old.stream → IfOk result (λ s. IsOver ts self.new.stream × StmtStands ts s) }
+        ensures read { Gives (stmt_tree V.contents) result (ahead_of self.new) (spec.stmt V.functions (ahead_of self.old).source (left (ahead_of self.old))) }
+        ensures keeps { Keeps result (ahead_of self.old) (ahead_of self.new) }
+        ensures cause { IfErr result (IsFailure (stream_of self.new).ending) }
+        ensures spans { (ts : _) → IsOver ts (ahead_of self.old) → IfOk result (λ s. IsOver ts (ahead_of self.new) × StmtStands ts s) }
     {
-        let (word, span) = self.expect_ident("block keyword")?;
+        let (word, span) = self.inner.expect_ident("block keyword")?;
         if word != "set" {
-            return Err(self.error(Detail::UnknownStatement(word)));
+            return Err(self.inner.error(Detail::UnknownStatement(word)));
         }
         let set = self.parse_set()?;
-        Ok(nodes::assignment(self.alloc, set, self.stream.expand_span(span))?)
+        Ok(nodes::assignment(self.inner.alloc, set, self.inner.stream.expand_span(span))?)
     }
 
     /// An output, from behind its start on.
     #[tactic(auto, unfolding(minijinja_grammar::specs::TemplateReading::output_of))]
     fn parse_output<V: TemplateValue>(&mut self, span: Span) -> Result<Stmt<'s, V>, Error<'s>>
-        ensures read { Gives (stmt_tree V.contents) result self.new.stream
-            (spec.output_of (spec.expr V.functions self.old.stream.source) (left self.old.stream)) }
-        ensures keeps { Keeps result self.old.stream self.new.stream }
-        ensures cause { IfErr result (IsFailure self.new.stream.stream.ending) }
-        ensures spans { (ts : _) → IsOver ts self.old.stream → StartsAtToken ts span →
-            IfOk result (λ s. IsOver ts self.new.stream × StmtStands ts s) }
+        ensures read { Gives (stmt_tree V.contents) result (ahead_of self.new)
+            (spec.output_of (spec.expr V.functions (ahead_of self.old).source) (left (ahead_of self.old))) }
+        ensures keeps { Keeps result (ahead_of self.old) (ahead_of self.new) }
+        ensures cause { IfErr result (IsFailure (stream_of self.new).ending) }
+        ensures spans { (ts : _) → IsOver ts (ahead_of self.old) → StartsAtToken ts span →
+            IfOk result (λ s. IsOver ts (ahead_of self.new) × StmtStands ts s) }
     {
-        let expr = self.parse_expr(MAX_DEPTH)?;
-        let span = self.stream.expand_span(span);
-        self.expect(Mark::VariableEnd)?;
-        Ok(nodes::output(self.alloc, expr, span)?)
+        let expr = self.inner.parse_expr(MAX_DEPTH)?;
+        let span = self.inner.stream.expand_span(span);
+        self.inner.expect(Mark::VariableEnd)?;
+        Ok(nodes::output(self.inner.alloc, expr, span)?)
     }
 
     /// A statement and its end, from behind its start on.
     #[tactic(auto, unfolding(minijinja_grammar::specs::TemplateReading::tag_of))]
     fn parse_tag<V: TemplateValue>(&mut self) -> Result<Stmt<'s, V>, Error<'s>>
-        ensures read { Gives (stmt_tree V.contents) result self.new.stream
-            (spec.tag_of (spec.stmt V.functions self.old.stream.source) (left self.old.stream)) }
-        ensures keeps { Keeps result self.old.stream self.new.stream }
-        ensures cause { IfErr result (IsFailure self.new.stream.stream.ending) }
-        ensures spans { (ts : _) → IsOver ts self.old.stream → IfOk result (λ s. IsOver ts self.new.stream × StmtStands ts s) }
+        ensures read { Gives (stmt_tree V.contents) result (ahead_of self.new)
+            (spec.tag_of (spec.stmt V.functions (ahead_of self.old).source) (left (ahead_of self.old))) }
+        ensures keeps { Keeps result (ahead_of self.old) (ahead_of self.new) }
+        ensures cause { IfErr result (IsFailure (stream_of self.new).ending) }
+        ensures spans { (ts : _) → IsOver ts (ahead_of self.old) → IfOk result (λ s. IsOver ts (ahead_of self.new) × StmtStands ts s) }
     {
         let stmt = self.parse_stmt()?;
-        self.expect(Mark::BlockEnd)?;
+        self.inner.expect(Mark::BlockEnd)?;
         Ok(stmt)
     }
 
@@ -109,7 +110,7 @@ impl<'s, 'c> Parser<'s, 'c> {
         ensures memory { IfErr result (λ e. kind_of e ≡ OutOfMemory) }
         ensures spans { (ts : _) → Contains ts (template_data raw.now, span) → IfOk result (StmtStands ts) }
     {
-        Ok(nodes::data(self.alloc, raw, span)?)
+        Ok(nodes::data(self.inner.alloc, raw, span)?)
     }
 
     /// Data, an output or a statement, which begins with the token.
@@ -119,33 +120,35 @@ impl<'s, 'c> Parser<'s, 'c> {
         token: Token<'s>,
         span: Span,
     ) -> Result<Stmt<'s, V>, Error<'s>>
-        ensures read { Gives (stmt_tree V.contents) result self.new.stream
-            (spec.part V.functions self.old.stream.source ((tok_of token.entry, span) ∷ left self.old.stream)) }
-        ensures keeps { Keeps result self.old.stream self.new.stream }
-        ensures cause { IfErr result (IsFailure self.new.stream.stream.ending) }
-        ensures spans { (ts : _) → IsOver ts self.old.stream → Contains ts (tok_of token.entry, span) →
-            IfOk result (λ s. IsOver ts self.new.stream × StmtStands ts s) }
+        ensures read { Gives (stmt_tree V.contents) result (ahead_of self.new)
+            (spec.part V.functions (ahead_of self.old).source ((tok_of token.entry, span) ∷ left (ahead_of self.old))) }
+        ensures keeps { Keeps result (ahead_of self.old) (ahead_of self.new) }
+        ensures cause { IfErr result (IsFailure (stream_of self.new).ending) }
+        ensures spans { (ts : _) → IsOver ts (ahead_of self.old) → Contains ts (tok_of token.entry, span) →
+            IfOk result (λ s. IsOver ts (ahead_of self.new) × StmtStands ts s) }
     {
         match token {
             Token::TemplateData(raw) => self.parse_data(raw, span),
             Token::VariableStart => self.parse_output(span),
             Token::BlockStart => self.parse_tag(),
-            _ => Err(self.error(Detail::UnexpectedToken("template data or the start of a tag"))),
+            _ => Err(
+                self.inner.error(Detail::UnexpectedToken("template data or the start of a tag")),
+            ),
         }
     }
 
     /// The statements up to the end of the tokens.
     pub(crate) fn subparse<V: TemplateValue>(&mut self) -> Result<Vec<Stmt<'s, V>>, Error<'s>>
-        ensures read { Gives (λ v. map (stmt_tree V.contents) v.items) result self.new.stream
-            (spec.parts_from V.functions self.old.stream.source [] (left self.old.stream)) }
-        ensures whole { IfOk result (λ _. left self.new.stream ≡ []) }
-        ensures unrefused { IfOk result (λ _. self.new.stream.stream.ending ≡ finished) }
-        ensures keeps { Keeps result self.old.stream self.new.stream }
-        ensures cause { IfErr result (IsFailure self.new.stream.stream.ending) }
-        ensures spans { (ts : _) → IsOver ts self.old.stream → IfOk result (λ v. IsOver ts self.new.stream × AllStand ts v.items) }
+        ensures read { Gives (λ v. map (stmt_tree V.contents) v.items) result (ahead_of self.new)
+            (spec.parts_from V.functions (ahead_of self.old).source [] (left (ahead_of self.old))) }
+        ensures whole { IfOk result (λ _. left (ahead_of self.new) ≡ []) }
+        ensures unrefused { IfOk result (λ _. (stream_of self.new).ending ≡ finished) }
+        ensures keeps { Keeps result (ahead_of self.old) (ahead_of self.new) }
+        ensures cause { IfErr result (IsFailure (stream_of self.new).ending) }
+        ensures spans { (ts : _) → IsOver ts (ahead_of self.old) → IfOk result (λ v. IsOver ts (ahead_of self.new) × AllStand ts v.items) }
     {
-        let mut children = Vec::new(self.alloc);
-        while let Some((token, span)) = self.stream.take()? {
+        let mut children = Vec::new(self.inner.alloc);
+        while let Some((token, span)) = self.inner.stream.take()? {
             children.push(self.parse_part(token, span)?)?;
         }
         Ok(children)

@@ -1,5 +1,5 @@
 use Rattle.std.proofs.Common.{sym, subst}
-use Rattle.minijinja_grammar.specs.NodeSpans.{ExprStands, IsOfTokens, StandsIfAny}
+use Rattle.minijinja_grammar.specs.NodeSpans.{ExprStands, IsOfTokens}
 use Rattle.minijinja_grammar.specs.Over.{AnyStands}
 use Rattle.minijinja_grammar.proofs.NodeRows.{any_stands}
 use Rattle.minijinja_grammar.proofs.nodes.slice.Goals as goal

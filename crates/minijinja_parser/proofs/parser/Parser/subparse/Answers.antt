@@ -1,4 +1,4 @@
-use Rattle.std.proofs.Common.{◌≡◌, ◌<◌, [], ◌∷◌, ◌++◌, map, length, sym, ap, subst, ◌∙◌, arith}
+use Rattle.std.proofs.Common.{◌≡◌, ◌<◌, [], ◌∷◌, map, length, sym, ap, subst, ◌∙◌, arith}
 use Rattle.std.proofs.lemmas.List.{map-append}
 use Rattle.std.proofs.lemmas.Result.{err_from_is_err_and}
 use Rattle.minijinja_lexer.specs.Stream.{spanned_tok}
@@ -13,27 +13,27 @@ use Rattle.minijinja_parser.proofs.parser.Parser.subparse.Goals as goal
 
 pub returns-in_err-parse_part-clause-read : goal.returns-in_err-parse_part-clause-read
 returns-in_err-parse_part-clause-read g c =
-    let h : left c.loop-children.self.stream ≡ spanned_tok (c.in-Some.token, c.in-Some.span) ∷ left c.take.new.self = some-taken _ _ _ (c.in-Some.token, c.in-Some.span) c.in_ok-token.ensures.answers c.in-Some.is in
+    let h : left c.loop-children.self.inner.stream ≡ spanned_tok (c.in-Some.token, c.in-Some.span) ∷ left c.take.new.self = some-taken _ _ _ (c.in-Some.token, c.in-Some.span) c.in_ok-token.ensures.answers c.in-Some.is in
     let e = (same_trans _ _ _ c.loop-children.invariant.keeps c.in_ok-token.ensures.keeps).source in
     let p = err_from_is_err_and c.from_residual-in_err-parse_part.result c.from_residual-in_err-parse_part.ensures.1 in
     rw (p.1, p.2) (λ m k. c.loop-children.invariant.same ∙
-    parts-refused g.V.TemplateValue.functions c.args.self.now.stream.source c.take.new.self.source (map (stmt_tree g.V.TemplateValue.contents) c.loop-children.children.items) (left c.loop-children.self.stream) (left c.take.new.self) (spanned_tok (c.in-Some.token, c.in-Some.span)) h e (c.in_err-parse_part.ensures.read m k))
+    parts-refused g.V.TemplateValue.functions c.args.self.now.inner.stream.source c.take.new.self.source (map (stmt_tree g.V.TemplateValue.contents) c.loop-children.children.items) (left c.loop-children.self.inner.stream) (left c.take.new.self) (spanned_tok (c.in-Some.token, c.in-Some.span)) h e (c.in_err-parse_part.ensures.read m k))
 
 pub loop-children-smaller : goal.loop-children-smaller
 loop-children-smaller g c =
-    let h : left c.loop-children.self.stream ≡ spanned_tok (c.in-Some.token, c.in-Some.span) ∷ left c.take.new.self = some-taken _ _ _ (c.in-Some.token, c.in-Some.span) c.in_ok-token.ensures.answers c.in-Some.is in
-    let s : length (left c.parse_part.new.self.stream) < length (spanned_tok (c.in-Some.token, c.in-Some.span) ∷ left c.take.new.self) = part-shorter _ _ _ _ _ c.in_ok-parse_part.ensures.read in
+    let h : left c.loop-children.self.inner.stream ≡ spanned_tok (c.in-Some.token, c.in-Some.span) ∷ left c.take.new.self = some-taken _ _ _ (c.in-Some.token, c.in-Some.span) c.in_ok-token.ensures.answers c.in-Some.is in
+    let s : length (left c.parse_part.new.self.inner.stream) < length (spanned_tok (c.in-Some.token, c.in-Some.span) ∷ left c.take.new.self) = part-shorter _ _ _ _ _ c.in_ok-parse_part.ensures.read in
     omega (arith, ap length h, s)
 
 pub loop-children-preserved : goal.loop-children-preserved
 loop-children-preserved g c =
-    let h : left c.loop-children.self.stream ≡ spanned_tok (c.in-Some.token, c.in-Some.span) ∷ left c.take.new.self = some-taken _ _ _ (c.in-Some.token, c.in-Some.span) c.in_ok-token.ensures.answers c.in-Some.is in
+    let h : left c.loop-children.self.inner.stream ≡ spanned_tok (c.in-Some.token, c.in-Some.span) ∷ left c.take.new.self = some-taken _ _ _ (c.in-Some.token, c.in-Some.span) c.in_ok-token.ensures.answers c.in-Some.is in
     let k = same_trans _ _ _ c.loop-children.invariant.keeps c.in_ok-token.ensures.keeps in
     let i = ap (map (stmt_tree g.V.TemplateValue.contents)) c.in_ok-push.ensures.items ∙ map-append (stmt_tree g.V.TemplateValue.contents) c.loop-children.children.items (c.in_ok-parse_part.field-0 ∷ []) in
     record {
       same = c.loop-children.invariant.same ∙
-          parts-turn g.V.TemplateValue.functions c.args.self.now.stream.source c.take.new.self.source (map (stmt_tree g.V.TemplateValue.contents) c.loop-children.children.items) (left c.loop-children.self.stream) (left c.take.new.self) (left c.parse_part.new.self.stream) (spanned_tok (c.in-Some.token, c.in-Some.span)) (stmt_tree g.V.TemplateValue.contents c.in_ok-parse_part.field-0) h k.source c.in_ok-parse_part.ensures.read ∙
-          ap (λ ss. parts_from g.V.TemplateValue.functions c.args.self.now.stream.source ss (left c.parse_part.new.self.stream)) (sym i);
+          parts-turn g.V.TemplateValue.functions c.args.self.now.inner.stream.source c.take.new.self.source (map (stmt_tree g.V.TemplateValue.contents) c.loop-children.children.items) (left c.loop-children.self.inner.stream) (left c.take.new.self) (left c.parse_part.new.self.inner.stream) (spanned_tok (c.in-Some.token, c.in-Some.span)) (stmt_tree g.V.TemplateValue.contents c.in_ok-parse_part.field-0) h k.source c.in_ok-parse_part.ensures.read ∙
+          ap (λ ss. parts_from g.V.TemplateValue.functions c.args.self.now.inner.stream.source ss (left c.parse_part.new.self.inner.stream)) (sym i);
       spans = λ ts h.
           let p = c.loop-children.invariant.spans ts h in
           let q = c.in_ok-token.ensures.over ts p.0 in
@@ -51,5 +51,5 @@ returns-clause-spans g c = λ ts h.
 pub returns-clause-read : goal.returns-clause-read
 returns-clause-read g c =
     let h = none-taken _ _ _ c.in_ok-token.ensures.answers c.in_default.is in
-    let e = parts-end g.V.TemplateValue.functions _ (map (stmt_tree g.V.TemplateValue.contents) c.loop-children.children.items) (left c.loop-children.self.stream) h.0 in
+    let e = parts-end g.V.TemplateValue.functions _ (map (stmt_tree g.V.TemplateValue.contents) c.loop-children.children.items) (left c.loop-children.self.inner.stream) h.0 in
     c.loop-children.invariant.same ∙ e ∙ rw h.2

@@ -9,11 +9,11 @@ use Rattle.minijinja_parser.proofs.parser.Parser.subparse.Given as goal
 
 abbrev pub invariant-loop-children : goal.invariant-loop-children
 invariant-loop-children g l = record {
-  same : spec.parts_from g.V.TemplateValue.functions l.fn.self.stream.source [] (left l.fn.self.stream) ≡
-      spec.parts_from g.V.TemplateValue.functions l.fn.self.stream.source (map (stmt_tree g.V.TemplateValue.contents) l.children.items) (left l.self.stream);
-  spans : (ts : List SpannedTok) → IsOver ts l.fn.self.stream → IsOver ts l.self.stream × AllStand ts l.children.items;
-  keeps : SameText l.fn.self.stream l.self.stream;
+  same : spec.parts_from g.V.TemplateValue.functions l.fn.self.inner.stream.source [] (left l.fn.self.inner.stream) ≡
+      spec.parts_from g.V.TemplateValue.functions l.fn.self.inner.stream.source (map (stmt_tree g.V.TemplateValue.contents) l.children.items) (left l.self.inner.stream);
+  spans : (ts : List SpannedTok) → IsOver ts l.fn.self.inner.stream → IsOver ts l.self.inner.stream × AllStand ts l.children.items;
+  keeps : SameText l.fn.self.inner.stream l.self.inner.stream;
 }
 
 abbrev pub decreases-loop-children : goal.decreases-loop-children
-decreases-loop-children g l = length (left l.self.stream)
+decreases-loop-children g l = length (left l.self.inner.stream)
