@@ -1,5 +1,5 @@
 //! From the tokens of a source to expressions.
-ghost use Rattle.std.specs.Prelude.{◌≡◌, ◌<◌, ◌^◌, length, Contains, IfErr, IfOk, Some, if◌then◌else◌};
+ghost use Rattle.std.specs.Prelude.{◌≡◌, ◌<◌, ◌^◌, length, Contains, IfErr, IfOk, None, Some, if◌then◌else◌};
 ghost use Rattle.minijinja_base.specs.Errors.{kind_of, name_of, span_of};
 ghost use Rattle.minijinja_base.specs.Tokens.{ident};
 ghost use Rattle.minijinja_base.specs.declared.error.ErrorKind.TheVariants.{SyntaxError};
@@ -29,8 +29,6 @@ mod operands;
 pub struct ExprParser<'s, 'c> {
     /// The tokens to come.
     pub stream: TokenStream<'s, 'c>,
-    /// The name of the source, which errors carry.
-    pub filename: &'s str,
     /// Where nodes are put.
     pub alloc: Global,
 }
@@ -45,28 +43,26 @@ impl<'s, 'c> ExprParser<'s, 'c> {
         syntax: &'c SyntaxConfig,
     ) -> Self
         requires { length source.now < 2 ^ 32 }
-        ensures filename { result.filename.now ≡ filename.now }
         ensures source { result.stream.source ≡ text_of syntax.now source.now }
         ensures last { result.stream.last ≡ no_place }
         ensures stream { Comes (if in_expr then tokens_of_expression syntax.now source.now else tokens_of_template syntax.now source.now) result.stream.stream }
     {
         ExprParser {
             stream: TokenStream::new(alloc, source, filename, in_expr, syntax),
-            filename,
             alloc,
         }
     }
 
-    /// A syntax error at the last token taken.
+    /// A syntax error at the last token taken. It names no source, which is for the caller to do.
     pub fn error(&self, detail: Detail<'s>) -> Error<'s>
         ensures kind { kind_of result ≡ SyntaxError }
-        ensures name { name_of result ≡ Some self.now.filename }
+        ensures name { name_of result ≡ None }
         ensures span { span_of result ≡ Some self.now.stream.last }
     {
         Error::new(
             ErrorKind::SyntaxError,
             detail,
-            Some(self.filename),
+            None,
             Some(self.stream.last_span()),
         )
     }

@@ -91,6 +91,13 @@ abbrev mutual
   ComparisonsStand ts block.end_of-CompareOp = Unit {0}
   ComparisonsStand ts (block.more_of-CompareOp op e rest) = ExprStands ts e × ComparisonsStand ts rest
 
+-- where a statement stands
+abbrev pub stmt_span : {V F : Type 0} → Stmt V F → Span
+stmt_span (Template' p k xs s) = s
+stmt_span (EmitExpr s) = span_of s
+stmt_span (EmitRaw s) = span_of s
+stmt_span (Set s) = span_of s
+
 -- each node of a statement goes from token to token; data's span is its token's
 abbrev mutual
   pub StmtStands : {V F : Type 0} → List SpannedTok → Stmt V F → Type 0

@@ -3,13 +3,14 @@ ghost use Rattle.std.specs.Prelude.{◌≡◌, ◌≤◌, length, map, Contains,
 ghost use Rattle.std.specs.Option.{option_map};
 ghost use Rattle.minijinja_base.specs.Tokens.{ident, template_data};
 ghost use Rattle.minijinja_tree.specs.Erasure.{bin_op, compare_op, expr_tree, stmt_tree, unary_op};
+ghost use Rattle.minijinja_tree.specs.ExprSpans.{expr_span};
 ghost use Rattle.minijinja_tree.specs.Nodes.{node_of, span_of};
 ghost use Rattle.minijinja_tree.specs.BinOps as bin;
 ghost use Rattle.minijinja_tree.specs.Tree as tree;
 ghost use Rattle.minijinja_tree.specs.Tree.{absent, present, stmts_of};
 ghost use Rattle.minijinja_grammar.specs.Grammar.{compare_all, compare_two};
 ghost use Rattle.minijinja_grammar.specs.Lists.{args_of, exprs_of, name_if_variable, optional_of};
-ghost use Rattle.minijinja_grammar.specs.NodeSpans.{ExprStands, IsOfTokens, StmtStands};
+ghost use Rattle.minijinja_grammar.specs.NodeSpans.{ExprStands, IsOfTokens, StmtStands, stmt_span};
 ghost use Rattle.minijinja_grammar.specs.Over.{AllArgsStand, AllComparedStand, AllExprsStand, AllStand, AnyStands};
 ghost use Rattle.minijinja_grammar.specs.Views.{all_compared, any_tree, args_view, trees};
 
@@ -40,6 +41,7 @@ pub fn variable<'s, V: TemplateValue>(
     span: Span,
 ) -> Result<Expr<'s, V>, AllocError>
     ensures tree { IfOk result (λ e. expr_tree V.contents e ≡ tree.variable id.now) }
+    ensures span { IfOk result (λ x. expr_span x ≡ span) }
     ensures spans { (ts : _) → Contains ts (ident id.now, span) → IfOk result (ExprStands ts) }
 {
     Ok(Expr::Var(spanned(alloc, Var { id }, span)?))
@@ -62,6 +64,7 @@ pub fn constant<'s, V: TemplateValue>(
     span: Span,
 ) -> Result<Expr<'s, V>, AllocError>
     ensures tree { IfOk result (λ e. expr_tree V.contents e ≡ tree.constant (V.contents value)) }
+    ensures span { IfOk result (λ x. expr_span x ≡ span) }
     ensures spans { (ts : _) → IsOfTokens ts span → IfOk result (ExprStands ts) }
 {
     Ok(Expr::Const(spanned(alloc, Const { value }, span)?))
@@ -75,6 +78,7 @@ pub fn attribute<'s, V: TemplateValue>(
     span: Span,
 ) -> Result<Expr<'s, V>, AllocError>
     ensures tree { IfOk result (λ e. expr_tree V.contents e ≡ tree.attribute (expr_tree V.contents expr.entry) name.now) }
+    ensures span { IfOk result (λ x. expr_span x ≡ span) }
     ensures spans { (ts : _) → ExprStands ts expr.entry → IsOfTokens ts span → IfOk result (ExprStands ts) }
 {
     Ok(Expr::GetAttr(spanned(alloc, GetAttr { expr, name }, span)?))
@@ -88,6 +92,7 @@ pub fn item<'s, V: TemplateValue>(
     span: Span,
 ) -> Result<Expr<'s, V>, AllocError>
     ensures tree { IfOk result (λ e. expr_tree V.contents e ≡ tree.item (expr_tree V.contents expr.entry) (expr_tree V.contents subscript_expr.entry)) }
+    ensures span { IfOk result (λ x. expr_span x ≡ span) }
     ensures spans { (ts : _) → ExprStands ts expr.entry → ExprStands ts subscript_expr.entry → IsOfTokens ts span → IfOk result (ExprStands ts) }
 {
     Ok(Expr::GetItem(spanned(
@@ -108,6 +113,7 @@ pub fn slice<'s, V: TemplateValue>(
 ) -> Result<Expr<'s, V>, AllocError>
     ensures tree { IfOk result (λ e. expr_tree V.contents e ≡ tree.slice (expr_tree V.contents slice.entry.expr)
         (optional_of (any_tree V.contents slice.entry.start)) (optional_of (any_tree V.contents slice.entry.stop)) (optional_of (any_tree V.contents slice.entry.step))) }
+    ensures span { IfOk result (λ x. expr_span x ≡ span) }
     ensures spans { (ts : _) → ExprStands ts slice.entry.expr → AnyStands ts slice.entry.start → AnyStands ts slice.entry.stop → AnyStands ts slice.entry.step →
         IsOfTokens ts span → IfOk result (ExprStands ts) }
 {
@@ -122,6 +128,7 @@ pub fn unary<'s, V: TemplateValue>(
     span: Span,
 ) -> Result<Expr<'s, V>, AllocError>
     ensures tree { IfOk result (λ e. expr_tree V.contents e ≡ tree.unary (unary_op op) (expr_tree V.contents expr.entry)) }
+    ensures span { IfOk result (λ x. expr_span x ≡ span) }
     ensures spans { (ts : _) → ExprStands ts expr.entry → IsOfTokens ts span → IfOk result (ExprStands ts) }
 {
     Ok(Expr::UnaryOp(spanned(alloc, UnaryOp { op, expr }, span)?))
@@ -136,6 +143,7 @@ pub fn binary<'s, V: TemplateValue>(
     span: Span,
 ) -> Result<Expr<'s, V>, AllocError>
     ensures tree { IfOk result (λ e. expr_tree V.contents e ≡ tree.binary (bin_op op) (expr_tree V.contents left.entry) (expr_tree V.contents right.entry)) }
+    ensures span { IfOk result (λ x. expr_span x ≡ span) }
     ensures spans { (ts : _) → ExprStands ts left.entry → ExprStands ts right.entry → IsOfTokens ts span → IfOk result (ExprStands ts) }
 {
     Ok(Expr::BinOp(spanned(alloc, BinOp { op, left, right }, span)?))
@@ -149,6 +157,7 @@ fn not_in<'s, V: TemplateValue>(
     span: Span,
 ) -> Result<Expr<'s, V>, AllocError>
     ensures tree { IfOk result (λ e. expr_tree V.contents e ≡ tree.unary tree.logical_not (tree.binary bin.is_in (expr_tree V.contents left.entry) (expr_tree V.contents right.entry))) }
+    ensures span { IfOk result (λ x. expr_span x ≡ span) }
     ensures spans { (ts : _) → ExprStands ts left.entry → ExprStands ts right.entry → IsOfTokens ts span → IfOk result (ExprStands ts) }
 {
     let inner = binary(alloc, BinOpKind::In, left, right, span)?;
@@ -164,6 +173,7 @@ pub fn comparison<'s, V: TemplateValue>(
     span: Span,
 ) -> Result<Expr<'s, V>, AllocError>
     ensures tree { IfOk result (λ e. expr_tree V.contents e ≡ compare_two (compare_op op) (expr_tree V.contents left.entry) (expr_tree V.contents right.entry)) }
+    ensures span { IfOk result (λ x. expr_span x ≡ span) }
     ensures spans { (ts : _) → ExprStands ts left.entry → ExprStands ts right.entry → IsOfTokens ts span → IfOk result (ExprStands ts) }
 {
     match op {
@@ -186,6 +196,7 @@ pub fn compare<'s, V: TemplateValue>(
     span: Span,
 ) -> Result<Expr<'s, V>, AllocError>
     ensures tree { IfOk result (λ e. 2 ≤ length ops.entry.items → expr_tree V.contents e ≡ compare_all (expr_tree V.contents expr.entry) (all_compared V.contents ops.entry.items)) }
+    ensures span { IfOk result (λ x. expr_span x ≡ span) }
     ensures spans { (ts : _) → ExprStands ts expr.entry → AllComparedStand ts ops.entry.items → IsOfTokens ts span → IfOk result (ExprStands ts) }
 {
     Ok(Expr::Compare(spanned(alloc, Compare { expr, ops }, span)?))
@@ -198,6 +209,7 @@ pub fn if_expr<'s, V: TemplateValue>(
     span: Span,
 ) -> Result<Expr<'s, V>, AllocError>
     ensures tree { IfOk result (λ e. expr_tree V.contents e ≡ tree.if_expr (expr_tree V.contents if_expr.entry.test_expr) (expr_tree V.contents if_expr.entry.true_expr) (optional_of (any_tree V.contents if_expr.entry.false_expr))) }
+    ensures span { IfOk result (λ x. expr_span x ≡ span) }
     ensures spans { (ts : _) → ExprStands ts if_expr.entry.test_expr → ExprStands ts if_expr.entry.true_expr → AnyStands ts if_expr.entry.false_expr → IsOfTokens ts span → IfOk result (ExprStands ts) }
 {
     Ok(Expr::IfExpr(spanned(alloc, if_expr, span)?))
@@ -212,6 +224,7 @@ pub fn filter<'s, V: TemplateValue>(
     span: Span,
 ) -> Result<Expr<'s, V>, AllocError>
     ensures tree { IfOk result (λ e. expr_tree V.contents e ≡ tree.filter (present (expr_tree V.contents expr.entry)) name.now (args_of (args_view V.contents args.entry.items))) }
+    ensures span { IfOk result (λ x. expr_span x ≡ span) }
     ensures spans { (ts : _) → ExprStands ts expr.entry → AllArgsStand ts args.entry.items → IsOfTokens ts span → IfOk result (ExprStands ts) }
 {
     Ok(Expr::Filter(spanned(
@@ -234,6 +247,7 @@ pub fn test<'s, V: TemplateValue>(
     span: Span,
 ) -> Result<Expr<'s, V>, AllocError>
     ensures tree { IfOk result (λ e. expr_tree V.contents e ≡ tree.test (expr_tree V.contents expr.entry) name.now (args_of (args_view V.contents args.entry.items))) }
+    ensures span { IfOk result (λ x. expr_span x ≡ span) }
     ensures spans { (ts : _) → ExprStands ts expr.entry → AllArgsStand ts args.entry.items → IsOfTokens ts span → IfOk result (ExprStands ts) }
 {
     Ok(Expr::Test(spanned(alloc, Test { name, expr, args }, span)?))
@@ -247,6 +261,7 @@ pub fn call<'s, V: TemplateValue>(
     span: Span,
 ) -> Result<Expr<'s, V>, AllocError>
     ensures tree { IfOk result (λ e. expr_tree V.contents e ≡ tree.call (expr_tree V.contents expr.entry) (args_of (args_view V.contents args.entry.items))) }
+    ensures span { IfOk result (λ x. expr_span x ≡ span) }
     ensures spans { (ts : _) → ExprStands ts expr.entry → AllArgsStand ts args.entry.items → IsOfTokens ts span → IfOk result (ExprStands ts) }
 {
     Ok(Expr::Call(spanned(alloc, Call { expr, args }, span)?))
@@ -259,6 +274,7 @@ pub fn list<'s, V: TemplateValue>(
     span: Span,
 ) -> Result<Expr<'s, V>, AllocError>
     ensures tree { IfOk result (λ e. expr_tree V.contents e ≡ tree.list (exprs_of (trees V.contents items.entry.items))) }
+    ensures span { IfOk result (λ x. expr_span x ≡ span) }
     ensures spans { (ts : _) → AllExprsStand ts items.entry.items → IsOfTokens ts span → IfOk result (ExprStands ts) }
 {
     Ok(Expr::List(spanned(alloc, List { items }, span)?))
@@ -271,6 +287,7 @@ pub fn tuple<'s, V: TemplateValue>(
     span: Span,
 ) -> Result<Expr<'s, V>, AllocError>
     ensures tree { IfOk result (λ e. expr_tree V.contents e ≡ tree.tuple (exprs_of (trees V.contents items.entry.items))) }
+    ensures span { IfOk result (λ x. expr_span x ≡ span) }
     ensures spans { (ts : _) → AllExprsStand ts items.entry.items → IsOfTokens ts span → IfOk result (ExprStands ts) }
 {
     Ok(Expr::Tuple(spanned(alloc, Tuple { items }, span)?))
@@ -284,6 +301,7 @@ pub fn map<'s, V: TemplateValue>(
     span: Span,
 ) -> Result<Expr<'s, V>, AllocError>
     ensures tree { IfOk result (λ e. expr_tree V.contents e ≡ tree.map (exprs_of (trees V.contents keys.entry.items)) (exprs_of (trees V.contents values.entry.items))) }
+    ensures span { IfOk result (λ x. expr_span x ≡ span) }
     ensures spans { (ts : _) → AllExprsStand ts keys.entry.items → AllExprsStand ts values.entry.items → IsOfTokens ts span → IfOk result (ExprStands ts) }
 {
     Ok(Expr::Map(spanned(alloc, Map { keys, values }, span)?))
@@ -296,6 +314,7 @@ pub fn data<'s, V: TemplateValue>(
     span: Span,
 ) -> Result<Stmt<'s, V>, AllocError>
     ensures tree { IfOk result (λ s. stmt_tree V.contents s ≡ tree.data_text raw.now) }
+    ensures span { IfOk result (λ x. stmt_span x ≡ span) }
     ensures spans { (ts : _) → Contains ts (template_data raw.now, span) → IfOk result (StmtStands ts) }
 {
     Ok(Stmt::EmitRaw(spanned(alloc, EmitRaw { raw }, span)?))
@@ -308,6 +327,7 @@ pub fn output<'s, V: TemplateValue>(
     span: Span,
 ) -> Result<Stmt<'s, V>, AllocError>
     ensures tree { IfOk result (λ s. stmt_tree V.contents s ≡ tree.output (expr_tree V.contents expr.entry)) }
+    ensures span { IfOk result (λ x. stmt_span x ≡ span) }
     ensures spans { (ts : _) → ExprStands ts expr.entry → IsOfTokens ts span → IfOk result (StmtStands ts) }
 {
     Ok(Stmt::EmitExpr(spanned(alloc, EmitExpr { expr }, span)?))
@@ -320,6 +340,7 @@ pub fn assignment<'s, V: TemplateValue>(
     span: Span,
 ) -> Result<Stmt<'s, V>, AllocError>
     ensures tree { IfOk result (λ s. stmt_tree V.contents s ≡ tree.assignment (expr_tree V.contents set.entry.target) (expr_tree V.contents set.entry.expr)) }
+    ensures span { IfOk result (λ x. stmt_span x ≡ span) }
     ensures spans { (ts : _) → ExprStands ts set.entry.target → ExprStands ts set.entry.expr → IsOfTokens ts span → IfOk result (StmtStands ts) }
 {
     Ok(Stmt::Set(spanned(alloc, set, span)?))
@@ -332,6 +353,7 @@ pub fn template<'s, V: TemplateValue>(
     span: Span,
 ) -> Result<Stmt<'s, V>, AllocError>
     ensures tree { IfOk result (λ s. stmt_tree V.contents s ≡ tree.template (stmts_of (map (stmt_tree V.contents) children.entry.items))) }
+    ensures span { IfOk result (λ x. stmt_span x ≡ span) }
     ensures spans { (ts : _) → AllStand ts children.entry.items → IsOfTokens ts span → IfOk result (StmtStands ts) }
 {
     Ok(Stmt::Template(spanned(alloc, Template { children }, span)?))

@@ -9,7 +9,7 @@ use Rattle.minijinja_parser.specs.declared.parser.Parser.{Parser}
 
 -- the name of the source
 abbrev pub filename_of : Parser → Text
-filename_of p = p.inner.filename.now
+filename_of p = p.filename.now
 
 -- its text, the tokens to come and the span of the last token taken
 abbrev pub ahead_of : Parser → Ahead

@@ -1,9 +1,9 @@
 //! From the tokens of a template to its tree.
-ghost use Rattle.std.specs.Prelude.{◌≡◌, ◌≢◌, ◌<◌, ◌≤◌, ◌^◌, ◌⊎◌, [], length, IfErr, IfOk, IsErrAnd, MatchResult, if◌then◌else◌};
+ghost use Rattle.std.specs.Prelude.{◌≡◌, ◌≢◌, ◌<◌, ◌≤◌, ◌^◌, ◌⊎◌, [], codes, length, IfErr, IfOk, IsErrAnd, MatchResult, if◌then◌else◌};
 ghost use Rattle.minijinja_base.specs.Errors.{kind_of, span_of};
 ghost use Rattle.minijinja_base.specs.Syntax.{default_syntax};
 ghost use Rattle.minijinja_base.specs.declared.error.ErrorKind.TheVariants.{BadEscape, OutOfMemory, SourceTooLong, SyntaxError};
-ghost use Rattle.minijinja_lexer.specs.Stream.{IsTokenizerKind, finished, refused};
+ghost use Rattle.minijinja_lexer.specs.Stream.{IsNamed, IsTokenizerKind, finished, refused};
 ghost use Rattle.minijinja_lexer.specs.TextTokens.{text_of, tokens_of_template, tokens_of_expression};
 ghost use Rattle.minijinja_tree.specs.Erasure.{expr_tree, stmt_tree};
 ghost use Rattle.minijinja_tree.specs.Tree.{done, template};
@@ -42,6 +42,7 @@ pub const EXPRESSION_NAME: &str = "<expression>";
 #[derive(Drop)]
 pub struct Parser<'s, 'c> {
     inner: ExprParser<'s, 'c>,
+    filename: &'s str,
 }
 
 impl<'s, 'c> Parser<'s, 'c> {
@@ -62,6 +63,7 @@ impl<'s, 'c> Parser<'s, 'c> {
     {
         Parser {
             inner: ExprParser::new(alloc, source, filename, in_expr, syntax),
+            filename,
         }
     }
 
@@ -69,7 +71,37 @@ impl<'s, 'c> Parser<'s, 'c> {
     pub fn filename(&self) -> &'s str
         ensures { result.now ≡ filename_of self.now }
     {
-        self.inner.filename
+        self.filename
+    }
+
+    /// The refusal, which names the source. Where memory was refused there is no name.
+    fn named(&self, refusal: Error<'s>) -> Error<'s>
+        ensures kind { kind_of result ≡ kind_of refusal.entry }
+        ensures span { span_of result ≡ span_of refusal.entry }
+        ensures named { kind_of result ≢ OutOfMemory → IsNamed (filename_of self.now) result }
+    {
+        if refusal.kind() == ErrorKind::OutOfMemory {
+            return refusal;
+        }
+        Error::new(
+            refusal.kind(),
+            refusal.detail(),
+            Some(self.filename),
+            refusal.span(),
+        )
+    }
+
+    /// Refuses where a refusal stands, with that.
+    fn unrefused(&self) -> Result<(), Error<'s>>
+        ensures none { IfOk result (λ _. (kind : _) (span : _) → HasRefused self.now kind span → ⊥) }
+        ensures stands { IfErr result (λ e. HasRefused self.now (kind_of e) (span_of e)) }
+        ensures causes { IfErr result (λ e. IsTokenizerKind (kind_of e)) }
+        ensures named { IfErr result (λ e. kind_of e ≢ OutOfMemory → IsNamed (filename_of self.now) e) }
+    {
+        match self.inner.stream.current() {
+            Ok(_) => Ok(()),
+            Err(refusal) => Err(self.named(refusal)),
+        }
     }
 
     /// Refuses any token.
@@ -80,6 +112,7 @@ impl<'s, 'c> Parser<'s, 'c> {
         ensures refused { IfErr result (λ e. kind_of e ≢ OutOfMemory → (stream_of self.new).ending ≡ finished → left (ahead_of self.old) ≢ []) }
         ensures keeps { Keeps result (ahead_of self.old) (ahead_of self.new) }
         ensures cause { IfErr result (IsFailure (stream_of self.new).ending) }
+        ensures filename { filename_of self.new ≡ filename_of self.old }
     {
         match self.inner.stream.take()? {
             None => Ok(()),
@@ -95,6 +128,7 @@ impl<'s, 'c> Parser<'s, 'c> {
         ensures whole { IfOk result (λ _. left (ahead_of self.new) ≡ []) }
         ensures keeps { Keeps result (ahead_of self.old) (ahead_of self.new) }
         ensures cause { IfErr result (IsFailure (stream_of self.new).ending) }
+        ensures filename { filename_of self.new ≡ filename_of self.old }
         ensures spans { (ts : _) → IsOver ts (ahead_of self.old) → IfOk result (StmtStands ts) }
     {
         let span = self.inner.stream.last_span();
@@ -114,6 +148,7 @@ impl<'s, 'c> Parser<'s, 'c> {
         ensures whole { IfOk result (λ _. left (ahead_of self.new) ≡ []) }
         ensures keeps { Keeps result (ahead_of self.old) (ahead_of self.new) }
         ensures cause { IfErr result (IsFailure (stream_of self.new).ending) }
+        ensures filename { filename_of self.new ≡ filename_of self.old }
         ensures spans { (ts : _) → IsOver ts (ahead_of self.old) → IfOk result (ExprStands ts) }
     {
         let expr = self.inner.parse_expr(MAX_DEPTH)?;
@@ -138,6 +173,10 @@ impl<'s, 'c> Parser<'s, 'c> {
 
         ensures causes { IfErr result (λ e. IsTokenizerKind (kind_of e)) }
 
+        // A refusal names the source, unless memory ran out.
+        ensures named { IfErr result (λ e. kind_of e ≢ OutOfMemory → IsNamed (filename_of self.old) e) }
+        ensures filename { filename_of self.new ≡ filename_of self.old }
+
         // A bad escape is the one that the tokens end with.
         ensures bad_escape { IfErr result (λ e. kind_of e ≡ BadEscape → (stream_of self.old).ending ≡ refused BadEscape (span_of e)) }
 
@@ -155,10 +194,11 @@ impl<'s, 'c> Parser<'s, 'c> {
         // Behind the last token stands the empty template, unless memory ran out.
         ensures empty { IsSpent self.old → MatchResult result (λ s. stmt_tree V.contents s ≡ template done) (λ e. kind_of e ≡ OutOfMemory) }
     {
-        self.inner.stream.current()?;
+        self.unrefused()?;
         match self.whole_template() {
             Ok(template) => Ok(template),
             Err(refusal) => {
+                let refusal = self.named(refusal);
                 self.inner.stream.refuse(refusal);
                 Err(refusal)
             }
@@ -182,6 +222,10 @@ impl<'s, 'c> Parser<'s, 'c> {
 
         ensures causes { IfErr result (λ e. IsTokenizerKind (kind_of e)) }
 
+        // A refusal names the source, unless memory ran out.
+        ensures named { IfErr result (λ e. kind_of e ≢ OutOfMemory → IsNamed (filename_of self.old) e) }
+        ensures filename { filename_of self.new ≡ filename_of self.old }
+
         // A bad escape is the one that the tokens end with.
         ensures bad_escape { IfErr result (λ e. kind_of e ≡ BadEscape → (stream_of self.old).ending ≡ refused BadEscape (span_of e)) }
 
@@ -199,10 +243,11 @@ impl<'s, 'c> Parser<'s, 'c> {
         // Behind the last token stands no expression.
         ensures nothing { IsSpent self.old → IsErrAnd result (λ e. (kind_of e ≡ SyntaxError) ⊎ (kind_of e ≡ OutOfMemory)) }
     {
-        self.inner.stream.current()?;
+        self.unrefused()?;
         match self.whole_expr() {
             Ok(expr) => Ok(expr),
             Err(refusal) => {
+                let refusal = self.named(refusal);
                 self.inner.stream.refuse(refusal);
                 Err(refusal)
             }
@@ -212,7 +257,8 @@ impl<'s, 'c> Parser<'s, 'c> {
 
 /// The refusal of a source that is too long.
 fn too_long<'s>(filename: &'s str) -> Error<'s>
-    ensures { kind_of result ≡ SourceTooLong }
+    ensures kind { kind_of result ≡ SourceTooLong }
+    ensures named { IsNamed filename.now result }
 {
     Error::new(
         ErrorKind::SourceTooLong,
@@ -235,6 +281,7 @@ fn parse_template<'s, V: TemplateValue>(
     ensures only { (t : _) → IsDerived V.functions syntax.now source.now t →
         MatchResult result (λ s. stmt_tree V.contents s ≡ t) IsLimit }
     ensures causes { IfErr result (λ e. IsTokenizerKind (kind_of e)) }
+    ensures named { IfErr result (λ e. kind_of e ≢ OutOfMemory → IsNamed filename.now e) }
     ensures bad_escape { IfErr result (λ e. kind_of e ≡ BadEscape → (tokens_of_template syntax.now source.now).ending ≡ refused BadEscape (span_of e)) }
     ensures well_formed { IfOk result (λ s. IsWellFormed (stmt_tree V.contents s)) }
     ensures spans { IfOk result (StmtStands (tokens_of_template syntax.now source.now).tokens) }
@@ -254,6 +301,7 @@ fn parse_expression<'s, V: TemplateValue>(
     ensures only { (t : _) → IsExprDerived V.functions default_syntax source.now t →
         MatchResult result (λ x. expr_tree V.contents x ≡ t) IsLimit }
     ensures causes { IfErr result (λ e. IsTokenizerKind (kind_of e)) }
+    ensures named { IfErr result (λ e. kind_of e ≢ OutOfMemory → IsNamed (codes "<expression>") e) }
     ensures bad_escape { IfErr result (λ e. kind_of e ≡ BadEscape → (tokens_of_expression default_syntax source.now).ending ≡ refused BadEscape (span_of e)) }
     ensures well_formed { IfOk result (λ x. IsWhole (expr_tree V.contents x)) }
     ensures spans { IfOk result (ExprStands (tokens_of_expression default_syntax source.now).tokens) }
@@ -290,6 +338,10 @@ pub fn parse<'s, V: TemplateValue>(
     ensures bad_escape { IfErr result (λ e. kind_of e ≡ BadEscape → (tokens_of_template syntax.now source.now).ending ≡ refused BadEscape (span_of e)) }
 
     ensures causes { IfErr result IsCause }
+
+    // A refusal names the source, unless memory ran out.
+    ensures named { IfErr result (λ e. kind_of e ≢ OutOfMemory → IsNamed filename.now e) }
+
     ensures well_formed { IfOk result (λ s. IsWellFormed (stmt_tree V.contents s)) }
     ensures spans { IfOk result (StmtStands (tokens_of_template syntax.now source.now).tokens) }
 {
@@ -324,6 +376,10 @@ pub fn parse_expr<'s, V: TemplateValue>(
     ensures bad_escape { IfErr result (λ e. kind_of e ≡ BadEscape → (tokens_of_expression default_syntax source.now).ending ≡ refused BadEscape (span_of e)) }
 
     ensures causes { IfErr result IsCause }
+
+    // A refusal names the source, unless memory ran out.
+    ensures named { IfErr result (λ e. kind_of e ≢ OutOfMemory → IsNamed (codes "<expression>") e) }
+
     ensures well_formed { IfOk result (λ x. IsWhole (expr_tree V.contents x)) }
     ensures spans { IfOk result (ExprStands (tokens_of_expression default_syntax source.now).tokens) }
 {

@@ -12,7 +12,7 @@ ghost use Rattle.minijinja_grammar.specs.NodeSpans.{ExprStands, StartsAtToken, S
 ghost use Rattle.minijinja_grammar.specs.Over.{AllStand, IsOver};
 ghost use Rattle.minijinja_grammar.specs.Reading.{expr_at};
 ghost use Rattle.minijinja_grammar.specs.TemplateReading as spec;
-ghost use Rattle.minijinja_parser.specs.Parsing.{ahead_of, stream_of};
+ghost use Rattle.minijinja_parser.specs.Parsing.{ahead_of, filename_of, stream_of};
 
 use crate::parser::{MAX_DEPTH, Parser};
 use minijinja_base::error::{Detail, Error};
@@ -30,6 +30,7 @@ impl<'s, 'c> Parser<'s, 'c> {
         ensures read { Gives (expr_tree V.contents) result (ahead_of self.new) (spec.target_of (left (ahead_of self.old))) }
         ensures keeps { Keeps result (ahead_of self.old) (ahead_of self.new) }
         ensures cause { IfErr result (IsFailure (stream_of self.new).ending) }
+        ensures filename { filename_of self.new ≡ filename_of self.old }
         ensures spans { (ts : _) → IsOver ts (ahead_of self.old) → IfOk result (λ e. IsOver ts (ahead_of self.new) × ExprStands ts e) }
     {
         let (name, span) = self.inner.expect_ident("identifier")?;
@@ -46,6 +47,7 @@ impl<'s, 'c> Parser<'s, 'c> {
             (spec.set_of (expr_at V.functions (ahead_of self.old).source 149) (left (ahead_of self.old))) }
         ensures keeps { Keeps result (ahead_of self.old) (ahead_of self.new) }
         ensures cause { IfErr result (IsFailure (stream_of self.new).ending) }
+        ensures filename { filename_of self.new ≡ filename_of self.old }
         ensures spans { (ts : _) → IsOver ts (ahead_of self.old) →
             IfOk result (λ s. IsOver ts (ahead_of self.new) × ExprStands ts s.target × ExprStands ts s.expr) }
     {
@@ -61,6 +63,7 @@ impl<'s, 'c> Parser<'s, 'c> {
         ensures read { Gives (stmt_tree V.contents) result (ahead_of self.new) (spec.stmt V.functions (ahead_of self.old).source (left (ahead_of self.old))) }
         ensures keeps { Keeps result (ahead_of self.old) (ahead_of self.new) }
         ensures cause { IfErr result (IsFailure (stream_of self.new).ending) }
+        ensures filename { filename_of self.new ≡ filename_of self.old }
         ensures spans { (ts : _) → IsOver ts (ahead_of self.old) → IfOk result (λ s. IsOver ts (ahead_of self.new) × StmtStands ts s) }
     {
         let (word, span) = self.inner.expect_ident("block keyword")?;
@@ -78,6 +81,7 @@ impl<'s, 'c> Parser<'s, 'c> {
             (spec.output_of (spec.expr V.functions (ahead_of self.old).source) (left (ahead_of self.old))) }
         ensures keeps { Keeps result (ahead_of self.old) (ahead_of self.new) }
         ensures cause { IfErr result (IsFailure (stream_of self.new).ending) }
+        ensures filename { filename_of self.new ≡ filename_of self.old }
         ensures spans { (ts : _) → IsOver ts (ahead_of self.old) → StartsAtToken ts span →
             IfOk result (λ s. IsOver ts (ahead_of self.new) × StmtStands ts s) }
     {
@@ -94,6 +98,7 @@ impl<'s, 'c> Parser<'s, 'c> {
             (spec.tag_of (spec.stmt V.functions (ahead_of self.old).source) (left (ahead_of self.old))) }
         ensures keeps { Keeps result (ahead_of self.old) (ahead_of self.new) }
         ensures cause { IfErr result (IsFailure (stream_of self.new).ending) }
+        ensures filename { filename_of self.new ≡ filename_of self.old }
         ensures spans { (ts : _) → IsOver ts (ahead_of self.old) → IfOk result (λ s. IsOver ts (ahead_of self.new) × StmtStands ts s) }
     {
         let stmt = self.parse_stmt()?;
@@ -124,6 +129,7 @@ impl<'s, 'c> Parser<'s, 'c> {
             (spec.part V.functions (ahead_of self.old).source ((tok_of token.entry, span) ∷ left (ahead_of self.old))) }
         ensures keeps { Keeps result (ahead_of self.old) (ahead_of self.new) }
         ensures cause { IfErr result (IsFailure (stream_of self.new).ending) }
+        ensures filename { filename_of self.new ≡ filename_of self.old }
         ensures spans { (ts : _) → IsOver ts (ahead_of self.old) → Contains ts (tok_of token.entry, span) →
             IfOk result (λ s. IsOver ts (ahead_of self.new) × StmtStands ts s) }
     {
@@ -145,6 +151,7 @@ impl<'s, 'c> Parser<'s, 'c> {
         ensures unrefused { IfOk result (λ _. (stream_of self.new).ending ≡ finished) }
         ensures keeps { Keeps result (ahead_of self.old) (ahead_of self.new) }
         ensures cause { IfErr result (IsFailure (stream_of self.new).ending) }
+        ensures filename { filename_of self.new ≡ filename_of self.old }
         ensures spans { (ts : _) → IsOver ts (ahead_of self.old) → IfOk result (λ v. IsOver ts (ahead_of self.new) × AllStand ts v.items) }
     {
         let mut children = Vec::new(self.inner.alloc);

@@ -36,3 +36,7 @@ returns-clause-compiled g c =
 pub returns-in_err-compile_stmt-clause-refused : goal.returns-in_err-compile_stmt-clause-refused
 returns-in_err-compile_stmt-clause-refused g c =
     never_refusal _ _ c.in_err-compile_stmt.field-0.0 _ c.new-generator.ensures.refusal c.in_err-compile_stmt.ensures.causes c.from_residual-in_err-compile_stmt.ensures.1
+
+pub returns-in_err-compile_stmt-clause-named : goal.returns-in_err-compile_stmt-clause-named
+returns-in_err-compile_stmt-clause-named g c =
+    never_refusal _ _ c.in_err-compile_stmt.field-0.0 _ c.new-generator.ensures.refusal c.in_err-compile_stmt.ensures.causes c.from_residual-in_err-compile_stmt.ensures.1

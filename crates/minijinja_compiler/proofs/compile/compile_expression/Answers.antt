@@ -33,3 +33,7 @@ returns-clause-compiled g c =
 pub returns-in_err-compile_expr-clause-refused : goal.returns-in_err-compile_expr-clause-refused
 returns-in_err-compile_expr-clause-refused g c =
     never_refusal _ _ c.in_err-compile_expr.field-0.0 _ c.new-generator.ensures.refusal c.in_err-compile_expr.ensures.causes c.from_residual-in_err-compile_expr.ensures.1
+
+pub returns-in_err-compile_expr-clause-named : goal.returns-in_err-compile_expr-clause-named
+returns-in_err-compile_expr-clause-named g c =
+    never_refusal _ _ c.in_err-compile_expr.field-0.0 _ c.new-generator.ensures.refusal c.in_err-compile_expr.ensures.causes c.from_residual-in_err-compile_expr.ensures.1

@@ -40,6 +40,7 @@ loop-children-preserved g c =
           let r = c.in_ok-parse_part.ensures.spans ts q.0 (taken_some ts _ (c.in-Some.token, c.in-Some.span) c.in-Some.is q.1) in
           (r.0, subst (λ ss. AllStand ts ss) (sym c.in_ok-push.ensures.items) (all_stand_append ts c.loop-children.children.items c.in_ok-parse_part.field-0 p.1 r.1));
       keeps = same_trans _ _ _ k c.in_ok-parse_part.ensures.keeps;
+      filename = c.in_ok-parse_part.ensures.filename ∙ c.loop-children.invariant.filename;
     }
 
 pub returns-clause-spans : goal.returns-clause-spans
