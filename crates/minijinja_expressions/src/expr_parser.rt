@@ -34,7 +34,8 @@ pub struct ExprParser<'s, 'c> {
 }
 
 impl<'s, 'c> ExprParser<'s, 'c> {
-    /// At the first token of a template, or of one expression. The source has fewer than 2^32 bytes.
+    /// At the first token of a template, or of one expression. The source has fewer than 2^32 bytes. Refusals of its tokens
+    /// name it `filename`.
     pub fn new(
         alloc: Global,
         source: &'s str,
