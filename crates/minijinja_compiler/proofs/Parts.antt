@@ -1,7 +1,9 @@
 -- What the layers say, put together.
-use Rattle.std.proofs.Common.{◌≡◌, ℕ, ◌+◌, ◌*◌, ◌^◌, ◌<◌, ◌≤◌, min, List, [], ◌++◌, length, sym, ap, ◌∙◌, subst, arith, inl, inr, ⊎_elim, Option, Some, None, IfNone, Result, Ok, Err, IfErr, IsErrAnd}
+use Rattle.std.proofs.Common.{◌≡◌, ◌≢◌, ℕ, ◌+◌, ◌*◌, ◌^◌, ◌<◌, ◌≤◌, min, List, [], ◌++◌, length, sym, ap, ◌∙◌, subst, arith, inl, inr, ⊎_elim, Option, Some, None, IfNone, Result, Ok, Err, IfErr, IsErrAnd}
 use Rattle.std.proofs.lemmas.Bool.{cases_lt}
+use Rattle.minijinja_base.specs.Errors.{kind_of}
 use Rattle.minijinja_base.specs.declared.error.Error.{Error}
+use Rattle.minijinja_base.specs.declared.error.ErrorKind.TheVariants.{OutOfMemory, TooManyInstructions}
 use Rattle.minijinja_grammar.specs.Causes.{IsRefusal}
 use Rattle.minijinja_code.specs.Code.{Instr}
 use Rattle.minijinja_code.specs.InstructionLists.{IsAddError}
@@ -48,3 +50,14 @@ pub never_refusal : {A : Type 0} (P : Error → Type 0) (kept : Option Error) (e
 never_refusal P None e (Err x) none h same = λ refusal. absurd (limit_not_refusal e h (subst (λ y. IsRefusal y) same refusal))
 never_refusal P None e (Ok a) none h same = absurd same
 never_refusal P (Some k) e r none h same = cc
+
+-- what refuses an instruction is want of memory or the limit
+limit_is_known : (e : Error) → IsAddError e → kind_of e ≢ OutOfMemory → kind_of e ≢ TooManyInstructions → ⊥
+limit_is_known e (inl memory) room few = room memory
+limit_is_known e (inr many) room few = few many
+
+-- so nothing is said of it where these two are set aside
+pub never_another : {A : Type 0} (P : Error → Type 0) (kept : Option Error) (e : Error) (r : Result A Error) → kept ≡ None → IfNone kept (IsAddError e) → IsErrAnd r (λ x. x ≡ e) → IfErr r (λ x. kind_of x ≢ OutOfMemory → kind_of x ≢ TooManyInstructions → P x)
+never_another P None e (Err x) none h same = λ room few. absurd (limit_is_known x (subst (λ y. IsAddError y) (sym same) h) room few)
+never_another P None e (Ok a) none h same = absurd same
+never_another P (Some k) e r none h same = cc

@@ -1,7 +1,7 @@
 //! From a source text to its instructions.
-ghost use Rattle.std.specs.Prelude.{◌≡◌, ◌≤◌, ◌^◌, codes, length, IfErr, IfOk, IsErrAnd, MatchResult, ⊤};
+ghost use Rattle.std.specs.Prelude.{◌≡◌, ◌≢◌, ◌≤◌, ◌^◌, codes, length, IfErr, IfOk, IsErrAnd, MatchResult, ⊤};
 ghost use Rattle.minijinja_base.specs.Errors.{kind_of, span_of};
-ghost use Rattle.minijinja_base.specs.declared.error.ErrorKind.TheVariants.{BadEscape, SourceTooLong, TooManyInstructions};
+ghost use Rattle.minijinja_base.specs.declared.error.ErrorKind.TheVariants.{BadEscape, OutOfMemory, SourceTooLong, TooManyInstructions};
 ghost use Rattle.minijinja_lexer.specs.Stream as ending;
 ghost use Rattle.minijinja_lexer.specs.Stream.{IsNamed};
 ghost use Rattle.minijinja_lexer.specs.TextTokens.{tokens_of_template, tokens_of_expression};
@@ -50,8 +50,8 @@ pub fn compile<'s, V: TemplateValue>(
     // A bad escape is the one that the tokens end with.
     ensures bad_escape { IfErr result (λ e. kind_of e ≡ BadEscape → (tokens_of_template syntax.now source.now).ending ≡ ending.refused BadEscape (span_of e)) }
 
-    // A text is refused under its name.
-    ensures named { IfErr result (λ e. IsRefusal e → IsNamed filename.now e) }
+    // A text is refused under its name, and so is one that is too long.
+    ensures named { IfErr result (λ e. kind_of e ≢ OutOfMemory → kind_of e ≢ TooManyInstructions → IsNamed filename.now e) }
 
     // A source is too long exactly from 2^32 bytes on, and code only where the tree's has 2^32 instructions or more.
     ensures too_long { 2 ^ 32 ≤ length source.now → IsErrAnd result (λ e. kind_of e ≡ SourceTooLong) }
@@ -88,8 +88,8 @@ pub fn compile_expression<'s, V: TemplateValue>(
     // A bad escape is the one that the tokens end with.
     ensures bad_escape { IfErr result (λ e. kind_of e ≡ BadEscape → (tokens_of_expression default_syntax source.now).ending ≡ ending.refused BadEscape (span_of e)) }
 
-    // A text is refused under its name.
-    ensures named { IfErr result (λ e. IsRefusal e → IsNamed (codes "<expression>") e) }
+    // A text is refused under its name, and so is one that is too long.
+    ensures named { IfErr result (λ e. kind_of e ≢ OutOfMemory → kind_of e ≢ TooManyInstructions → IsNamed (codes "<expression>") e) }
 
     // A source is too long exactly from 2^32 bytes on, and code only where the tree's has 2^32 instructions or more.
     ensures too_long { 2 ^ 32 ≤ length source.now → IsErrAnd result (λ e. kind_of e ≡ SourceTooLong) }

@@ -5,7 +5,7 @@ use Rattle.minijinja_code.specs.Layout.{stmt_code}
 use Rattle.minijinja_code.specs.Correct.{Does}
 use Rattle.minijinja_code.specs.Generator.{generated, here_so_far}
 use Rattle.minijinja_code.specs.Hint.{data_bytes}
-use Rattle.minijinja_compiler.proofs.Parts.{whole_code, whole_does, never_refusal, hint_of_all}
+use Rattle.minijinja_compiler.proofs.Parts.{whole_code, whole_does, never_refusal, never_another, hint_of_all}
 use Rattle.minijinja_compiler.proofs.compile.compile.Goals as goal
 
 pub returns-clause-compiled : goal.returns-clause-compiled
@@ -39,4 +39,4 @@ returns-in_err-compile_stmt-clause-refused g c =
 
 pub returns-in_err-compile_stmt-clause-named : goal.returns-in_err-compile_stmt-clause-named
 returns-in_err-compile_stmt-clause-named g c =
-    never_refusal _ _ c.in_err-compile_stmt.field-0.0 _ c.new-generator.ensures.refusal c.in_err-compile_stmt.ensures.causes c.from_residual-in_err-compile_stmt.ensures.1
+    never_another _ _ c.in_err-compile_stmt.field-0.0 _ c.new-generator.ensures.refusal c.in_err-compile_stmt.ensures.causes c.from_residual-in_err-compile_stmt.ensures.1

@@ -4,7 +4,7 @@ use Rattle.minijinja_code.specs.Instructions.{code_of}
 use Rattle.minijinja_code.specs.Layout.{expr_code}
 use Rattle.minijinja_code.specs.Correct.{DoesExpr}
 use Rattle.minijinja_code.specs.Generator.{generated, here_so_far}
-use Rattle.minijinja_compiler.proofs.Parts.{whole_code, whole_does, never_refusal}
+use Rattle.minijinja_compiler.proofs.Parts.{whole_code, whole_does, never_refusal, never_another}
 use Rattle.minijinja_compiler.proofs.compile.compile_expression.Goals as goal
 
 pub returns-clause-compiled : goal.returns-clause-compiled
@@ -36,4 +36,4 @@ returns-in_err-compile_expr-clause-refused g c =
 
 pub returns-in_err-compile_expr-clause-named : goal.returns-in_err-compile_expr-clause-named
 returns-in_err-compile_expr-clause-named g c =
-    never_refusal _ _ c.in_err-compile_expr.field-0.0 _ c.new-generator.ensures.refusal c.in_err-compile_expr.ensures.causes c.from_residual-in_err-compile_expr.ensures.1
+    never_another _ _ c.in_err-compile_expr.field-0.0 _ c.new-generator.ensures.refusal c.in_err-compile_expr.ensures.causes c.from_residual-in_err-compile_expr.ensures.1
