@@ -38,6 +38,12 @@ hint_of_all bytes counted start hint none is h =
       least = λ k le. h.least k (omega arith);
     }
 
+-- what holds of each refusal of an instruction holds of what a generator that had refused nothing answers
+refused_at_instruction : {A : Type 0} (Holds : Error → Type 0) → ((x : Error) → IsAddError x → Holds x) → (kept : Option Error) (e : Error) (r : Result A Error) → kept ≡ None → IfNone kept (IsAddError e) → IsErrAnd r (λ x. x ≡ e) → IfErr r Holds
+refused_at_instruction Holds all None e (Err x) none h same = all x (subst (λ y. IsAddError y) (sym same) h)
+refused_at_instruction Holds all None e (Ok a) none h same = absurd same
+refused_at_instruction Holds all (Some k) e r none h same = cc
+
 -- what refuses an instruction is no fault of the text
 limit_not_refusal : (e : Error) → IsAddError e → IsRefusal e → ⊥
 limit_not_refusal e (inl memory) (inl syntax) = cc
@@ -47,9 +53,7 @@ limit_not_refusal e (inr many) (inr escape) = cc
 
 -- so nothing is said of it where a fault of the text is told
 pub never_refusal : {A : Type 0} (P : Error → Type 0) (kept : Option Error) (e : Error) (r : Result A Error) → kept ≡ None → IfNone kept (IsAddError e) → IsErrAnd r (λ x. x ≡ e) → IfErr r (λ x. IsRefusal x → P x)
-never_refusal P None e (Err x) none h same = λ refusal. absurd (limit_not_refusal e h (subst (λ y. IsRefusal y) same refusal))
-never_refusal P None e (Ok a) none h same = absurd same
-never_refusal P (Some k) e r none h same = cc
+never_refusal P = refused_at_instruction (λ (x : Error). IsRefusal x → P x) (λ x h refusal. absurd (limit_not_refusal x h refusal))
 
 -- what refuses an instruction is want of memory or the limit
 limit_is_known : (e : Error) → IsAddError e → kind_of e ≢ OutOfMemory → kind_of e ≢ TooManyInstructions → ⊥
@@ -58,6 +62,4 @@ limit_is_known e (inr many) room few = few many
 
 -- so nothing is said of it where these two are set aside
 pub never_another : {A : Type 0} (P : Error → Type 0) (kept : Option Error) (e : Error) (r : Result A Error) → kept ≡ None → IfNone kept (IsAddError e) → IsErrAnd r (λ x. x ≡ e) → IfErr r (λ x. kind_of x ≢ OutOfMemory → kind_of x ≢ TooManyInstructions → P x)
-never_another P None e (Err x) none h same = λ room few. absurd (limit_is_known x (subst (λ y. IsAddError y) (sym same) h) room few)
-never_another P None e (Ok a) none h same = absurd same
-never_another P (Some k) e r none h same = cc
+never_another P = refused_at_instruction (λ (x : Error). kind_of x ≢ OutOfMemory → kind_of x ≢ TooManyInstructions → P x) (λ x h room few. absurd (limit_is_known x h room few))
