@@ -1,9 +1,5 @@
 //! What every layer of the template compiler speaks of: values, errors, the syntax and tokens.
 #![tactic(auto)]
 
-pub mod error;
-pub mod syntax;
-#[cfg(test)]
-mod tests;
-pub mod tokens;
-pub mod value;
+pub use minijinja_syntax::{error, syntax, tokens};
+pub use minijinja_value::value;

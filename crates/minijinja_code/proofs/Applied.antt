@@ -1,7 +1,8 @@
 -- The code of filters and tests: an operand, the arguments, and the instruction that takes a name.
 use Rattle.std.proofs.Common.{◌≡◌, ℕ, [], ◌∷◌, ◌++◌, length, Option, ap, ◌∙◌, arith}
-use Rattle.minijinja_base.specs.Values.{Text, Functions}
-use Rattle.minijinja_base.specs.declared.error.Error.{Error}
+use Rattle.minijinja_syntax.specs.Texts.{Text}
+use Rattle.minijinja_value.specs.Values.{Functions}
+use Rattle.minijinja_syntax.specs.declared.error.Error.{Error}
 use Rattle.minijinja_tree.specs.Tree.{Expr, test, filter, Optional, Args}
 use Rattle.minijinja_code.specs.Code.{Apply}
 use Rattle.minijinja_code.specs.Events.{PerformTest, ApplyFilter}

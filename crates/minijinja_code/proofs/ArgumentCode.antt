@@ -2,8 +2,8 @@
 use Rattle.std.proofs.Common.{◌≡◌, ℕ, zero, suc, ◌+◌, ◌<◌, ◌≤◌, List, [], ◌∷◌, ◌++◌, length, drop, get_or, Ok, refl, sym, ap, ◌∙◌, subst, arith, append_assoc}
 use Rattle.std.proofs.lemmas.List.{at_drop_more, at_drop_all}
 use denote.Param.Weighed.{most, at_most}
-use Rattle.minijinja_base.specs.Values.{Functions}
-use Rattle.minijinja_base.specs.declared.error.Error.{Error}
+use Rattle.minijinja_value.specs.Values.{Functions}
+use Rattle.minijinja_syntax.specs.declared.error.Error.{Error}
 use Rattle.minijinja_tree.specs.Erasure.{expr_tree, arg_tree, args_of}
 use Rattle.minijinja_tree.specs.Tree.{Args, no_args, pos, pos_splat, kwarg, kwarg_splat}
 use Rattle.minijinja_tree.specs.WellFormed.{AreArguments, arg_count}

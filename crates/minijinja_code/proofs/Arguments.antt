@@ -1,6 +1,7 @@
 -- The code of arguments: their batches, the map of those with a keyword, and how they are spread.
 use Rattle.std.proofs.Common.{◌≡◌, ℕ, zero, suc, ◌+◌, List, [], ◌∷◌, ◌++◌, length, Option, Some, None, refl, sym, ap, ◌∙◌, subst, arith, length-append}
-use Rattle.minijinja_base.specs.Values.{Text, Functions}
+use Rattle.minijinja_syntax.specs.Texts.{Text}
+use Rattle.minijinja_value.specs.Values.{Functions}
 use Rattle.minijinja_code.specs.Laws.{Laws}
 use Rattle.minijinja_tree.specs.Tree.{Expr, Args, no_args, pos, pos_splat, kwarg, kwarg_splat}
 use Rattle.minijinja_tree.specs.Folding.{if_some, constant_node, constant_keywords, fold_keywords}

@@ -1,7 +1,7 @@
 -- The tree of an expression, by its node.
 use Rattle.std.proofs.Common.{◌≡◌, sym, ap, ◌∙◌}
 use Rattle.std.proofs.Common.{◌≤◌, subst, Option, Some, None}
-use Rattle.minijinja_base.specs.Values.{Text}
+use Rattle.minijinja_syntax.specs.Texts.{Text}
 use Rattle.minijinja_tree.specs.WellFormed.{IsWhole, IsWholeIfAny, AreWhole, AreArguments, arg_count, most_arguments, expr_count}
 use Rattle.minijinja_tree.specs.Nodes.{node_of}
 use Rattle.minijinja_tree.specs.Erasure.{unary_op, bin_op, expr_tree, optional_of, exprs_of, args_of, compare_tree}

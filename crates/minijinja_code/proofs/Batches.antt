@@ -1,6 +1,6 @@
 -- The code that closes, merges and spreads batches, by how many there are.
 use Rattle.std.proofs.Common.{◌≡◌, ℕ, zero, suc, ◌+◌, ◌<◌, ◌≤◌, [], Some, None, refl, sym, ap, subst, arith}
-use Rattle.minijinja_base.specs.declared.error.Error.{Error}
+use Rattle.minijinja_syntax.specs.declared.error.Error.{Error}
 use Rattle.minijinja_code.specs.Code.{Do}
 use Rattle.minijinja_code.specs.Events.{MergeKwargs, UnpackLists}
 use Rattle.minijinja_code.specs.Pieces.{Here, behind, Piece, one, ◌▸◌}

@@ -1,6 +1,6 @@
 -- What is refused in a part of an if expression.
 use Rattle.std.proofs.Common.{◌≡◌, ◌<◌, [], ◌∷◌, length, arith}
-use Rattle.minijinja_base.specs.declared.error.Error.{Error}
+use Rattle.minijinja_syntax.specs.declared.error.Error.{Error}
 use Rattle.minijinja_code.specs.Pieces.{Piece, one, ◌▸◌, branches}
 use Rattle.minijinja_code.specs.Making.{Made, here_of, followed, hole, Adds, Refuses}
 use Rattle.minijinja_code.proofs.Adding.{adds_length, refuses_first, refuses_then, refuses_behind}

@@ -1,7 +1,7 @@
 -- What a call means, by what it calls.
 use Rattle.std.proofs.Common.{◌≡◌, ℕ, List, [], refl}
 use Rattle.std.specs.Prelude.{Bool, true, false, if◌then◌else◌}
-use Rattle.minijinja_base.specs.Values.{Functions}
+use Rattle.minijinja_value.specs.Values.{Functions}
 use Rattle.minijinja_tree.specs.Tree.{Expr, variable, attribute, call, Args}
 use Rattle.minijinja_code.specs.Events.{CallFunction, CallMethod, CallObject, World, Act, ◌>>=◌, choose, get}
 use Rattle.minijinja_tree.specs.Callees.{Callee, function, method, block, object, callee_of_attribute, callee}

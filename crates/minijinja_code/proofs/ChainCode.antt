@@ -7,7 +7,7 @@ use Rattle.minijinja_code.specs.Code.{Instr, CompareAndPreserve, Jump, JumpIfFal
 use Rattle.minijinja_code.specs.Pieces.{Here, behind, Piece, one, ◌▸◌}
 use Rattle.minijinja_code.specs.Layout.{Failing, last, and_then, chained}
 use Rattle.minijinja_code.specs.Making.{Made, here_of, followed, hole, Adds}
-use Rattle.minijinja_code.specs.Comparing.{with_jumps, jumping, operand_then, Leads, leaving, Closes}
+use Rattle.minijinja_code.specs.private.Comparing.{with_jumps, jumping, operand_then, Leads, leaving, Closes}
 use Rattle.minijinja_code.proofs.Adding.{set_between, here_behind, adds_length, adds_filled, adds_kept, one_small}
 
 -- two places that come to hold the same may be set in either order

@@ -4,10 +4,10 @@ use Rattle.std.specs.Prelude.{is_some}
 use Rattle.std.specs.Option.{option_map}
 use Rattle.std.specs.Result.{IsErrAnd}
 use Rattle.std.proofs.lemmas.List.{at_drop_more, at_drop_all}
-use Rattle.minijinja_base.specs.Values.{Functions}
-use Rattle.minijinja_base.specs.Errors.{kind_of}
-use Rattle.minijinja_base.specs.declared.error.Error.{Error}
-use Rattle.minijinja_base.specs.declared.error.ErrorKind.TheVariants.{TooManyInstructions}
+use Rattle.minijinja_value.specs.Values.{Functions}
+use Rattle.minijinja_syntax.specs.Errors.{kind_of}
+use Rattle.minijinja_syntax.specs.declared.error.Error.{Error}
+use Rattle.minijinja_syntax.specs.declared.error.ErrorKind.TheVariants.{TooManyInstructions}
 use Rattle.minijinja_tree.specs.CompareOps.{CompareOp}
 use Rattle.minijinja_tree.specs.Folding.{if_some, fold, fold_chain}
 use Rattle.minijinja_tree.specs.Tree.{Expr, Comparisons, compare}
@@ -20,7 +20,7 @@ use Rattle.minijinja_code.specs.Code.{Instr}
 use Rattle.minijinja_code.specs.Pieces.{Here, ◌▸◌}
 use Rattle.minijinja_code.specs.Layout.{Failing, last, comparison, expr, chain, comparisons}
 use Rattle.minijinja_code.specs.Making.{Made, here_of, Adds, AddsUnless, Refuses, RefusesUnfolded, IsPart}
-use Rattle.minijinja_code.specs.Comparing.{operand_then, behind_one, behind_two, ahead, Leads, leaving, Closes, Holds}
+use Rattle.minijinja_code.specs.private.Comparing.{operand_then, behind_one, behind_two, ahead, Leads, leaving, Closes, Holds}
 use Rattle.minijinja_code.proofs.Lengths.{grows, expr_exact, failing_grows, comparisons_exact}
 use Rattle.minijinja_code.proofs.Adding.{adds_as, cut_back}
 use Rattle.minijinja_code.proofs.Exits.{part_err}

@@ -4,7 +4,7 @@ use Rattle.std.specs.Prelude.{Bool, slice_get, IfOk}
 use Rattle.std.proofs.lemmas.Bool.{cases_lt}
 use Rattle.std.specs.Option.{option_map}
 use Rattle.std.proofs.lemmas.List.{at_drop_more, get_or_append_left, get_or_push, length_push}
-use Rattle.minijinja_base.specs.Values.{Functions}
+use Rattle.minijinja_value.specs.Values.{Functions}
 use Rattle.minijinja_tree.specs.CompareOps.{CompareOp}
 use Rattle.minijinja_tree.specs.Comparisons.{compares}
 use Rattle.minijinja_tree.specs.Folding.{if_some, unless_fault, fold, fold_chain}
@@ -15,7 +15,7 @@ use Rattle.minijinja_tree.proofs.Chains.{chain-holds, chain-fails, chain-faults,
 use Rattle.minijinja_code.specs.Code.{Instr, Load, CompareAndPreserve, JumpIfFalseOrPop}
 use Rattle.minijinja_code.specs.Layout.{Failing, and_then, expr, comparisons}
 use Rattle.minijinja_code.specs.Making.{Made, followed, AddsUnless}
-use Rattle.minijinja_code.specs.Comparing.{AreBelow, operand_then, behind_one, behind_two, ahead, Leads, Holds, loaded, known}
+use Rattle.minijinja_code.specs.private.Comparing.{AreBelow, operand_then, behind_one, behind_two, ahead, Leads, Holds, loaded, known}
 use Rattle.minijinja_code.proofs.FoldedCode.{folded_code}
 use Rattle.minijinja_code.proofs.ChainCode.{Puts, puts_added, puts_kept, leads_comparison}
 

@@ -3,7 +3,7 @@ use Rattle.std.proofs.Common.{◌≡◌, ℕ, ◌+◌, ◌<◌, List, [], ◌∷
 use Rattle.std.specs.Prelude.{Bool, slice_get}
 use Rattle.std.specs.Option.{option_map}
 use Rattle.std.proofs.lemmas.List.{at_drop_more}
-use Rattle.minijinja_base.specs.Values.{Functions}
+use Rattle.minijinja_value.specs.Values.{Functions}
 use Rattle.minijinja_tree.specs.CompareOps.{CompareOp}
 use Rattle.minijinja_tree.specs.Folding.{if_some, fold, fold_chain}
 use Rattle.minijinja_tree.specs.Tree.{Expr, against, compare}
@@ -13,7 +13,7 @@ use Rattle.minijinja_code.specs.Code.{Instr, Load}
 use Rattle.minijinja_code.specs.Pieces.{Piece}
 use Rattle.minijinja_code.specs.Layout.{Failing, expr, comparisons}
 use Rattle.minijinja_code.specs.Making.{Made, here_of, followed, AddsUnless}
-use Rattle.minijinja_code.specs.Comparing.{AreBelow, operand_then, behind_one, behind_two, ahead, Leads, Holds, loaded, known}
+use Rattle.minijinja_code.specs.private.Comparing.{AreBelow, operand_then, behind_one, behind_two, ahead, Leads, Holds, loaded, known}
 use Rattle.minijinja_code.proofs.Runs.{append_nil}
 use Rattle.minijinja_code.proofs.Lengths.{grows, expr_exact}
 use Rattle.minijinja_code.proofs.Adding.{cut_back}

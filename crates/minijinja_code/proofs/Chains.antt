@@ -1,7 +1,7 @@
 -- The code of comparisons, and of expressions in order and in pairs.
 use Rattle.std.proofs.Common.{◌≡◌, ℕ, suc, ◌+◌, ◌≤◌, List, [], ◌∷◌, length, Some, Result, Ok, Err, refl, ap, arith}
 use Rattle.std.specs.Prelude.{Bool, true, false, not, cond, slice_get}
-use Rattle.minijinja_base.specs.Values.{Functions}
+use Rattle.minijinja_value.specs.Values.{Functions}
 use Rattle.minijinja_code.specs.Laws.{Laws}
 use Rattle.minijinja_tree.specs.CompareOps.{CompareOp, eq, ne, lt, lte, gt, gte, is_in, not_in}
 use Rattle.minijinja_tree.specs.Comparisons.{is_less, is_at_most, is_greater, is_at_least, on_ok, compares}

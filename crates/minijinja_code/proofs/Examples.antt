@@ -1,7 +1,7 @@
 -- The definitions, computed on small templates.
 use Rattle.std.proofs.Common.{◌≡◌, ℕ, List, [], ◌∷◌, refl}
 use Rattle.std.specs.Prelude.{replicate, Some, None, codes, true, false}
-use Rattle.minijinja_base.specs.Values.{Text}
+use Rattle.minijinja_syntax.specs.Texts.{Text}
 use Rattle.minijinja_tree.specs.BinOps.{sc_and, div, floor_div, pow, is_in}
 use Rattle.minijinja_tree.specs.CompareOps.{lt, gt}
 use Rattle.minijinja_tree.specs.Tree.{Expr, variable, constant, slice, unary, binary, compare, if_expr, filter, test, attribute, item, call, list, map, negation, logical_not, absent, present, no_more, more, compared, against, no_args, pos, pos_splat, kwarg, kwarg_splat, Stmt, output}

@@ -1,8 +1,8 @@
 -- What a call answers, by what the calls that it made answered.
 use Rattle.std.proofs.Common.{◌≡◌, Option, None, Result, Ok, Err, sym, subst}
 use Rattle.std.specs.Result.{IsErrAnd}
-use Rattle.minijinja_base.specs.Errors.{IsOutOfMemory}
-use Rattle.minijinja_base.specs.declared.error.Error.{Error}
+use Rattle.minijinja_syntax.specs.Errors.{IsOutOfMemory}
+use Rattle.minijinja_syntax.specs.declared.error.Error.{Error}
 use Rattle.minijinja_code.specs.Pieces.{Here, Piece}
 use Rattle.minijinja_code.specs.Making.{Made, here_of, Adds, Refuses, RefusesUnfolded, IsAdded, IsPart}
 use Rattle.minijinja_code.proofs.Adding.{refuses_memory}

@@ -1,7 +1,7 @@
 -- The code of trees that fold, and of those that do not.
 use Rattle.std.proofs.Common.{◌≡◌, Option, Some, None, refl, ap}
 use Rattle.std.specs.Prelude.{true, false}
-use Rattle.minijinja_base.specs.Values.{Functions}
+use Rattle.minijinja_value.specs.Values.{Functions}
 use Rattle.minijinja_tree.specs.Operators.{Working, Makes, Divides, IfTrue, IfFalse}
 use Rattle.minijinja_tree.specs.Folding.{fold}
 use Rattle.minijinja_tree.specs.Tree.{Expr, variable, constant, slice, unary, binary, compare, if_expr, filter, test, attribute, item, call, list, tuple, map}

@@ -1,7 +1,7 @@
 -- A tree that folds gives its constant with no event and no answer read.
 use Rattle.std.proofs.Common.{◌≡◌, List, [], ◌∷◌, ◌++◌, refl, sym, ap, ◌∙◌, subst, append_assoc}
 use Rattle.std.specs.Prelude.{Bool, true, false, Option, Some, None, Result, Ok, Err, if◌then◌else◌, zip}
-use Rattle.minijinja_base.specs.Values.{Functions}
+use Rattle.minijinja_value.specs.Values.{Functions}
 use Rattle.minijinja_tree.specs.Operators.{Working, Makes, Divides, IfTrue, IfFalse, working, compute}
 use Rattle.minijinja_tree.specs.Comparisons.{compares}
 use Rattle.minijinja_tree.specs.Tree.{UnaryOp, logical_not, negation, Expr, constant, list, tuple, map, unary, binary, compare, Exprs, no_more, more, Comparisons, compared, against, Args, no_args, pos, pos_splat, kwarg, kwarg_splat}

@@ -1,7 +1,7 @@
 -- What a generator answers, by what it added.
 use Rattle.std.proofs.Common.{ℕ, ◌++◌, Option, Some, None, arith, length-append}
 use Rattle.std.specs.Prelude.{IfNone}
-use Rattle.minijinja_base.specs.declared.error.Error.{Error}
+use Rattle.minijinja_syntax.specs.declared.error.Error.{Error}
 use Rattle.minijinja_code.specs.Generator.{OnlyWhereTooLong}
 use Rattle.minijinja_code.specs.Pieces.{Piece}
 use Rattle.minijinja_code.specs.Making.{Made, here_of, Refuses}

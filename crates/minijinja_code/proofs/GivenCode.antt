@@ -3,9 +3,9 @@ use Rattle.std.proofs.Common.{◌≡◌, ℕ, ◌+◌, ◌≤◌, List, [], ◌�
 use Rattle.std.specs.Prelude.{OnOk, IfErr}
 use Rattle.std.specs.Option.{option_map}
 use Rattle.std.specs.Result.{IsErrAnd}
-use Rattle.minijinja_base.specs.Errors.{IsOutOfMemory}
-use Rattle.minijinja_base.specs.Values.{Functions}
-use Rattle.minijinja_base.specs.declared.error.Error.{Error}
+use Rattle.minijinja_syntax.specs.Errors.{IsOutOfMemory}
+use Rattle.minijinja_value.specs.Values.{Functions}
+use Rattle.minijinja_syntax.specs.declared.error.Error.{Error}
 use Rattle.minijinja_tree.specs.Tree.{Args}
 use Rattle.minijinja_tree.specs.WellFormed.{arg_count, most_arguments}
 use Rattle.minijinja_tree.specs.Folding.{constant_keywords, fold_keywords}

@@ -1,7 +1,7 @@
 -- Pieces are added one by one: what is made and what is left make up the whole.
 use Rattle.std.proofs.Common.{◌≡◌, ◌<◌, ◌≤◌, ◌^◌, List, ◌++◌, length, sym, ap, ◌∙◌, subst, arith, ⊎_elim, append_assoc, length-append}
 use Rattle.std.proofs.lemmas.Bool.{cases_lt}
-use Rattle.minijinja_base.specs.declared.error.Error.{Error}
+use Rattle.minijinja_syntax.specs.declared.error.Error.{Error}
 use Rattle.minijinja_code.specs.Code.{Instr}
 use Rattle.minijinja_code.specs.Pieces.{Here, Piece, nothing, ◌▸◌}
 use Rattle.minijinja_code.specs.Making.{Made, here_of, Adds, Refuses}

@@ -1,7 +1,7 @@
 -- What outputs and assignments take apart.
 use Rattle.std.proofs.Common.{◌≡◌, ◌≤◌, List, [], ◌∷◌, length, refl, ap, ◌∙◌, subst, arith}
 use Rattle.std.specs.Prelude.{false, codes, bytes_eq}
-use Rattle.minijinja_base.specs.Values.{Text}
+use Rattle.minijinja_syntax.specs.Texts.{Text}
 use Rattle.minijinja_tree.specs.Erasure.{expr_tree, compare_tree, arg_tree, args_of}
 use Rattle.minijinja_tree.specs.Tree as tree
 use Rattle.minijinja_tree.specs.WellFormed.{IsWhole, IsTarget}

@@ -1,7 +1,8 @@
 -- A piece of code, wherever it stands in a list, does what a part means; and how such pieces are put together.
 use Rattle.std.proofs.Common.{◌≡◌, ℕ, ◌+◌, ◌≤◌, List, [], ◌∷◌, length, Option, Some, None, Result, refl, sym, ap, ◌∙◌, subst, arith}
 use Rattle.std.specs.Prelude.{Bool, true, false, cond, if◌then◌else◌}
-use Rattle.minijinja_base.specs.Values.{Text, Functions}
+use Rattle.minijinja_syntax.specs.Texts.{Text}
+use Rattle.minijinja_value.specs.Values.{Functions}
 use Rattle.minijinja_code.specs.Events.{Kind, World, Did, Gave, Ended, Act, next, give, choose, operated, tell, get, get_all}
 use Rattle.minijinja_code.specs.Answers.{AreFew}
 use Rattle.minijinja_code.specs.Code.{Instr, Load, Do, JumpIfFalseOrPop, JumpIfTrueOrPop}

@@ -2,8 +2,8 @@
 use Rattle.std.proofs.Common.{◌≡◌, Option, Some, Result, sym, ap, ◌∙◌, subst}
 use Rattle.std.specs.Prelude.{IfOk, IfErr}
 use Rattle.std.specs.Option.{option_map}
-use Rattle.minijinja_base.specs.Values.{Functions}
-use Rattle.minijinja_base.specs.declared.error.Error.{Error}
+use Rattle.minijinja_value.specs.Values.{Functions}
+use Rattle.minijinja_syntax.specs.declared.error.Error.{Error}
 use Rattle.minijinja_tree.specs.BinOps.{BinOp}
 use Rattle.minijinja_tree.specs.Operators.{working}
 use Rattle.minijinja_tree.specs.Folding.{fold, fold_unary, fold_binary}

@@ -4,7 +4,8 @@ use Rattle.std.specs.Prelude.{Bool, false, slice_get, cond, ◌^◌}
 use Rattle.std.proofs.Math.Seq.{get_or-append_seam}
 use Rattle.std.proofs.lemmas.Option.{slice_get-get_or}
 use Rattle.std.proofs.lemmas.Bool.{ne_eqb}
-use Rattle.minijinja_base.specs.Values.{Text, Functions}
+use Rattle.minijinja_syntax.specs.Texts.{Text}
+use Rattle.minijinja_value.specs.Values.{Functions}
 use Rattle.minijinja_code.specs.Events.{Kind, Event, Answer, Fault, Values, World, Did, Gave, Ended, Act, next, operated, fitted, answered, ask, none_fits, one_fits, all_fit, event, tell, get, get_all}
 use Rattle.minijinja_code.specs.Answers.{AreFew}
 use Rattle.minijinja_code.specs.Code.{Instr}

@@ -1,7 +1,8 @@
 -- The code of a statement, standing at its index in a list, does what the statement means, and leaves the operands as they stood.
 use Rattle.std.proofs.Common.{◌≡◌, ℕ, List, [], ◌∷◌, refl}
 use Rattle.std.specs.Prelude.{Bool, true, false, codes, bytes_eq}
-use Rattle.minijinja_base.specs.Values.{Text, Functions}
+use Rattle.minijinja_syntax.specs.Texts.{Text}
+use Rattle.minijinja_value.specs.Values.{Functions}
 use Rattle.minijinja_code.specs.Laws.{Laws}
 use Rattle.minijinja_tree.specs.Tree.{Expr, variable, call, Args, no_args, pos, Stmt, template, data_text, output, assignment, Stmts, done, also}
 use Rattle.minijinja_tree.specs.WellFormed.{IsWhole, AreArguments, IsTarget, IsInner, AreInner, IsWellFormed}

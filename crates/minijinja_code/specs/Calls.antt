@@ -1,6 +1,6 @@
 -- What an output writes.
 use Rattle.std.specs.Prelude.{Bool, true, false, codes, bytes_eq}
-use Rattle.minijinja_base.specs.Values.{Text}
+use Rattle.minijinja_syntax.specs.Texts.{Text}
 use Rattle.minijinja_tree.specs.Callees.{Callee, function, method, block, object, callee}
 use Rattle.minijinja_tree.specs.Tree.{Expr, variable, call, Args, no_args, pos}
 

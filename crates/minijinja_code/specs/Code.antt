@@ -1,6 +1,6 @@
 -- Instructions over what values hold.
 use Rattle.std.specs.Prelude.{ℕ, Option}
-use Rattle.minijinja_base.specs.Values.{Text}
+use Rattle.minijinja_syntax.specs.Texts.{Text}
 use Rattle.minijinja_tree.specs.CompareOps.{CompareOp}
 use Rattle.minijinja_tree.specs.Operators.{Operator}
 use Rattle.minijinja_code.specs.Events.{Kind}

@@ -1,6 +1,6 @@
 -- The code does what the tree means.
 use Rattle.std.specs.Prelude.{◌≡◌, ℕ, ◌+◌, ◌*◌, ◌≤◌, List, [], ◌∷◌, length, Bool}
-use Rattle.minijinja_base.specs.Values.{Functions}
+use Rattle.minijinja_value.specs.Values.{Functions}
 use Rattle.minijinja_tree.specs.Tree.{Expr, Stmt}
 use Rattle.minijinja_code.specs.Events.{Answer, World, Did, Gave, Ended}
 use Rattle.minijinja_code.specs.Answers.{AreFew}

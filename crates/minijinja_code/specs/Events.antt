@@ -1,6 +1,6 @@
 -- Events, the answers that they get from outside, and what a piece of a template does to both.
 use Rattle.std.specs.Prelude.{ℕ, List, [], ◌∷◌, Option, Some, None, Bool, true, false, Result, Ok, Err}
-use Rattle.minijinja_base.specs.Values.{Text}
+use Rattle.minijinja_syntax.specs.Texts.{Text}
 
 -- whether what is written is kept for later, or dropped
 pub data CaptureMode : Type 0 where

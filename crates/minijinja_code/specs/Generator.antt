@@ -2,10 +2,10 @@
 use Rattle.std.specs.Prelude.{◌≡◌, ℕ, ◌≤◌, ◌^◌, List, Option, length}
 use Rattle.std.specs.Borrow.{Bor}
 use Rattle.std.specs.BTreeMap.{BTreeMap}
-use Rattle.minijinja_base.specs.Values.{Text}
-use Rattle.minijinja_base.specs.Errors.{kind_of}
-use Rattle.minijinja_base.specs.declared.error.Error.{Error}
-use Rattle.minijinja_base.specs.declared.error.ErrorKind.TheVariants.{TooManyInstructions}
+use Rattle.minijinja_syntax.specs.Texts.{Text}
+use Rattle.minijinja_syntax.specs.Errors.{kind_of}
+use Rattle.minijinja_syntax.specs.declared.error.Error.{Error}
+use Rattle.minijinja_syntax.specs.declared.error.ErrorKind.TheVariants.{TooManyInstructions}
 use Rattle.minijinja_code.specs.Code.{Instr}
 use Rattle.minijinja_code.specs.Making.{made_of, here_of}
 use Rattle.minijinja_code.specs.Pieces.{Here}

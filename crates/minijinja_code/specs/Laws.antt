@@ -1,6 +1,6 @@
 -- What holds of the functions of every value type.
 use Rattle.std.specs.Prelude.{◌≡◌, ℕ, ◌+◌, ◌<◌, ◌^◌, Bool, Some, Ok}
-use Rattle.minijinja_base.specs.Values.{Functions}
+use Rattle.minijinja_value.specs.Values.{Functions}
 
 -- A truth value is true where it is said to be, a count is read as it was written, and one more is one more.
 pub record Laws {C F : Type 0} (f : Functions C F) : Type 0 where

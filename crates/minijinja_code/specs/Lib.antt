@@ -13,6 +13,5 @@ pub mod Machine
 pub mod Brackets
 pub mod Correct
 pub mod Hint
-pub mod Comparing
 pub mod Generator
-pub mod Outputs
+pub mod private

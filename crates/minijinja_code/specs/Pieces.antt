@@ -1,6 +1,6 @@
 -- Pieces of code: what stands behind a piece that begins here, and its instructions.
 use Rattle.std.specs.Prelude.{ℕ, suc, ◌+◌, List, [], ◌∷◌, ◌++◌, if◌then◌else◌, bytes_eq, nat_lt}
-use Rattle.minijinja_base.specs.Values.{Text}
+use Rattle.minijinja_syntax.specs.Texts.{Text}
 use Rattle.minijinja_code.specs.Code.{Instr, Jump, JumpIfFalse}
 
 -- where code stands: its place in the list, and the names of filters and of tests that have an id by then, in order of first use

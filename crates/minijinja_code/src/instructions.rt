@@ -1,8 +1,8 @@
 //! Instructions, and lists of them.
 ghost use Rattle.std.specs.Prelude.{◌≡◌, ◌+◌, ◌≤◌, ◌<◌, ◌^◌, ◌==◌, ◌++◌, ◌∷◌, [], ◌↔◌, length, slice_get, IfOk, IfErr, OnOk, OnErr, IsErr, Option};
 ghost use Rattle.std.specs.Option.{option_copied};
-ghost use Rattle.minijinja_base.specs.Errors.{kind_of};
-ghost use Rattle.minijinja_base.specs.declared.error.ErrorKind.TheVariants.{OutOfMemory, TooManyInstructions};
+ghost use Rattle.minijinja_syntax.specs.Errors.{kind_of};
+ghost use Rattle.minijinja_syntax.specs.declared.error.ErrorKind.TheVariants.{OutOfMemory, TooManyInstructions};
 ghost use Rattle.minijinja_code.specs.InstructionLists.{instructions_of, name_of, source_of, IsAddError};
 
 use minijinja_base::error::{Detail, Error, ErrorKind};

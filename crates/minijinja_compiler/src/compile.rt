@@ -1,12 +1,12 @@
 //! From a source text to its instructions.
 ghost use Rattle.std.specs.Prelude.{◌≡◌, ◌≢◌, ◌≤◌, ◌^◌, codes, length, IfErr, IfOk, IsErrAnd, MatchResult, ⊤};
-ghost use Rattle.minijinja_base.specs.Errors.{kind_of, span_of};
-ghost use Rattle.minijinja_base.specs.declared.error.ErrorKind.TheVariants.{BadEscape, OutOfMemory, SourceTooLong, TooManyInstructions};
+ghost use Rattle.minijinja_syntax.specs.Errors.{kind_of, span_of};
+ghost use Rattle.minijinja_syntax.specs.declared.error.ErrorKind.TheVariants.{BadEscape, OutOfMemory, SourceTooLong, TooManyInstructions};
 ghost use Rattle.minijinja_lexer.specs.Stream as ending;
 ghost use Rattle.minijinja_lexer.specs.Stream.{IsNamed};
 ghost use Rattle.minijinja_lexer.specs.TextTokens.{tokens_of_template, tokens_of_expression};
 ghost use Rattle.minijinja_grammar.specs.Causes.{IsRefusal};
-ghost use Rattle.minijinja_base.specs.Syntax.{default_syntax};
+ghost use Rattle.minijinja_syntax.specs.Syntax.{default_syntax};
 ghost use Rattle.minijinja_grammar.specs.Derived.{IsDerived, IsExprDerived};
 ghost use Rattle.minijinja_compiler.specs.Headline.{IsCompiled, IsCompiledExpr, HasTooLongCode, HasTooLongExprCode, IsLimit, IsCause};
 

@@ -1,8 +1,8 @@
 //! From the tokens of a source to expressions.
 ghost use Rattle.std.specs.Prelude.{◌≡◌, ◌<◌, ◌^◌, length, Contains, IfErr, IfOk, None, Some, if◌then◌else◌};
-ghost use Rattle.minijinja_base.specs.Errors.{kind_of, name_of, span_of};
-ghost use Rattle.minijinja_base.specs.Tokens.{ident};
-ghost use Rattle.minijinja_base.specs.declared.error.ErrorKind.TheVariants.{SyntaxError};
+ghost use Rattle.minijinja_syntax.specs.Errors.{kind_of, name_of, span_of};
+ghost use Rattle.minijinja_syntax.specs.Tokens.{ident};
+ghost use Rattle.minijinja_syntax.specs.declared.error.ErrorKind.TheVariants.{SyntaxError};
 ghost use Rattle.minijinja_lexer.specs.Slices.{IsBetweenChars};
 ghost use Rattle.minijinja_lexer.specs.Stream.{spanned_tok};
 ghost use Rattle.minijinja_lexer.specs.TextTokens.{text_of, tokens_of_template, tokens_of_expression};

@@ -2,7 +2,7 @@
 use Rattle.std.proofs.Common.{◌≡◌, ◌<◌, ◌≤◌, List, [], ◌∷◌, ◌++◌, length, Bool, true, false, ◌&&◌, not, Some, refl, arith, length-append}
 use Rattle.std.specs.Prelude.{nat_lt}
 use Rattle.std.proofs.lemmas.Bool.{ltb-true, lt-ltb}
-use Rattle.minijinja_base.specs.Tokens.{mul, pow, dot, assign, bracket_open, paren_open, paren_close}
+use Rattle.minijinja_syntax.specs.Tokens.{mul, pow, dot, assign, bracket_open, paren_open, paren_close}
 use Rattle.minijinja_tree.specs.Tree.{Expr, variable}
 use Rattle.minijinja_grammar.specs.Lists.{Arg, positional, starred, keyword, double_starred}
 use Rattle.minijinja_grammar.specs.Words.{begins_expr, begins_arg}

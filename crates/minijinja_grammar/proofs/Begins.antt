@@ -3,10 +3,11 @@
 use Rattle.std.proofs.Common.{◌≡◌, ℕ, suc, List, [], ◌∷◌, Bool, true, false, ◌||◌, Option, Some, None, refl, sym, subst, codes}
 use Rattle.std.specs.Prelude.{is_some}
 use Rattle.std.specs.Str.{bytes_eq}
-use Rattle.minijinja_base.specs.Values.{Text, Functions}
-use Rattle.minijinja_base.specs.declared.tokens.Span.{Span}
+use Rattle.minijinja_syntax.specs.Texts.{Text}
+use Rattle.minijinja_value.specs.Values.{Functions}
+use Rattle.minijinja_syntax.specs.declared.tokens.Span.{Span}
 use Rattle.minijinja_tree.specs.CompareOps.{CompareOp}
-use Rattle.minijinja_base.specs.Tokens.{Tok, ident, str, string, int, int128, minus, paren_open, paren_close, bracket_open, bracket_close, brace_open, brace_close}
+use Rattle.minijinja_syntax.specs.Tokens.{Tok, ident, str, string, int, int128, minus, paren_open, paren_close, bracket_open, bracket_close, brace_open, brace_close}
 use Rattle.minijinja_tree.specs.Tree.{logical_not, negation, Expr, constant, unary}
 use Rattle.minijinja_grammar.specs.Lists.{Arg}
 use Rattle.minijinja_grammar.specs.Words.{is, not_word, compare_op, begins_expr, begins_postfix, begins_suffix, begins_comparison}

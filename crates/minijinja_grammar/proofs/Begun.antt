@@ -1,10 +1,11 @@
 -- What a primary is, by the token that it begins with.
 use Rattle.std.proofs.Common.{◌≡◌, ℕ, Some, None, refl}
-use Rattle.minijinja_base.specs.declared.tokens.Span.{Span}
-use Rattle.minijinja_base.specs.declared.tokens.Token.{Token}
-use Rattle.minijinja_base.specs.declared.tokens.Token.TheVariants as token
-use Rattle.minijinja_base.specs.Tokens.{tok_of, ident, str, string, int, int128, paren_open, bracket_open, brace_open}
-use Rattle.minijinja_base.specs.Values.{Text, Functions}
+use Rattle.minijinja_syntax.specs.declared.tokens.Span.{Span}
+use Rattle.minijinja_syntax.specs.declared.tokens.Token.{Token}
+use Rattle.minijinja_syntax.specs.declared.tokens.Token.TheVariants as token
+use Rattle.minijinja_syntax.specs.Tokens.{tok_of, ident, str, string, int, int128, paren_open, bracket_open, brace_open}
+use Rattle.minijinja_syntax.specs.Texts.{Text}
+use Rattle.minijinja_value.specs.Values.{Functions}
 use Rattle.minijinja_tree.specs.Tree.{constant}
 use Rattle.minijinja_grammar.specs.Depth as spec
 use Rattle.minijinja_grammar.specs.Grammar.{Tokens}

@@ -1,13 +1,14 @@
 -- From what reading gives to the claims about the grammar.
 use Rattle.std.specs.Borrow.{Bor}
 use Rattle.std.proofs.Common.{◌≡◌, ◌≢◌, ◌⊎◌, List, [], inl, inr, Option, Some, None, Result, Ok, Err, IfOk, IfErr, IsErrAnd, MatchResult, refl, sym, ap, ◌∙◌, subst, arith}
-use Rattle.minijinja_base.specs.Values.{Text, Functions}
-use Rattle.minijinja_base.specs.Errors.{kind_of, span_of}
-use Rattle.minijinja_base.specs.declared.tokens.Token.{Token}
-use Rattle.minijinja_base.specs.declared.tokens.Span.{Span}
-use Rattle.minijinja_base.specs.declared.error.Error.{Error}
-use Rattle.minijinja_base.specs.declared.error.ErrorKind.{ErrorKind}
-use Rattle.minijinja_base.specs.declared.error.ErrorKind.TheVariants.{InvalidDelimiter, SyntaxError, BadEscape, OutOfMemory, SourceTooLong, TooManyInstructions}
+use Rattle.minijinja_syntax.specs.Texts.{Text}
+use Rattle.minijinja_value.specs.Values.{Functions}
+use Rattle.minijinja_syntax.specs.Errors.{kind_of, span_of}
+use Rattle.minijinja_syntax.specs.declared.tokens.Token.{Token}
+use Rattle.minijinja_syntax.specs.declared.tokens.Span.{Span}
+use Rattle.minijinja_syntax.specs.declared.error.Error.{Error}
+use Rattle.minijinja_syntax.specs.declared.error.ErrorKind.{ErrorKind}
+use Rattle.minijinja_syntax.specs.declared.error.ErrorKind.TheVariants.{InvalidDelimiter, SyntaxError, BadEscape, OutOfMemory, SourceTooLong, TooManyInstructions}
 use Rattle.minijinja_lexer.specs.Stream.{SpannedTok, Stream, Ending, IsTokenizerKind, ended, finished, out_of_memory}
 use Rattle.minijinja_lexer.specs.Stream as stream
 use Rattle.minijinja_tree.specs.Tree.{Expr, Stmt, template, done}

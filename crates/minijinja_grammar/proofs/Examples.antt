@@ -1,11 +1,12 @@
 -- What is read from a few token lists: trees and refusals, by computing.
 use Rattle.std.proofs.Common.{◌≡◌, ℕ, List, [], ◌∷◌, ◌++◌, map, replicate, Option, Some, None, refl, codes}
-use Rattle.minijinja_base.specs.Values.{Text, Functions}
-use Rattle.minijinja_base.specs.declared.tokens.Span.{Span}
+use Rattle.minijinja_syntax.specs.Texts.{Text}
+use Rattle.minijinja_value.specs.Values.{Functions}
+use Rattle.minijinja_syntax.specs.declared.tokens.Span.{Span}
 use Rattle.minijinja_tree.specs.BinOps as bin
 use Rattle.minijinja_tree.specs.CompareOps as cmp
-use Rattle.minijinja_base.specs.Tokens as tok
-use Rattle.minijinja_base.specs.Tokens.{Tok, ident, int, minus, mul, pow, dot, comma, colon, assign, pipe, bracket_open, bracket_close, paren_open, paren_close, brace_open, brace_close}
+use Rattle.minijinja_syntax.specs.Tokens as tok
+use Rattle.minijinja_syntax.specs.Tokens.{Tok, ident, int, minus, mul, pow, dot, comma, colon, assign, pipe, bracket_open, bracket_close, paren_open, paren_close, brace_open, brace_close}
 use Rattle.minijinja_tree.specs.Tree as tree
 use Rattle.minijinja_tree.specs.Tree.{logical_not, negation, Expr, variable, constant, unary, binary, compare, if_expr, filter, test, attribute, item, call, list, tuple, absent, present, no_more, more, compared, against, no_args, pos, pos_splat, kwarg, kwarg_splat}
 use Rattle.minijinja_grammar.specs.Grammar.{Tokens, max_depth}

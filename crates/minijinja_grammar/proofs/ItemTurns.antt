@@ -2,9 +2,10 @@
 use Rattle.std.proofs.Common.{◌≡◌, ℕ, ◌<◌, List, [], ◌∷◌, ◌++◌, length, map, Bool, true, false, if◌then◌else◌, Option, Some, None, refl, sym, ap, ◌∙◌}
 use Rattle.std.specs.Prelude.{◌&&◌, ◌||◌, not, nat_lt}
 use Rattle.std.proofs.lemmas.Bool.{ltb-true, lt-ltb}
-use Rattle.minijinja_base.specs.Values.{Text, Functions}
+use Rattle.minijinja_syntax.specs.Texts.{Text}
+use Rattle.minijinja_value.specs.Values.{Functions}
 use Rattle.std.proofs.lemmas.List.{map-append}
-use Rattle.minijinja_base.specs.Tokens.{assign, brace_close, comma}
+use Rattle.minijinja_syntax.specs.Tokens.{assign, brace_close, comma}
 use Rattle.minijinja_tree.specs.Tree as tree
 use Rattle.minijinja_tree.specs.Tree.{Expr}
 use Rattle.minijinja_grammar.specs.Lists.{Arg, keyword, exprs_of, name_if_variable}

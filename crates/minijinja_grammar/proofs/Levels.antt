@@ -1,11 +1,11 @@
 -- Each level above an operand is read exactly, if the one below it is.
 use Rattle.std.proofs.Common.{◌≡◌, ℕ, zero, suc, ◌<◌, ◌≤◌, List, [], ◌∷◌, Bool, true, false, if◌then◌else◌, Option, Some, None, refl, sym, subst, arith, codes}
 use Rattle.std.specs.Str.{bytes_eq}
-use Rattle.minijinja_base.specs.Values.{Text}
+use Rattle.minijinja_syntax.specs.Texts.{Text}
 use Rattle.minijinja_tree.specs.BinOps.{BinOp}
 use Rattle.minijinja_tree.specs.CompareOps as cmp
 use Rattle.minijinja_tree.specs.CompareOps.{CompareOp}
-use Rattle.minijinja_base.specs.Tokens.{Tok, ident, pipe, paren_open}
+use Rattle.minijinja_syntax.specs.Tokens.{Tok, ident, pipe, paren_open}
 use Rattle.minijinja_tree.specs.Tree.{logical_not, Expr, unary, binary, if_expr, filter, test, absent, present}
 use Rattle.minijinja_grammar.specs.Lists.{Arg, positional, args_of, given_args}
 use Rattle.minijinja_grammar.specs.Words.{is, if_word, else_word, not_word, in_word, is_word, compare_op, begins_expr, begins_suffix, begins_comparison, begins_bare}

@@ -1,8 +1,8 @@
 -- Operands are read exactly, if the expressions and primaries nested in them are.
 use Rattle.std.proofs.Common.{◌≡◌, ℕ, ◌<◌, ◌≤◌, List, [], ◌∷◌, true, false, if◌then◌else◌, Option, Some, None, refl, arith}
-use Rattle.minijinja_base.specs.Values.{Functions}
-use Rattle.minijinja_base.specs.declared.tokens.Span.{Span}
-use Rattle.minijinja_base.specs.Tokens.{Tok, ident, int, int128, minus, dot, colon, bracket_open, bracket_close}
+use Rattle.minijinja_value.specs.Values.{Functions}
+use Rattle.minijinja_syntax.specs.declared.tokens.Span.{Span}
+use Rattle.minijinja_syntax.specs.Tokens.{Tok, ident, int, int128, minus, dot, colon, bracket_open, bracket_close}
 use Rattle.minijinja_tree.specs.Tree as tree
 use Rattle.minijinja_tree.specs.Tree.{negation, Expr, variable, constant, unary, attribute, item, call}
 use Rattle.minijinja_grammar.specs.Lists.{Arg, optional_of, args_of}

@@ -1,9 +1,10 @@
 -- Primaries are read exactly, if the expressions nested in them are.
 use Rattle.std.proofs.Common.{◌≡◌, ℕ, ◌<◌, ◌≤◌, List, [], ◌∷◌, ◌++◌, map, Bool, true, false, ◌||◌, if◌then◌else◌, Some, refl, sym, ap, subst, arith, codes}
 use Rattle.std.specs.Str.{bytes_eq}
-use Rattle.minijinja_base.specs.Values.{Text, Functions}
-use Rattle.minijinja_base.specs.declared.tokens.Span.{Span}
-use Rattle.minijinja_base.specs.Tokens.{Tok, ident, str, string, int, int128, minus, comma, colon, bracket_open, bracket_close, paren_open, paren_close, brace_open, brace_close}
+use Rattle.minijinja_syntax.specs.Texts.{Text}
+use Rattle.minijinja_value.specs.Values.{Functions}
+use Rattle.minijinja_syntax.specs.declared.tokens.Span.{Span}
+use Rattle.minijinja_syntax.specs.Tokens.{Tok, ident, str, string, int, int128, minus, comma, colon, bracket_open, bracket_close, paren_open, paren_close, brace_open, brace_close}
 use Rattle.minijinja_tree.specs.Tree as tree
 use Rattle.minijinja_tree.specs.Tree.{Expr, variable, constant, list, tuple}
 use Rattle.minijinja_grammar.specs.Lists.{exprs_of}

@@ -1,8 +1,8 @@
 -- What taking a token does to the places of a stream, and the spans that are made of them.
 use Rattle.std.proofs.Common.{◌≡◌, ◌≢◌, inl, inr, suc, List, [], ◌∷◌, ◌++◌, Contains, Option, Some, None, Result, Ok, refl, sym, ap, ◌∙◌, subst, arith, append_assoc}
-use Rattle.minijinja_base.specs.declared.tokens.Token.{Token}
-use Rattle.minijinja_base.specs.declared.tokens.Span.{Span}
-use Rattle.minijinja_base.specs.declared.error.Error.{Error}
+use Rattle.minijinja_syntax.specs.declared.tokens.Token.{Token}
+use Rattle.minijinja_syntax.specs.declared.tokens.Span.{Span}
+use Rattle.minijinja_syntax.specs.declared.error.Error.{Error}
 use Rattle.minijinja_lexer.specs.Stream.{SpannedTok, Stream, Answers, before, out_of_memory, spanned_tok}
 use Rattle.minijinja_tree.specs.declared.ast.CompareOp.{CompareOp}
 use Rattle.minijinja_tree.specs.declared.ast.Stmt.{Stmt}

@@ -1,11 +1,12 @@
 -- A turn of each repetition, and its end, for the loops of a parser: what is read from a place where one more begins, and from
 -- one where none does.
 use Rattle.std.proofs.Common.{◌≡◌, ℕ, suc, ◌<◌, ◌≤◌, List, [], ◌∷◌, ◌++◌, Bool, true, false, if◌then◌else◌, Option, Some, None, refl, ap, ◌∙◌, arith}
-use Rattle.minijinja_base.specs.Values.{Text, Functions}
-use Rattle.minijinja_base.specs.declared.tokens.Span.{Span}
+use Rattle.minijinja_syntax.specs.Texts.{Text}
+use Rattle.minijinja_value.specs.Values.{Functions}
+use Rattle.minijinja_syntax.specs.declared.tokens.Span.{Span}
 use Rattle.minijinja_tree.specs.BinOps.{BinOp}
 use Rattle.minijinja_tree.specs.CompareOps.{CompareOp}
-use Rattle.minijinja_base.specs.Tokens.{Tok, minus, dot, comma}
+use Rattle.minijinja_syntax.specs.Tokens.{Tok, minus, dot, comma}
 use Rattle.minijinja_tree.specs.Tree.{logical_not, negation, Expr, unary, binary, if_expr, absent, present}
 use Rattle.minijinja_grammar.specs.Lists.{Arg}
 use Rattle.minijinja_grammar.specs.Words.{or_op, and_op, sum_op, cat_op, term_op, pow_op, if_word, else_word, not_word, text_of, begins_expr, begins_arg, begins_postfix, begins_suffix, begins_comparison}

@@ -2,10 +2,11 @@
 use Rattle.std.proofs.Common.{◌≡◌, ◌<◌, List, [], ◌∷◌, ◌++◌, length, true, Option, Some, None, Ok, refl, ap, subst, ◌∙◌}
 use Rattle.std.specs.Prelude.{codes}
 use Rattle.std.specs.Str.{bytes_eq}
-use Rattle.minijinja_base.specs.Values.{Text, Functions}
-use Rattle.minijinja_base.specs.Tokens.{ident}
-use Rattle.minijinja_base.specs.declared.tokens.Token.{Token}
-use Rattle.minijinja_base.specs.declared.tokens.Span.{Span}
+use Rattle.minijinja_syntax.specs.Texts.{Text}
+use Rattle.minijinja_value.specs.Values.{Functions}
+use Rattle.minijinja_syntax.specs.Tokens.{ident}
+use Rattle.minijinja_syntax.specs.declared.tokens.Token.{Token}
+use Rattle.minijinja_syntax.specs.declared.tokens.Span.{Span}
 use Rattle.minijinja_lexer.specs.Stream.{SpannedTok, Stream, Answers, finished, spanned_tok}
 use Rattle.minijinja_tree.specs.Tree.{Expr, Stmt}
 use Rattle.minijinja_grammar.specs.Templates.{at_token}

@@ -1,9 +1,10 @@
 -- Templates are read exactly, so a text has one tree at most.
 use Rattle.std.proofs.Common.{◌≡◌, ◌<◌, List, [], ◌∷◌, ◌++◌, Bool, true, false, Option, Some, None, refl, ap, subst, arith}
 use Rattle.std.specs.Prelude.{not}
-use Rattle.minijinja_base.specs.Values.{Text, Functions}
-use Rattle.minijinja_base.specs.declared.tokens.Span.{Span}
-use Rattle.minijinja_base.specs.Tokens.{Tok, template_data, variable_start, variable_end, block_start, block_end, assign}
+use Rattle.minijinja_syntax.specs.Texts.{Text}
+use Rattle.minijinja_value.specs.Values.{Functions}
+use Rattle.minijinja_syntax.specs.declared.tokens.Span.{Span}
+use Rattle.minijinja_syntax.specs.Tokens.{Tok, template_data, variable_start, variable_end, block_start, block_end, assign}
 use Rattle.minijinja_tree.specs.Tree.{Expr, variable, Stmt, template, data_text, output, assignment, stmts_of}
 use Rattle.minijinja_grammar.specs.Rules.{Rule, Also}
 use Rattle.minijinja_grammar.specs.Words.{is_reserved, set_word, data_of}

@@ -1,9 +1,9 @@
 -- Tokens taken, and what is read of them.
 use Rattle.std.proofs.Common.{◌≡◌, ◌<◌, [], ◌∷◌, length, true, false, if◌then◌else◌, Option, Some, None, Result, Ok, Err, IfOk, IfErr, refl, sym, ap, ◌∙◌, arith}
-use Rattle.minijinja_base.specs.Errors.{kind_of}
-use Rattle.minijinja_base.specs.declared.error.Error.{Error}
-use Rattle.minijinja_base.specs.declared.error.ErrorKind.TheVariants.{OutOfMemory}
-use Rattle.minijinja_base.specs.Tokens.{Tok}
+use Rattle.minijinja_syntax.specs.Errors.{kind_of}
+use Rattle.minijinja_syntax.specs.declared.error.Error.{Error}
+use Rattle.minijinja_syntax.specs.declared.error.ErrorKind.TheVariants.{OutOfMemory}
+use Rattle.minijinja_syntax.specs.Tokens.{Tok}
 use Rattle.minijinja_lexer.specs.Stream.{SpannedTok}
 use Rattle.minijinja_grammar.specs.Words.{is}
 use Rattle.minijinja_grammar.specs.Readers.{read_map}

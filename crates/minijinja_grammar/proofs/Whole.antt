@@ -1,6 +1,7 @@
 -- What the grammar derives is what is read, at every depth. So the tokens have one tree at most.
 use Rattle.std.proofs.Common.{◌≡◌, ℕ, zero, suc, [], ◌∷◌, Option, Some, None, refl, ap}
-use Rattle.minijinja_base.specs.Values.{Text, Functions}
+use Rattle.minijinja_syntax.specs.Texts.{Text}
+use Rattle.minijinja_value.specs.Values.{Functions}
 use Rattle.minijinja_tree.specs.Tree.{Expr}
 use Rattle.minijinja_grammar.specs.Words.{or_op, and_op, sum_op, cat_op, term_op, pow_op, begins_primary, begins_expr, begins_suffix}
 use Rattle.minijinja_grammar.specs.Rules.{Rule}

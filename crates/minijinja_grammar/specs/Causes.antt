@@ -1,8 +1,8 @@
 -- Why a text is refused.
 use Rattle.std.specs.Prelude.{◌≡◌, ◌⊎◌}
-use Rattle.minijinja_base.specs.Errors.{kind_of}
-use Rattle.minijinja_base.specs.declared.error.Error.{Error}
-use Rattle.minijinja_base.specs.declared.error.ErrorKind.TheVariants.{BadEscape, OutOfMemory, SourceTooLong, SyntaxError}
+use Rattle.minijinja_syntax.specs.Errors.{kind_of}
+use Rattle.minijinja_syntax.specs.declared.error.Error.{Error}
+use Rattle.minijinja_syntax.specs.declared.error.ErrorKind.TheVariants.{BadEscape, OutOfMemory, SourceTooLong, SyntaxError}
 
 -- memory ran out, or the source is too long
 abbrev pub IsLimit : Error → Type 0

@@ -2,9 +2,10 @@
 -- functions alone, and need not be believed.
 use Rattle.std.specs.Prelude as prelude
 use Rattle.std.specs.Prelude.{ℕ, List, [], ◌∷◌, Option, Some, None, if◌then◌else◌}
-use Rattle.minijinja_base.specs.Tokens.{Tok, dot, ident, int, int128, brace_close, bracket_close, paren_open, paren_close}
-use Rattle.minijinja_base.specs.declared.tokens.Span.{Span}
-use Rattle.minijinja_base.specs.Values.{Text, Functions}
+use Rattle.minijinja_syntax.specs.Tokens.{Tok, dot, ident, int, int128, brace_close, bracket_close, paren_open, paren_close}
+use Rattle.minijinja_syntax.specs.declared.tokens.Span.{Span}
+use Rattle.minijinja_syntax.specs.Texts.{Text}
+use Rattle.minijinja_value.specs.Values.{Functions}
 use Rattle.minijinja_tree.specs.CompareOps.{CompareOp}
 use Rattle.minijinja_tree.specs.Tree as tree
 use Rattle.minijinja_tree.specs.Tree.{Expr, binary, if_expr, tuple}

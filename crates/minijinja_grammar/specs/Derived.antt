@@ -1,7 +1,8 @@
 -- Which trees a text has.
 use Rattle.std.specs.Prelude.{◌≡◌}
-use Rattle.minijinja_base.specs.Values.{Text, Functions}
-use Rattle.minijinja_base.specs.Syntax.{Syntax}
+use Rattle.minijinja_syntax.specs.Texts.{Text}
+use Rattle.minijinja_value.specs.Values.{Functions}
+use Rattle.minijinja_syntax.specs.Syntax.{Syntax}
 use Rattle.minijinja_lexer.specs.Stream.{Stream, finished}
 use Rattle.minijinja_lexer.specs.TextTokens.{text_of, tokens_of_template, tokens_of_expression}
 use Rattle.minijinja_tree.specs.Tree.{Expr, Stmt}

@@ -1,9 +1,9 @@
 -- What a private function of the parser returns, in terms of reading. These definitions need not be believed: the public
 -- clauses rest on what is proved of them.
 use Rattle.std.specs.Prelude.{◌≡◌, ◌≢◌, Option, Some, None, Result, Ok, Err}
-use Rattle.minijinja_base.specs.Errors.{kind_of, span_of}
-use Rattle.minijinja_base.specs.declared.error.Error.{Error}
-use Rattle.minijinja_base.specs.declared.error.ErrorKind.TheVariants.{BadEscape, OutOfMemory, SyntaxError}
+use Rattle.minijinja_syntax.specs.Errors.{kind_of, span_of}
+use Rattle.minijinja_syntax.specs.declared.error.Error.{Error}
+use Rattle.minijinja_syntax.specs.declared.error.ErrorKind.TheVariants.{BadEscape, OutOfMemory, SyntaxError}
 use Rattle.minijinja_lexer.specs.Stream.{Stream, Ending, finished, refused}
 use Rattle.minijinja_grammar.specs.Grammar.{Tokens}
 use Rattle.minijinja_grammar.specs.Ahead.{Ahead, left}

@@ -6,15 +6,16 @@
 -- the source from the start of its first part to the end of its last one, whatever stands between them. No other rule looks at
 -- a span.
 use Rattle.std.specs.Prelude.{◌≡◌, ℕ, zero, suc, ◌<◌, List, [], ◌∷◌, ◌++◌, map, length, Bool, true, false, ◌&&◌, ◌||◌, Option, Some, None, is_some, codes}
-use Rattle.minijinja_base.specs.Values.{Text, Functions}
-use Rattle.minijinja_base.specs.Positions.{slice}
-use Rattle.minijinja_base.specs.declared.tokens.Span.{Span}
+use Rattle.minijinja_syntax.specs.Texts.{Text}
+use Rattle.minijinja_value.specs.Values.{Functions}
+use Rattle.minijinja_syntax.specs.Positions.{slice}
+use Rattle.minijinja_syntax.specs.declared.tokens.Span.{Span}
 use Rattle.minijinja_lexer.specs.Stream.{SpannedTok}
 use Rattle.minijinja_tree.specs.BinOps as bin
 use Rattle.minijinja_tree.specs.BinOps.{BinOp}
 use Rattle.minijinja_tree.specs.CompareOps as cmp
 use Rattle.minijinja_tree.specs.CompareOps.{CompareOp}
-use Rattle.minijinja_base.specs.Tokens.{Tok, ident, minus, mul, pow, dot, comma, colon, assign, pipe, bracket_open, bracket_close, paren_open, paren_close, brace_open, brace_close}
+use Rattle.minijinja_syntax.specs.Tokens.{Tok, ident, minus, mul, pow, dot, comma, colon, assign, pipe, bracket_open, bracket_close, paren_open, paren_close, brace_open, brace_close}
 use Rattle.minijinja_tree.specs.Tree as tree
 use Rattle.minijinja_tree.specs.Tree.{logical_not, negation, Expr, variable, constant, unary, binary, compare, if_expr, filter, test, attribute, item, call, list, tuple, absent, present}
 use Rattle.minijinja_grammar.specs.Lists.{Arg, positional, starred, keyword, double_starred, optional_of, exprs_of, comparisons_of, args_of, given_args}

@@ -10,9 +10,9 @@ pub mod TemplateReading
 pub mod Marks
 pub mod Depth
 pub mod Ahead
-pub mod AtTokenStream
 pub mod Gives
 pub mod Causes
 pub mod NodeSpans
 pub mod Over
 pub mod Views
+pub mod private

@@ -1,8 +1,8 @@
 -- The tokens, starts and operators that the code tests for. These definitions specify functions that the parser alone calls, and
 -- need not be believed.
 use Rattle.std.specs.Prelude.{Bool, Option, is_some}
-use Rattle.minijinja_base.specs.Tokens as tok
-use Rattle.minijinja_base.specs.Tokens.{Tok}
+use Rattle.minijinja_syntax.specs.Tokens as tok
+use Rattle.minijinja_syntax.specs.Tokens.{Tok}
 use Rattle.minijinja_tree.specs.BinOps.{BinOp}
 use Rattle.minijinja_grammar.specs.Words as words
 use Rattle.minijinja_grammar.specs.declared.marks.Mark.{Mark}

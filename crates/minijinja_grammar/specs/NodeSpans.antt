@@ -1,7 +1,7 @@
 -- Where nodes stand among the tokens of their text.
 use Rattle.std.specs.Prelude.{◌≡◌, List, Contains}
-use Rattle.minijinja_base.specs.Tokens.{ident, template_data}
-use Rattle.minijinja_base.specs.declared.tokens.Span.{Span}
+use Rattle.minijinja_syntax.specs.Tokens.{ident, template_data}
+use Rattle.minijinja_syntax.specs.declared.tokens.Span.{Span}
 use Rattle.minijinja_lexer.specs.Stream.{SpannedTok}
 use Rattle.minijinja_tree.specs.Nodes.{node_of, span_of}
 use Rattle.minijinja_tree.specs.declared.ast.CallArg.TheBlock as block

@@ -1,14 +1,15 @@
 -- Reading from the left, with one token in view and no going back: the tree, and the place behind it. These definitions
 -- specify private functions alone, and need not be believed: what is read is proved to be what the grammar derives.
 use Rattle.std.specs.Prelude.{ℕ, zero, suc, List, [], ◌∷◌, ◌++◌, map, length, Bool, true, false, ◌&&◌, not, nat_lt, if◌then◌else◌, Option, Some, None}
-use Rattle.minijinja_base.specs.Values.{Text, Functions}
-use Rattle.minijinja_base.specs.Positions.{slice}
-use Rattle.minijinja_base.specs.declared.tokens.Span.{Span}
+use Rattle.minijinja_syntax.specs.Texts.{Text}
+use Rattle.minijinja_value.specs.Values.{Functions}
+use Rattle.minijinja_syntax.specs.Positions.{slice}
+use Rattle.minijinja_syntax.specs.declared.tokens.Span.{Span}
 use Rattle.minijinja_lexer.specs.Stream.{SpannedTok}
 use Rattle.minijinja_tree.specs.BinOps.{BinOp}
 use Rattle.minijinja_tree.specs.CompareOps as cmp
 use Rattle.minijinja_tree.specs.CompareOps.{CompareOp}
-use Rattle.minijinja_base.specs.Tokens.{Tok, ident, str, string, int, int128, minus, mul, pow, dot, comma, colon, assign, pipe, bracket_open, bracket_close, paren_open, paren_close, brace_open, brace_close}
+use Rattle.minijinja_syntax.specs.Tokens.{Tok, ident, str, string, int, int128, minus, mul, pow, dot, comma, colon, assign, pipe, bracket_open, bracket_close, paren_open, paren_close, brace_open, brace_close}
 use Rattle.minijinja_tree.specs.Tree as tree
 use Rattle.minijinja_tree.specs.Tree.{logical_not, negation, Expr, variable, constant, unary, binary, if_expr, filter, test, attribute, item, call, list, tuple, absent, present}
 use Rattle.minijinja_grammar.specs.Lists.{Arg, positional, starred, keyword, double_starred, optional_of, exprs_of, args_of, given_args}

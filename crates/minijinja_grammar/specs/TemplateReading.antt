@@ -1,8 +1,9 @@
 -- Reading templates from the left, over the reading of expressions. These definitions specify private functions alone, and need
 -- not be believed: what is read is proved to be what the grammar derives.
 use Rattle.std.specs.Prelude.{List, [], ◌∷◌, not, if◌then◌else◌, Option, Some, None}
-use Rattle.minijinja_base.specs.Values.{Text, Functions}
-use Rattle.minijinja_base.specs.Tokens.{template_data, variable_start, variable_end, block_start, block_end, assign}
+use Rattle.minijinja_syntax.specs.Texts.{Text}
+use Rattle.minijinja_value.specs.Values.{Functions}
+use Rattle.minijinja_syntax.specs.Tokens.{template_data, variable_start, variable_end, block_start, block_end, assign}
 use Rattle.minijinja_tree.specs.Tree.{Expr, variable, Stmt, template, data_text, output, assignment, stmts_of}
 use Rattle.minijinja_grammar.specs.Words.{is_reserved, set_word}
 use Rattle.minijinja_grammar.specs.Readers.{Reader, and_then, read_map, when, loop, also}

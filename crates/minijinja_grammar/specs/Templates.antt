@@ -1,9 +1,10 @@
 -- The grammar of templates, over that of expressions. The parts of a rule stand in their order, and each begins where the one
 -- before it ends.
 use Rattle.std.specs.Prelude.{◌≡◌, ℕ, zero, suc, List, [], Bool, true, false}
-use Rattle.minijinja_base.specs.Values.{Text, Functions}
-use Rattle.minijinja_base.specs.Tokens.{variable_start, variable_end, block_start, block_end, assign}
-use Rattle.minijinja_base.specs.declared.tokens.Span.{Span}
+use Rattle.minijinja_syntax.specs.Texts.{Text}
+use Rattle.minijinja_value.specs.Values.{Functions}
+use Rattle.minijinja_syntax.specs.Tokens.{variable_start, variable_end, block_start, block_end, assign}
+use Rattle.minijinja_syntax.specs.declared.tokens.Span.{Span}
 use Rattle.minijinja_tree.specs.Tree.{Expr, variable, Stmt, template, data_text, output, assignment, stmts_of}
 use Rattle.minijinja_grammar.specs.Rules.{Rule, Row, Nothing}
 use Rattle.minijinja_grammar.specs.Words.{data_of, is_reserved, set_word}

@@ -1,7 +1,7 @@
 //! Laws of the definitions.
 ghost use Rattle.std.specs.Prelude.{◌≡◌};
-ghost use Rattle.minijinja_base.specs.Syntax.{Syntax};
-ghost use Rattle.minijinja_base.specs.Values.{Text};
+ghost use Rattle.minijinja_syntax.specs.Syntax.{Syntax};
+ghost use Rattle.minijinja_syntax.specs.Texts.{Text};
 ghost use Rattle.minijinja_tree.specs.Tree.{Expr, Stmt};
 ghost use Rattle.minijinja_tree.specs.WellFormed.{IsWellFormed, IsWhole};
 ghost use Rattle.minijinja_grammar.specs.Derived.{IsDerived, IsExprDerived};

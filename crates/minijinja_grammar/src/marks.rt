@@ -1,7 +1,7 @@
 //! What a token is to the grammar.
 ghost use Rattle.std.specs.Prelude.{◌≡◌};
 ghost use Rattle.std.specs.Option.{option_map};
-ghost use Rattle.minijinja_base.specs.Tokens.{tok_of};
+ghost use Rattle.minijinja_syntax.specs.Tokens.{tok_of};
 ghost use Rattle.minijinja_tree.specs.Erasure.{bin_op, compare_op};
 ghost use Rattle.minijinja_grammar.specs.Marks.{begins, level_op, mark_tok};
 ghost use Rattle.minijinja_grammar.specs.Words as words;

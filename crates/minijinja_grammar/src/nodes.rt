@@ -1,7 +1,7 @@
 //! Nodes, each on the heap. Refused memory is the only error.
 ghost use Rattle.std.specs.Prelude.{◌≡◌, ◌≤◌, length, map, Contains, IfOk, Some, None};
 ghost use Rattle.std.specs.Option.{option_map};
-ghost use Rattle.minijinja_base.specs.Tokens.{ident, template_data};
+ghost use Rattle.minijinja_syntax.specs.Tokens.{ident, template_data};
 ghost use Rattle.minijinja_tree.specs.Erasure.{bin_op, compare_op, expr_tree, stmt_tree, unary_op};
 ghost use Rattle.minijinja_tree.specs.ExprSpans.{expr_span};
 ghost use Rattle.minijinja_tree.specs.Nodes.{node_of, span_of};

@@ -1,8 +1,8 @@
 //! The tokens of a template, with the next one in view.
 ghost use Rattle.std.specs.Prelude.{◌≡◌, ◌≢◌, ◌<◌, ◌^◌, length, IfErr, IfOk, MatchResult, Ok, if◌then◌else◌};
 ghost use Rattle.std.specs.Option.{option_map};
-ghost use Rattle.minijinja_base.specs.Errors.{kind_of, span_of};
-ghost use Rattle.minijinja_base.specs.declared.error.ErrorKind.TheVariants.{OutOfMemory};
+ghost use Rattle.minijinja_syntax.specs.Errors.{kind_of, span_of};
+ghost use Rattle.minijinja_syntax.specs.declared.error.ErrorKind.TheVariants.{OutOfMemory};
 ghost use Rattle.minijinja_lexer.specs.Stream.{IsTokenizerKind, ended, out_of_memory, refused};
 ghost use Rattle.minijinja_lexer.specs.TextTokens.{text_of, tokens_of_template, tokens_of_expression};
 ghost use Rattle.minijinja_tree.specs.Erasure.{bin_op, compare_op};
@@ -38,7 +38,7 @@ impl<'s, 'c> Model for TokenStream<'s, 'c> {
 
     ghost Value = { Ahead };
 
-    ghost use Rattle.minijinja_grammar.specs.AtTokenStream.{stream_view, IsStream};
+    ghost use Rattle.minijinja_grammar.specs.private.AtTokenStream.{stream_view, IsStream};
 
     ghost view = { stream_view };
 

@@ -1,8 +1,8 @@
 -- What a parser says of itself.
 use Rattle.std.specs.Prelude.{◌≡◌, Option}
-use Rattle.minijinja_base.specs.Values.{Text}
-use Rattle.minijinja_base.specs.declared.tokens.Span.{Span}
-use Rattle.minijinja_base.specs.declared.error.ErrorKind.{ErrorKind}
+use Rattle.minijinja_syntax.specs.Texts.{Text}
+use Rattle.minijinja_syntax.specs.declared.tokens.Span.{Span}
+use Rattle.minijinja_syntax.specs.declared.error.ErrorKind.{ErrorKind}
 use Rattle.minijinja_lexer.specs.Stream.{Stream, ended, finished, refused}
 use Rattle.minijinja_grammar.specs.Ahead.{Ahead}
 use Rattle.minijinja_parser.specs.declared.parser.Parser.{Parser}

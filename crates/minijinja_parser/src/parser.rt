@@ -1,8 +1,8 @@
 //! From the tokens of a template to its tree.
 ghost use Rattle.std.specs.Prelude.{◌≡◌, ◌≢◌, ◌<◌, ◌≤◌, ◌^◌, ◌⊎◌, [], codes, length, IfErr, IfOk, IsErrAnd, MatchResult, if◌then◌else◌};
-ghost use Rattle.minijinja_base.specs.Errors.{kind_of, span_of};
-ghost use Rattle.minijinja_base.specs.Syntax.{default_syntax};
-ghost use Rattle.minijinja_base.specs.declared.error.ErrorKind.TheVariants.{BadEscape, OutOfMemory, SourceTooLong, SyntaxError};
+ghost use Rattle.minijinja_syntax.specs.Errors.{kind_of, span_of};
+ghost use Rattle.minijinja_syntax.specs.Syntax.{default_syntax};
+ghost use Rattle.minijinja_syntax.specs.declared.error.ErrorKind.TheVariants.{BadEscape, OutOfMemory, SourceTooLong, SyntaxError};
 ghost use Rattle.minijinja_lexer.specs.Stream.{IsNamed, IsTokenizerKind, finished, refused};
 ghost use Rattle.minijinja_lexer.specs.TextTokens.{text_of, tokens_of_template, tokens_of_expression};
 ghost use Rattle.minijinja_tree.specs.Erasure.{expr_tree, stmt_tree};

@@ -2,8 +2,8 @@
 use Rattle.std.proofs.Common.{◌≡◌, ℕ, ◌+◌, ◌<◌, List, [], ◌∷◌, ◌++◌, length, map, drop, get_or, refl, sym, ap, ap₂, ◌∙◌, append_assoc}
 use Rattle.std.specs.Prelude.{Option, Some, None, zip}
 use Rattle.std.proofs.lemmas.List.{at_drop_more, map-append, append-nil}
-use Rattle.minijinja_base.specs.Values.{Functions}
-use Rattle.minijinja_base.specs.Outcomes.{map_pairs}
+use Rattle.minijinja_value.specs.Values.{Functions}
+use Rattle.minijinja_value.specs.Outcomes.{map_pairs}
 use Rattle.minijinja_tree.specs.Tree.{Exprs, more, list, tuple, map as mapping}
 use Rattle.minijinja_tree.specs.Erasure.{expr_tree, exprs_of, compare_tree}
 use Rattle.minijinja_tree.specs.Folding.{if_some, constant_node, constants, fold}

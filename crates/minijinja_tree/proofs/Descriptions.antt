@@ -4,7 +4,7 @@ use Rattle.minijinja_tree.specs.Erasure.{compare_tree}
 use Rattle.minijinja_tree.specs.Descriptions.{description}
 use Rattle.minijinja_tree.specs.Callees.{callee, callee_of_attribute, object, method}
 use Rattle.minijinja_tree.specs.declared.ast.CallArg.TheBlock as block
-use Rattle.minijinja_base.specs.Values.{Text}
+use Rattle.minijinja_syntax.specs.Texts.{Text}
 use Rattle.minijinja_tree.specs.Erasure.{expr_tree}
 use Rattle.minijinja_tree.specs.declared.ast.Expr.{Expr}
 use Rattle.minijinja_tree.specs.declared.ast.Expr.TheVariants as expr

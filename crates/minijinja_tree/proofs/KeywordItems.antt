@@ -4,8 +4,9 @@ use Rattle.std.specs.Prelude.{Option, Some, None, true, false, ◌==◌}
 use Rattle.std.proofs.lemmas.Bool.Decides.{nat_tests}
 use Rattle.std.specs.Borrow.{Bor}
 use Rattle.std.proofs.lemmas.List.{at_drop_more, at_drop_all, map-append, length-map}
-use Rattle.minijinja_base.specs.Values.{Functions, Text}
-use Rattle.minijinja_base.specs.Outcomes.{map_pairs}
+use Rattle.minijinja_syntax.specs.Texts.{Text}
+use Rattle.minijinja_value.specs.Values.{Functions}
+use Rattle.minijinja_value.specs.Outcomes.{map_pairs}
 use Rattle.minijinja_tree.specs.Erasure.{expr_tree, arg_tree, args_of}
 use Rattle.minijinja_tree.specs.Folding.{constant_node, constant_keywords, fold_keywords}
 use Rattle.minijinja_tree.specs.declared.ast.CallArg.{CallArg, Kwarg, KwargSplat}

@@ -6,7 +6,7 @@ use Rattle.std.proofs.lemmas.Bool.Decides.{nat_tests}
 use Rattle.minijinja_tree.specs.Tree.{Args, no_args}
 use Rattle.minijinja_tree.specs.Erasure.{expr_tree, compare_tree, arg_tree, exprs_of, args_of, comparisons_of}
 use Rattle.minijinja_tree.specs.WellFormed.{expr_count, arg_count}
-use Rattle.minijinja_tree.specs.WellFormedTests.{is_chain, is_whole, are_arguments, is_target}
+use Rattle.minijinja_tree.specs.private.WellFormedTests.{is_chain, is_whole, are_arguments, is_target}
 use Rattle.minijinja_tree.specs.declared.ast.CallArg.TheBlock as block
 use Rattle.minijinja_tree.specs.declared.ast.Expr.TheVariants as expr
 use Rattle.minijinja_tree.specs.declared.ast.CallArg.{CallArg, Pos, Kwarg, PosSplat, KwargSplat}

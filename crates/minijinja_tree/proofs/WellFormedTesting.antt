@@ -4,7 +4,7 @@ use Rattle.std.specs.Prelude.{Bool, ◌&&◌, ◌==◌, ◌↔◌, nat_le, IsTru
 use Rattle.std.proofs.lemmas.Bool.Decides.{nat_tests}
 use Rattle.minijinja_tree.specs.Tree.{Expr, variable, constant, slice, unary, binary, compare, if_expr, filter, test, attribute, item, call, list, tuple, map, Optional, absent, present, Exprs, no_more, more, Comparisons, compared, against, Args, no_args, pos, pos_splat, kwarg, kwarg_splat, Stmt, template, data_text, output, assignment, Stmts, done, also}
 use Rattle.minijinja_tree.specs.WellFormed.{most_arguments, expr_count, arg_count, IsChain, IsWhole, IsWholeIfAny, AreWhole, AreCompared, AreArguments, IsTarget, IsInner, AreInner, IsWellFormed}
-use Rattle.minijinja_tree.specs.WellFormedTests.{is_chain, is_whole, is_whole_if_any, are_whole, are_compared, are_arguments, is_target, is_inner, are_inner, is_well_formed}
+use Rattle.minijinja_tree.specs.private.WellFormedTests.{is_chain, is_whole, is_whole_if_any, are_whole, are_compared, are_arguments, is_target, is_inner, are_inner, is_well_formed}
 
 -- both hold
 both : (a b : Bool) → IsTrue a → IsTrue b → IsTrue (a && b)

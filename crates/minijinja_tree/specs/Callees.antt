@@ -1,7 +1,7 @@
 -- What a call calls.
 use Rattle.std.specs.Prelude.{codes, if◌then◌else◌}
 use Rattle.std.specs.Str.{bytes_eq}
-use Rattle.minijinja_base.specs.Values.{Text}
+use Rattle.minijinja_syntax.specs.Texts.{Text}
 use Rattle.minijinja_tree.specs.Tree.{Expr, variable, attribute}
 
 -- a function by its name, a method of an object, a block by its name, or what an expression gives

@@ -1,6 +1,6 @@
 -- What an expression is called in messages.
 use Rattle.std.specs.Prelude.{codes}
-use Rattle.minijinja_base.specs.Values.{Text}
+use Rattle.minijinja_syntax.specs.Texts.{Text}
 use Rattle.minijinja_tree.specs.Tree.{Expr, variable, constant, filter, test, call, list, tuple, map}
 
 abbrev pub description : {C : Type 0} → Expr C → Text

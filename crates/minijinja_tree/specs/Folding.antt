@@ -1,8 +1,8 @@
 -- Which trees stand for a constant that is known before the template runs.
 use Rattle.std.specs.Prelude.{◌≡◌, Bool, true, false, not, List, [], ◌∷◌, Option, Some, None, Result, Ok, Err, if◌then◌else◌, zip}
-use Rattle.minijinja_base.specs.Values.{Functions}
-use Rattle.minijinja_base.specs.declared.value.OpError.{OpError}
-use Rattle.minijinja_base.specs.declared.value.OpError.TheVariants.{OutOfMemory, Fault}
+use Rattle.minijinja_value.specs.Values.{Functions}
+use Rattle.minijinja_value.specs.declared.value.OpError.{OpError}
+use Rattle.minijinja_value.specs.declared.value.OpError.TheVariants.{OutOfMemory, Fault}
 use Rattle.minijinja_tree.specs.Operators.{Working, Makes, Divides, IfTrue, IfFalse, working, compute}
 use Rattle.minijinja_tree.specs.Comparisons.{compares}
 use Rattle.minijinja_tree.specs.Tree.{UnaryOp, logical_not, negation, Expr, constant, list, tuple, map, unary, binary, compare, Exprs, no_more, more, Comparisons, compared, against, Args, no_args, pos, pos_splat, kwarg, kwarg_splat}

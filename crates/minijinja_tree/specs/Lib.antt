@@ -7,8 +7,8 @@ pub mod Operators
 pub mod Folding
 pub mod Erasure
 pub mod WellFormed
-pub mod WellFormedTests
 pub mod Descriptions
 pub mod ExprSpans
 pub mod Callees
 pub mod CallTypes
+pub mod private

@@ -1,5 +1,5 @@
 -- A node and where it stands.
-use Rattle.minijinja_base.specs.declared.tokens.Span.{Span}
+use Rattle.minijinja_syntax.specs.declared.tokens.Span.{Span}
 use Rattle.minijinja_tree.specs.declared.ast.Spanned.{Spanned}
 
 abbrev pub node_of : {T : Type 0} → Spanned T → T

@@ -1,6 +1,6 @@
 -- What operators of two sides do.
 use Rattle.std.specs.Prelude.{not, Result, Ok}
-use Rattle.minijinja_base.specs.Values.{Functions}
+use Rattle.minijinja_value.specs.Values.{Functions}
 use Rattle.minijinja_tree.specs.BinOps.{BinOp, eq, ne, lt, lte, gt, gte, sc_and, sc_or, add, sub, mul, div, floor_div, rem, pow, concat, is_in}
 use Rattle.minijinja_tree.specs.Comparisons.{is_less, is_greater, is_at_most, is_at_least, on_ok}
 

@@ -1,6 +1,6 @@
 -- Trees without spans, over what values hold.
 use Rattle.std.specs.Prelude.{List, [], ◌∷◌}
-use Rattle.minijinja_base.specs.Values.{Text}
+use Rattle.minijinja_syntax.specs.Texts.{Text}
 use Rattle.minijinja_tree.specs.BinOps.{BinOp}
 use Rattle.minijinja_tree.specs.CompareOps.{CompareOp}
 

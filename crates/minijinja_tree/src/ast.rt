@@ -1,6 +1,6 @@
 //! The nodes of a template's tree. Each borrows the source alone.
 ghost use Rattle.std.specs.Prelude.{◌≡◌, IfErr, IfOk};
-ghost use Rattle.minijinja_base.specs.Errors.{IsOutOfMemory};
+ghost use Rattle.minijinja_syntax.specs.Errors.{IsOutOfMemory};
 ghost use Rattle.minijinja_tree.specs.Nodes.{node_of, span_of};
 
 use minijinja_base::error::Error;

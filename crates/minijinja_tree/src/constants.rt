@@ -1,7 +1,7 @@
 //! Expressions whose value is known before a template runs.
 ghost use Rattle.std.specs.Prelude.{◌≡◌, IfErr, IfOk, map, zip};
 ghost use Rattle.std.specs.Option.{option_map};
-ghost use Rattle.minijinja_base.specs.Errors.{IsOutOfMemory};
+ghost use Rattle.minijinja_syntax.specs.Errors.{IsOutOfMemory};
 ghost use Rattle.minijinja_tree.specs.Erasure.{unary_op, bin_op, expr_tree, exprs_of, compare_tree, comparisons_of, args_of};
 ghost use Rattle.minijinja_tree.specs.Folding.{fold, fold_chain, fold_keywords, constants, constant_node, constant_keywords};
 ghost use Rattle.minijinja_tree.specs.Tree as tree;

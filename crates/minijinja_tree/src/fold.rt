@@ -1,7 +1,7 @@
 //! What operators make of constants before a template runs.
 ghost use Rattle.std.specs.Prelude.{◌≡◌, IfErr, IfOk};
 ghost use Rattle.std.specs.Option.{option_map};
-ghost use Rattle.minijinja_base.specs.Errors.{IsOutOfMemory};
+ghost use Rattle.minijinja_syntax.specs.Errors.{IsOutOfMemory};
 ghost use Rattle.minijinja_tree.specs.Comparisons as spec;
 ghost use Rattle.minijinja_tree.specs.Erasure.{unary_op, bin_op, compare_op};
 ghost use Rattle.minijinja_tree.specs.Folding.{fold_unary, fold_binary, unless_fault, IsWithoutFault};

@@ -4,6 +4,4 @@
 pub mod ast;
 pub mod constants;
 pub mod fold;
-#[cfg(test)]
-mod tests;
 mod well_formed;

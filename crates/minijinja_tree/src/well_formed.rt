@@ -4,7 +4,7 @@ ghost use Rattle.minijinja_tree.specs.Erasure.{expr_tree, optional_of, exprs_of,
 ghost use Rattle.minijinja_tree.specs.Tree as tree;
 ghost use Rattle.minijinja_tree.specs.Tree.{stmts_of};
 ghost use Rattle.minijinja_tree.specs.WellFormed.{IsWhole, IsWellFormed, most_arguments, arg_count, expr_count};
-ghost use Rattle.minijinja_tree.specs.WellFormedTests as tests;
+ghost use Rattle.minijinja_tree.specs.private.WellFormedTests as tests;
 ghost use Rattle.minijinja_tree.specs.declared.ast.Compare.{out-Compare};
 
 use crate::ast::{

@@ -2,8 +2,8 @@
 use Rattle.std.specs.Prelude.{◌≡◌, ◌⊎◌, List, [], ◌∷◌, ◌++◌, false, nat_eq, codes}
 use Rattle.std.specs.List.{starts_with, flat_map}
 use Rattle.std.specs.Borrow.{Bor}
-use Rattle.minijinja_base.specs.Values.{Text}
-use Rattle.minijinja_base.specs.Syntax.{IsBuildable}
+use Rattle.minijinja_syntax.specs.Texts.{Text}
+use Rattle.minijinja_syntax.specs.Syntax.{IsBuildable}
 use Rattle.mjc.specs.Settings.{Setting, texts, words_of, syntax_of, syntax_with}
 use Rattle.mjc.specs.declared.usage.Action.{Action}
 use Rattle.mjc.specs.declared.usage.Action.TheVariants.{Tokens, Code}

@@ -53,8 +53,8 @@ pub struct Options<'a> {
 
 impl<'a> Options<'a> {
     ghost use Rattle.std.specs.Prelude.{◌≡◌, ◌⊎◌, ◌<◌, length, ◌≤◌, Some, IfOk, IfErr, IfSome, IsErrAnd};
-    ghost use Rattle.minijinja_base.specs.Syntax.{IsBuildable, default_syntax};
-    ghost use Rattle.minijinja_base.specs.Errors.{IsOutOfMemory, IsInvalidDelimiter};
+    ghost use Rattle.minijinja_syntax.specs.Syntax.{IsBuildable, default_syntax};
+    ghost use Rattle.minijinja_syntax.specs.Errors.{IsOutOfMemory, IsInvalidDelimiter};
     ghost use Rattle.mjc.specs.Settings.{texts, syntax_of, Takes, first_setting, setting_of};
 
     /// Those of no option: the syntax of Jinja2.

@@ -2,7 +2,7 @@
 ghost use Rattle.std.specs.Prelude.{◌≡◌, ◌≤◌, IfOk, IfSome, IsErr, IsErrAnd, IsErrOf, OnOk, string_bytes};
 ghost use Rattle.std.specs.Io.KnownBytes.{IsAtEnd};
 ghost use Rattle.mjc.specs.Settings.{syntax_with};
-ghost use Rattle.minijinja_base.specs.Syntax.{IsBuildable};
+ghost use Rattle.minijinja_syntax.specs.Syntax.{IsBuildable};
 ghost use Rattle.mjc.specs.Usage.{IsUsage, IsFileUsage, IsExprUsage, IsUnbuildable, IsCommandFor, Request, Asks};
 ghost use Rattle.mjc.specs.Reading.{IsNoText};
 ghost use Rattle.mjc.specs.Fault.{status_of};

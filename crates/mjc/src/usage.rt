@@ -1,7 +1,7 @@
 //! The words that `mjc` takes.
 ghost use Rattle.std.specs.Prelude.{◌≡◌, ◌≤◌, ◌↔◌, length, drop, List, [], ◌∷◌, IsSome, IfSome, IsSomeAnd, IsNone};
 ghost use Rattle.std.specs.List.{fold};
-ghost use Rattle.minijinja_base.specs.Values.{Text};
+ghost use Rattle.minijinja_syntax.specs.Texts.{Text};
 ghost use Rattle.mjc.specs.Settings.{Setting, texts, syntax_of, with_setting};
 ghost use Rattle.mjc.specs.Usage.{IsUsage, IsFileUsage, IsExprUsage, Request, Asks, AsksExpr, IsCommandFor, IsFileCommandFor, IsExprCommandFor, IsFile, option_words};
 

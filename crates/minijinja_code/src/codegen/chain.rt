@@ -1,12 +1,12 @@
 //! Instructions of chains of comparisons.
 ghost use Rattle.std.specs.Prelude.{◌≡◌, ◌+◌, ◌<◌, ◌++◌, ◌∷◌, [], List, Option, Some, length, drop, IfOk, IfErr, OnOk};
 ghost use Rattle.std.specs.Option.{option_map};
-ghost use Rattle.minijinja_base.specs.Errors.{IsOutOfMemory};
+ghost use Rattle.minijinja_syntax.specs.Errors.{IsOutOfMemory};
 ghost use Rattle.minijinja_tree.specs.Erasure.{expr_tree, compare_op, compare_tree, comparisons_of};
 ghost use Rattle.minijinja_tree.specs.WellFormed.{IsWhole, AreCompared};
 ghost use Rattle.minijinja_tree.specs.declared.ast.Compare.{out-Compare};
 ghost use Rattle.minijinja_code.specs.Code.{Instr, CompareAndPreserve, JumpIfFalseOrPop};
-ghost use Rattle.minijinja_code.specs.Comparing.{jumping, AreBelow, ahead, behind_one, Leads, leaving, Closes, Holds, loaded, known};
+ghost use Rattle.minijinja_code.specs.private.Comparing.{jumping, AreBelow, ahead, behind_one, Leads, leaving, Closes, Holds, loaded, known};
 ghost use Rattle.minijinja_code.specs.Layout as layout;
 ghost use Rattle.minijinja_code.specs.Layout.{comparison};
 ghost use Rattle.minijinja_code.specs.Making.{made_of, here_of, followed, Adds, Refuses};

@@ -1,6 +1,6 @@
 //! The instructions of a unit that is being made.
 ghost use Rattle.std.specs.Prelude.{◌≡◌, ◌+◌, ◌≤◌, ◌<◌, map, [], ◌∷◌, length, take, slice_get, slice_set, Some, IfOk, IfErr, OnOk};
-ghost use Rattle.minijinja_base.specs.Errors.{IsOutOfMemory};
+ghost use Rattle.minijinja_syntax.specs.Errors.{IsOutOfMemory};
 ghost use Rattle.minijinja_code.specs.Code.{Load};
 ghost use Rattle.minijinja_code.specs.Instructions.{instr_of};
 ghost use Rattle.minijinja_code.specs.Making.{made_of, here_of, texts_of, followed, hole, Adds, Refuses};

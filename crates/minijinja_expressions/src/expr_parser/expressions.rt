@@ -1,7 +1,7 @@
 //! Expressions: a function for each rule of the grammar. `depth` says how deep expressions and primaries may still nest, and
 //! `span` starts where the node that is being read will.
 ghost use Rattle.std.specs.Prelude.{◌≤◌, length, Contains, IfErr, IfOk};
-ghost use Rattle.minijinja_base.specs.Tokens.{tok_of};
+ghost use Rattle.minijinja_syntax.specs.Tokens.{tok_of};
 ghost use Rattle.minijinja_tree.specs.Erasure.{compare_op, expr_tree};
 ghost use Rattle.minijinja_grammar.specs.Ahead.{left};
 ghost use Rattle.minijinja_grammar.specs.Depth as spec;

@@ -1,11 +1,11 @@
 //! The parts of expressions in which no expression is nested.
 ghost use Rattle.std.specs.Prelude.{◌≡◌, ◌<◌, ◌++◌, ◌&&◌, length, true, false, Contains, IfErr, IfOk, Some, if◌then◌else◌};
 ghost use Rattle.std.specs.String.{string_bytes};
-ghost use Rattle.minijinja_base.specs.Errors.{kind_of};
-ghost use Rattle.minijinja_base.specs.Positions.{slice};
-ghost use Rattle.minijinja_base.specs.Tokens as tok;
-ghost use Rattle.minijinja_base.specs.Tokens.{brace_close, comma, ident};
-ghost use Rattle.minijinja_base.specs.declared.error.ErrorKind.TheVariants.{OutOfMemory, SyntaxError};
+ghost use Rattle.minijinja_syntax.specs.Errors.{kind_of};
+ghost use Rattle.minijinja_syntax.specs.Positions.{slice};
+ghost use Rattle.minijinja_syntax.specs.Tokens as tok;
+ghost use Rattle.minijinja_syntax.specs.Tokens.{brace_close, comma, ident};
+ghost use Rattle.minijinja_syntax.specs.declared.error.ErrorKind.TheVariants.{OutOfMemory, SyntaxError};
 ghost use Rattle.minijinja_lexer.specs.Slices.{IsBetweenChars};
 ghost use Rattle.minijinja_tree.specs.Erasure.{compare_op, expr_tree};
 ghost use Rattle.minijinja_tree.specs.Tree as tree;

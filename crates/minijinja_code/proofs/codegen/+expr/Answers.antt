@@ -32,7 +32,7 @@ use Rattle.std.specs.Option.{option_map}
 use Rattle.minijinja_tree.specs.Folding.{fold}
 use Rattle.minijinja_tree.specs.declared.ast.Compare.{out-Compare}
 use Rattle.minijinja_tree.proofs.Nodes.{compare_is}
-use Rattle.minijinja_code.specs.Comparing.{ahead, behind_one, Leads, leaving, Closes, known}
+use Rattle.minijinja_code.specs.private.Comparing.{ahead, behind_one, Leads, leaving, Closes, known}
 use Rattle.minijinja_code.proofs.ChainFolds.{Underway}
 use Rattle.minijinja_code.proofs.ChainTurns.{Turn, underway_first, holds_behind, turn_holds, turn_stops, turn_fails, turn_cut}
 use Rattle.minijinja_code.proofs.ChainEnds.{more_compared, same_ok, same_err, end_holds, end_cut, end_unfolded, end_adds, end_refused, operand_refused, first_refused}

@@ -1,6 +1,6 @@
 use Rattle.std.proofs.Common.{sym, ap, ◌∙◌}
 use Rattle.minijinja_tree.specs.Erasure.{expr_tree}
-use Rattle.minijinja_code.specs.Outputs.{output_shown}
+use Rattle.minijinja_code.specs.private.Outputs.{output_shown}
 use Rattle.minijinja_code.proofs.Outputs.{recursion_whole}
 use Rattle.minijinja_code.proofs.codegen.emit_expr.Goals as goal
 

@@ -1,6 +1,6 @@
 use Rattle.std.proofs.Common.{None, ◌∙◌, ap, subst}
-use Rattle.minijinja_base.specs.declared.error.ErrorKind.TheVariants.{OutOfMemory}
-use Rattle.minijinja_base.specs.Syntax.{default_syntax}
+use Rattle.minijinja_syntax.specs.declared.error.ErrorKind.TheVariants.{OutOfMemory}
+use Rattle.minijinja_syntax.specs.Syntax.{default_syntax}
 use Rattle.minijinja_lexer.specs.TextTokens.{text_of, tokens_of_expression}
 use Rattle.minijinja_tree.specs.Erasure.{expr_tree}
 use Rattle.minijinja_grammar.specs.Ahead.{Comes}

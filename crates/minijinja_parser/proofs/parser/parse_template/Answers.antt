@@ -1,4 +1,4 @@
-use Rattle.minijinja_base.specs.declared.error.ErrorKind.TheVariants.{OutOfMemory}
+use Rattle.minijinja_syntax.specs.declared.error.ErrorKind.TheVariants.{OutOfMemory}
 use Rattle.std.proofs.Common.{None}
 use Rattle.minijinja_tree.specs.Erasure.{stmt_tree}
 use Rattle.minijinja_grammar.specs.Derived.{IsTemplateTree}

@@ -1,5 +1,5 @@
 use Rattle.std.proofs.Common.{◌≡◌, drop}
-use Rattle.minijinja_base.specs.Outcomes.{map_pairs}
+use Rattle.minijinja_value.specs.Outcomes.{map_pairs}
 use Rattle.minijinja_tree.specs.Erasure.{args_of}
 use Rattle.minijinja_tree.specs.Folding.{constant_keywords}
 use Rattle.minijinja_tree.proofs.ConstantItems.{joined}

@@ -1,7 +1,7 @@
 use Rattle.std.proofs.Common.{◌<◌, length, true, false, arith, sym, ap, ◌∙◌}
 use Rattle.minijinja_tree.specs.Tree.{filter, test, call, list, tuple, map}
 use Rattle.minijinja_tree.specs.Erasure.{expr_tree, optional_of, exprs_of, args_of, compare_tree}
-use Rattle.minijinja_tree.specs.WellFormedTests.{is_whole, are_whole}
+use Rattle.minijinja_tree.specs.private.WellFormedTests.{is_whole, are_whole}
 use Rattle.minijinja_tree.proofs.Nodes.{list_is, tuple_is, map_is, filter_is, test_is, call_is, compare_is}
 use Rattle.minijinja_tree.proofs.WellFormedCounts.{next-argument}
 use Rattle.minijinja_tree.proofs.well_formed.+well_formed.Goals as goal

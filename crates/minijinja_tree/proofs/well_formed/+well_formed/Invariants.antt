@@ -1,6 +1,6 @@
 use Rattle.std.proofs.Common.{◌≡◌, drop}
 use Rattle.minijinja_tree.specs.Erasure.{exprs_of, args_of, comparisons_of}
-use Rattle.minijinja_tree.specs.WellFormedTests.{are_whole, are_compared, are_arguments}
+use Rattle.minijinja_tree.specs.private.WellFormedTests.{are_whole, are_compared, are_arguments}
 use Rattle.minijinja_tree.proofs.well_formed.+well_formed.Given as goal
 
 -- what is left decides

@@ -1,7 +1,7 @@
 use Rattle.std.proofs.Common.{◌≡◌, map, drop}
 use Rattle.minijinja_tree.specs.Erasure.{stmt_tree}
 use Rattle.minijinja_tree.specs.Tree.{stmts_of}
-use Rattle.minijinja_tree.specs.WellFormedTests.{are_inner}
+use Rattle.minijinja_tree.specs.private.WellFormedTests.{are_inner}
 use Rattle.minijinja_tree.proofs.well_formed.are_inner.Given as goal
 
 -- what is left decides

@@ -1,7 +1,7 @@
 use Rattle.std.proofs.Common.{map, sym, ap, ◌∙◌}
 use Rattle.minijinja_tree.specs.Erasure.{stmt_tree}
 use Rattle.minijinja_tree.specs.Tree.{template, stmts_of}
-use Rattle.minijinja_tree.specs.WellFormedTests.{is_well_formed, are_inner}
+use Rattle.minijinja_tree.specs.private.WellFormedTests.{is_well_formed, are_inner}
 use Rattle.minijinja_tree.proofs.Rows.{template_is}
 use Rattle.minijinja_tree.proofs.well_formed.is_formed.Goals as goal
 

@@ -1,7 +1,7 @@
 -- What is read from here on is what is read from the first word on.
 use Rattle.std.proofs.Common.{◌-◌, ◌≤◌, length, drop}
-use Rattle.minijinja_base.specs.Values.{Text}
-use Rattle.minijinja_base.specs.Syntax.{Syntax}
+use Rattle.minijinja_syntax.specs.Texts.{Text}
+use Rattle.minijinja_syntax.specs.Syntax.{Syntax}
 use Rattle.mjc.specs.Settings.{texts, syntax_of}
 use Rattle.mjc.proofs.Requests.{Reads}
 use Rattle.mjc.proofs.usage.read_options.Given as goal

@@ -1,7 +1,7 @@
 use Rattle.std.proofs.Common.{sym, ap, ◌∙◌}
 use Rattle.std.specs.Option.{option_map}
 use Rattle.minijinja_tree.specs.Erasure.{compare_op}
-use Rattle.minijinja_code.specs.Comparing.{known}
+use Rattle.minijinja_code.specs.private.Comparing.{known}
 use Rattle.minijinja_code.proofs.ChainFolds.{known_none}
 use Rattle.minijinja_code.proofs.codegen.chain.keep_operand.Goals as goal
 

@@ -1,7 +1,7 @@
 use Rattle.minijinja_grammar.specs.Depth as spec
 use Rattle.minijinja_grammar.specs.declared.marks.Level.TheVariants as on
 use Rattle.minijinja_tree.specs.Tree as tree
-use Rattle.minijinja_base.specs.Tokens.{assign, colon, comma, ident, tok_of}
+use Rattle.minijinja_syntax.specs.Tokens.{assign, colon, comma, ident, tok_of}
 use Rattle.minijinja_grammar.proofs.Begun.{begun_group, begun_integer, begun_large, begun_list, begun_map, begun_no, begun_str, begun_string, begun_word}
 use Rattle.minijinja_grammar.proofs.ItemTurns.{args_comma, args_last, args_not_admitted, entries_comma, entries_last, exprs_comma, exprs_last, keyword_turn, map_read, named_more, no_pairs, one_more_pair, postfixes_turn}
 use Rattle.minijinja_grammar.proofs.Shorter.{arg_shorter, below_shorter, cmp_op_shorter, comparison_shorter, entry_shorter, expr_shorter, if_tail_shorter, level_shorter, maybe_expr_no_longer, name_shorter, operand_shorter, postfix_shorter, primary_shorter, rest_no_longer, rest_shorter, suffix_shorter, token_shorter}

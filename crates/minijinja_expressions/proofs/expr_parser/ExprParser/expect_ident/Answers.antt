@@ -1,5 +1,5 @@
 use Rattle.std.proofs.Common.{Contains, subst}
-use Rattle.minijinja_base.specs.Tokens.{tok_of}
+use Rattle.minijinja_syntax.specs.Tokens.{tok_of}
 use Rattle.minijinja_expressions.proofs.expr_parser.ExprParser.expect_ident.Goals as goal
 
 pub returns-in-Ident-default-clause-spans : goal.returns-in-Ident-default-clause-spans

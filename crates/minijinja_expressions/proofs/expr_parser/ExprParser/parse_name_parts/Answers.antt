@@ -1,6 +1,6 @@
 use Rattle.std.proofs.Common.{rules, ◌≡◌, ◌<◌, length, true, ap, sym, ◌∙◌, subst, arith}
 use Rattle.std.proofs.lemmas.Grind.{common_steps}
-use Rattle.minijinja_base.specs.Tokens.{dot}
+use Rattle.minijinja_syntax.specs.Tokens.{dot}
 use Rattle.minijinja_lexer.specs.Slices.{IsBetweenChars}
 use Rattle.minijinja_grammar.specs.Ahead.{left}
 use Rattle.minijinja_grammar.specs.Depth as spec

@@ -2,8 +2,8 @@ use Rattle.std.proofs.Common.{◌≡◌, Some, true, ap, sym, ◌∙◌}
 use Rattle.std.proofs.lemmas.Result.{IfOk-weaker}
 use Rattle.std.specs.Prelude.{is_some}
 use Rattle.std.specs.String.{string_bytes}
-use Rattle.minijinja_base.specs.Tokens.{tok_of}
-use Rattle.minijinja_base.specs.Values.{Text}
+use Rattle.minijinja_syntax.specs.Tokens.{tok_of}
+use Rattle.minijinja_syntax.specs.Texts.{Text}
 use Rattle.minijinja_grammar.specs.Ahead.{left}
 use Rattle.minijinja_grammar.specs.Grammar.{comes}
 use Rattle.minijinja_grammar.specs.Reading.{texts}

@@ -1,6 +1,6 @@
 use Rattle.std.proofs.Common.{Contains, subst}
 use Rattle.std.proofs.lemmas.Result.{IfOk-weaker}
-use Rattle.minijinja_base.specs.Tokens.{tok_of, template_data}
+use Rattle.minijinja_syntax.specs.Tokens.{tok_of, template_data}
 use Rattle.minijinja_grammar.proofs.Spans.{of_token}
 use Rattle.minijinja_parser.proofs.parser.Parser.parse_part.Goals as goal
 use Rattle.minijinja_parser.proofs.parser.Parser.parse_part.Goals.{in-TemplateData, in-VariableStart, in-BlockStart, in_default}

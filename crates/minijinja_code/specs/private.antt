@@ -1,0 +1,3 @@
+-- What specifies private functions alone, and need not be believed.
+pub mod Comparing
+pub mod Outputs

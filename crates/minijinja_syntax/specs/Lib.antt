@@ -1,0 +1,10 @@
+pub mod Texts
+pub mod Quotes
+pub mod TokenWords
+pub mod SpanWords
+pub mod Tokens
+pub mod Errors
+pub mod Syntax
+pub mod private
+pub mod Markers
+pub mod Positions

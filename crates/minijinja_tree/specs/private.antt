@@ -1,0 +1,2 @@
+-- What specifies private functions alone, and need not be believed.
+pub mod WellFormedTests

@@ -1,0 +1,49 @@
+-- The printed form of a value.
+use Rattle.std.specs.Prelude.{true, false, codes, List, [], ◌∷◌, ◌++◌}
+use Rattle.std.specs.Fmt.{signed_decimal}
+use Rattle.std.specs.List.{flat_map}
+use Rattle.minijinja_syntax.specs.Texts.{Text}
+use Rattle.minijinja_syntax.specs.Quotes.{quoted}
+use Rattle.minijinja_value.specs.ValueContents.{Contents, undefined, silent_undefined, none, truth, integer, text, list, tuple, mapping, keywords, Items, no_items, item, Pairs, no_pairs, pair}
+
+-- texts with `, ` between them
+abbrev pub joined : List Text → Text
+joined [] = []
+joined (t ∷ ts) = t ++ flat_map (λ u. codes ", " ++ u) ts
+
+-- a tuple of one item has a comma behind it
+abbrev pub tuple_words : List Text → Text
+tuple_words [] = codes "()"
+tuple_words (t ∷ []) = codes "(" ++ t ++ codes ",)"
+tuple_words ts = codes "(" ++ joined ts ++ codes ")"
+
+-- undefined is `undefined` or `silent`, a text stands between quotes, and a map of keywords begins with `kwargs`
+abbrev mutual
+  pub words : Contents → Text
+  words undefined = codes "undefined"
+  words silent_undefined = codes "silent"
+  words none = codes "none"
+  words (truth true) = codes "true"
+  words (truth false) = codes "false"
+  words (integer z) = signed_decimal z
+  words (text t) = quoted t
+  words (list xs) = codes "[" ++ joined (each_words xs) ++ codes "]"
+  words (tuple xs) = tuple_words (each_words xs)
+  words (mapping ps) = codes "{" ++ joined (pair_words ps) ++ codes "}"
+  words (keywords ps) = codes "kwargs{" ++ joined (pair_words ps) ++ codes "}"
+
+  pub each_words : Items → List Text
+  each_words no_items = []
+  each_words (item x xs) = words x ∷ each_words xs
+
+  -- `key: value` for each pair
+  pub pair_words : Pairs → List Text
+  pair_words no_pairs = []
+  pair_words (pair k v ps) = (words k ++ codes ": " ++ words v) ∷ pair_words ps
+
+-- what a value stands for in a joined text: a text for itself, undefined for nothing, and any other as it is printed
+abbrev pub joined_words : Contents → Text
+joined_words (text t) = t
+joined_words undefined = []
+joined_words silent_undefined = []
+joined_words c = words c

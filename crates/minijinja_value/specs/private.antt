@@ -1,0 +1,2 @@
+pub mod IntegerParts
+pub mod EqualContents
