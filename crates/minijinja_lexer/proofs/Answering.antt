@@ -1,11 +1,11 @@
 -- What a refusal answers.
 use Rattle.std.proofs.Common.{◌≡◌, refl, ap, sym, ◌∙◌, ⊎_elim, inl, inr, Option}
 use Rattle.std.specs.Prelude.{◌⊎◌, None}
-use Rattle.minijinja_base.specs.Errors.{kind_of, span_of, IsOutOfMemory}
-use Rattle.minijinja_base.specs.declared.error.Error.{Error}
-use Rattle.minijinja_base.specs.declared.error.ErrorKind.{ErrorKind}
-use Rattle.minijinja_base.specs.declared.error.ErrorKind.TheVariants.{OutOfMemory}
-use Rattle.minijinja_base.specs.declared.tokens.Span.{Span}
+use Rattle.minijinja_syntax.specs.Errors.{kind_of, span_of, IsOutOfMemory}
+use Rattle.minijinja_syntax.specs.declared.error.Error.{Error}
+use Rattle.minijinja_syntax.specs.declared.error.ErrorKind.{ErrorKind}
+use Rattle.minijinja_syntax.specs.declared.error.ErrorKind.TheVariants.{OutOfMemory}
+use Rattle.minijinja_syntax.specs.declared.tokens.Span.{Span}
 use Rattle.minijinja_lexer.specs.Stream.{Stream, ended, refused, out_of_memory, NeedsMemory, Refuses, RunsOut}
 
 pub refuses : (old : Stream) (e : Error) (k : ErrorKind) (span : Option Span) → old ≡ ended (refused k span) → kind_of e ≡ k → span_of e ≡ span → Refuses old e (ended (refused k span))

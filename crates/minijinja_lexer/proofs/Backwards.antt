@@ -12,7 +12,7 @@ use Rattle.std.proofs.lemmas.Iterator.{YieldsList}
 use Rattle.std.proofs.lemmas.Bool.{ltb-true}
 use Rattle.std.proofs.lemmas.List.{reverse-append, get_or-append-add, take-append-le, take_all, nil_from_length}
 use Rattle.std.proofs.lemmas.Str.{IsUtf8-take, chars_from_encodes, encodes-chars, encodes-append, chars-nil}
-use Rattle.minijinja_base.specs.Values.{Text}
+use Rattle.minijinja_syntax.specs.Texts.{Text}
 
 -- the first byte goes on no character
 abbrev IsLed : Text → Type 0

@@ -5,10 +5,10 @@ use Rattle.std.specs.Str.{IsUtf8, IsCharBoundary}
 use Rattle.std.proofs.lemmas.Bool.{cases_lt, eqb-true, ne_eqb}
 use Rattle.std.proofs.lemmas.List.{get_or_past, drop_all}
 use Rattle.std.proofs.lemmas.Str.{IsCharBoundary-start, IsCharBoundary-after_ascii, IsCharBoundary-from_drop}
-use Rattle.minijinja_base.specs.Values.{Text}
-use Rattle.minijinja_lexer.specs.declared.whitespace.Control.TheVariants.{Absent, Remove, Preserve}
-use Rattle.minijinja_base.specs.declared.syntax.StartMarker.{StartMarker}
-use Rattle.minijinja_base.specs.declared.syntax.StartMarker.TheVariants as markers
+use Rattle.minijinja_syntax.specs.Texts.{Text}
+use Rattle.minijinja_lexer.specs.Controls.{Absent, Remove, Preserve}
+use Rattle.minijinja_syntax.specs.declared.syntax.StartMarker.{StartMarker}
+use Rattle.minijinja_syntax.specs.declared.syntax.StartMarker.TheVariants as markers
 use Rattle.minijinja_lexer.specs.Whitespace.{line_end_len, control_of, control_len, control_behind, begins_line}
 
 -- a byte that isn't 0 is within the text

@@ -7,8 +7,8 @@ use Rattle.std.proofs.lemmas.Bool.{ltb-true, eqb-true, ne_eqb}
 use Rattle.std.proofs.lemmas.Bool.Decides.{nat_tests}
 use Rattle.std.proofs.lemmas.List.{reverse-append, reverse-reverse}
 use Rattle.std.proofs.lemmas.Str.{IsUtf8-take, encodes-append, encodes-chars}
-use Rattle.minijinja_base.specs.Values.{Text}
-use Rattle.minijinja_base.specs.Positions.{is_newline, is_lead, back_to_newline, column_after}
+use Rattle.minijinja_syntax.specs.Texts.{Text}
+use Rattle.minijinja_syntax.specs.Positions.{is_newline, is_lead, back_to_newline, column_after}
 use Rattle.minijinja_lexer.specs.Columns.{chars_since_newline}
 use Rattle.minijinja_lexer.proofs.Counting.{count_append, count_one}
 

@@ -9,7 +9,7 @@ use Rattle.std.proofs.lemmas.Bool.Decides.{nat_tests}
 use Rattle.std.proofs.lemmas.List.Sums.{prefix_len-le-length}
 use Rattle.std.proofs.lemmas.Str.{IsUtf8-drop, IsCharBoundary-after_ascii, IsCharBoundary-start, IsCharBoundary-from_rest}
 use Rattle.std.proofs.Math.ListN.{drop_of_length-le}
-use Rattle.minijinja_base.specs.Values.{Text}
+use Rattle.minijinja_syntax.specs.Texts.{Text}
 use Rattle.minijinja_lexer.specs.Numbers.{digits_of, is_taken, taken_len, radix_at, radix_of, prefix_size, number_len}
 use Rattle.minijinja_lexer.proofs.Scanning.{ascii_run, get_some}
 

@@ -12,8 +12,8 @@ use Rattle.std.proofs.lemmas.Str.{IsUtf8-drop, IsCharBoundary-start, IsCharBound
 use Rattle.std.proofs.lemmas.Bool.{le-ltb}
 use Rattle.std.proofs.lemmas.Bool.Decides.{nat_tests}
 use Rattle.std.specs.Option.{option_map, option_and_then}
-use Rattle.minijinja_base.specs.Values.{Text}
-use Rattle.minijinja_lexer.specs.AsciiEnds.{EndsInAscii}
+use Rattle.minijinja_syntax.specs.Texts.{Text}
+use Rattle.minijinja_lexer.specs.private.AsciiEnds.{EndsInAscii}
 use Rattle.minijinja_lexer.specs.Escapes.{unescaped, unescaped_from, escape, simple_escape, unit_escape, unit_char, hex_unit}
 use Rattle.minijinja_lexer.proofs.Scanning.{ascii_end}
 

@@ -5,11 +5,11 @@ use Rattle.std.specs.Prelude.{true, codes, Some}
 use Rattle.std.specs.Char.{encode_utf8}
 use Rattle.std.specs.Str.{chars, encode_utf8_all, trim_start, trim_end}
 use Rattle.unicode_ident.proofs.Computing.{unicode_ident}
-use Rattle.minijinja_base.specs.Syntax.{Syntax, default_syntax}
-use Rattle.minijinja_base.specs.Markers.{starts_line, marker_at, next_marker}
-use Rattle.minijinja_base.specs.Tokens.{template_data, variable_start, variable_end, block_start, block_end, ident, str, string, int, int128, dot, colon, assign, bracket_open, bracket_close, paren_open, brace_open, brace_close}
-use Rattle.minijinja_base.specs.declared.tokens.Span.{Span}
-use Rattle.minijinja_base.specs.declared.error.ErrorKind.TheVariants.{SyntaxError, BadEscape}
+use Rattle.minijinja_syntax.specs.Syntax.{Syntax, default_syntax}
+use Rattle.minijinja_syntax.specs.Markers.{starts_line, marker_at, next_marker}
+use Rattle.minijinja_syntax.specs.Tokens.{template_data, variable_start, variable_end, block_start, block_end, ident, str, string, int, int128, dot, colon, assign, bracket_open, bracket_close, paren_open, brace_open, brace_close}
+use Rattle.minijinja_syntax.specs.declared.tokens.Span.{Span}
+use Rattle.minijinja_syntax.specs.declared.error.ErrorKind.TheVariants.{SyntaxError, BadEscape}
 use Rattle.minijinja_lexer.specs.Stream.{finished, refused}
 use Rattle.minijinja_lexer.specs.TokenAt.{token_front, token_at}
 use Rattle.minijinja_lexer.specs.Symbols.{symbol_front}

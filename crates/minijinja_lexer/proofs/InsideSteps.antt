@@ -1,20 +1,18 @@
 -- What a step inside a tag says of the tokens to come, at the values that the code has.
 use Rattle.std.proofs.Common.{◌≡◌, ℕ, ◌<◌, ◌+◌, Bool, [], ◌∷◌, length, ap, sym, ◌∙◌, subst}
-use Rattle.minijinja_base.specs.Values.{Text}
-use Rattle.minijinja_base.specs.Syntax.{Syntax}
-use Rattle.minijinja_base.specs.Positions.{span_at}
-use Rattle.minijinja_base.specs.Tokens.{Tok}
-use Rattle.minijinja_base.specs.declared.tokens.Span.{Span}
+use Rattle.minijinja_syntax.specs.Texts.{Text}
+use Rattle.minijinja_syntax.specs.Syntax.{Syntax}
+use Rattle.minijinja_syntax.specs.Positions.{span_at}
+use Rattle.minijinja_syntax.specs.Tokens.{Tok}
+use Rattle.minijinja_syntax.specs.declared.tokens.Span.{Span}
 use Rattle.minijinja_lexer.specs.Stream.{Stream, before, NeedsMemory, OwnsMemory}
-use Rattle.minijinja_lexer.specs.Place.{Place}
+use Rattle.minijinja_lexer.specs.private.Place.{Place}
 use Rattle.minijinja_lexer.specs.Brackets.{opened_by, shut_by}
 use Rattle.minijinja_lexer.specs.Cut.{turn_at}
 use Rattle.minijinja_lexer.specs.TextTokens.{stream_in, lexeme_tok, close_stream, end_tok}
-use Rattle.minijinja_lexer.specs.States.{behind}
-use Rattle.minijinja_lexer.specs.declared.turn.Tag.{Tag}
-use Rattle.minijinja_lexer.specs.declared.turn.Lexeme.{Lexeme}
-use Rattle.minijinja_lexer.specs.declared.turn.Close.TheVariants.{Closed}
-use Rattle.minijinja_lexer.specs.declared.turn.Turn.TheVariants.{Token}
+use Rattle.minijinja_lexer.specs.private.States.{behind}
+use Rattle.minijinja_lexer.specs.Tags.{Tag}
+use Rattle.minijinja_lexer.specs.Turns.{Lexeme, Closed, Token}
 use Rattle.minijinja_lexer.proofs.Steps.{stream_in-token}
 
 pub inside_token : (s : Syntax) (text : Text) (k : Tag) (whole : Bool) (o c at : ℕ) (l : Lexeme) (v : Tok) (span : Span) (p : Place) (o' c' : ℕ) →

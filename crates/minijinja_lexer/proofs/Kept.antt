@@ -1,7 +1,7 @@
 -- The line rule keeps a part.
 use Rattle.std.proofs.Common.{◌≤◌, Bool, true, false, cond, length, arith}
 use Rattle.std.specs.Prelude.{◌&&◌}
-use Rattle.minijinja_base.specs.Values.{Text}
+use Rattle.minijinja_syntax.specs.Texts.{Text}
 use Rattle.minijinja_lexer.specs.Whitespace.{line_kept_len, ends_blank, begins_line, last_line}
 
 pub line_kept_within : (text : Text) → line_kept_len text ≤ length text

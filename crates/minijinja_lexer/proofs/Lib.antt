@@ -21,3 +21,6 @@ pub mod Kept
 pub mod Slices
 pub mod Order
 pub mod Examples
+mod Occurrences
+mod Stretches
+mod RawTexts

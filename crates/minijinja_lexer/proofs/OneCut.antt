@@ -5,31 +5,26 @@ use Rattle.std.specs.List.{prefix_len}
 use Rattle.std.specs.Char.{is_ascii_whitespace}
 use Rattle.std.proofs.lemmas.List.{drop_all}
 use Rattle.std.proofs.lemmas.Bool.{cases_lt, lt-ltb, le-ltb, eq-eqb, eqb-true}
-use Rattle.minijinja_base.specs.Values.{Text}
-use Rattle.minijinja_base.specs.Syntax.{Syntax, start_of, end_of, IsBuildable}
-use Rattle.minijinja_base.specs.Markers.{stands, IsMarkerAt}
-use Rattle.minijinja_base.specs.declared.syntax.StartMarker.{StartMarker}
-use Rattle.minijinja_base.specs.declared.syntax.StartMarker.TheVariants as markers
-use Rattle.minijinja_base.proofs.Markers.{marker_is, no_marker_is, eligible_some, eligible_stands}
-use Rattle.minijinja_base.proofs.Delimiters.{stands_past, stands_within}
-use Rattle.minijinja_base.proofs.Finding.{next_marker_is}
+use Rattle.minijinja_syntax.specs.Texts.{Text}
+use Rattle.minijinja_syntax.specs.Syntax.{Syntax, start_of, end_of, IsBuildable}
+use Rattle.minijinja_syntax.specs.Markers.{stands, IsMarkerAt}
+use Rattle.minijinja_syntax.specs.declared.syntax.StartMarker.{StartMarker}
+use Rattle.minijinja_syntax.specs.declared.syntax.StartMarker.TheVariants as markers
+use Rattle.minijinja_syntax.proofs.Markers.{marker_is, no_marker_is, eligible_some, eligible_stands}
+use Rattle.minijinja_syntax.proofs.Delimiters.{stands_past, stands_within}
+use Rattle.minijinja_syntax.proofs.Finding.{next_marker_is}
 use Rattle.minijinja_lexer.specs.TokenAt.{token_at}
 use Rattle.minijinja_lexer.specs.Brackets.{opened_by, shut_by}
 use Rattle.minijinja_lexer.specs.Whitespace.{control_at, is_given, body_of, past_space, past_line_space, line_end_len, tail_len}
 use Rattle.minijinja_lexer.specs.Raw.{raw_at, next_endraw}
 use Rattle.minijinja_lexer.specs.Cut.{Inner, Segment, plain, comment, line_comment, raw, tag, unclosed_comment, unclosed_raw, marker_of, stop_of, close_stop, close_over, close_at, end_at, delimited_close, line_close, scanned, token_turn, turn_from, turn_at, inner_at, segment_at, segment_of, tag_at, comment_to, raw_to, block_to, tail_control, cut_at}
 use Rattle.minijinja_lexer.specs.Relation.{NoEnd, IsLexeme, IsDelimiterClose, IsLineClose, IsClosedAt, IsOver, IsRefused, IsClose, IsInner, IsPlain, IsComment, IsUnclosedComment, IsLineComment, PassesOver, IsRaw, IsUnclosedRaw, IsTag, IsNoRaw, IsSegment, IsCut, IsExpression}
-use Rattle.minijinja_lexer.specs.declared.whitespace.Control.{Control}
-use Rattle.minijinja_lexer.specs.declared.whitespace.Control.TheVariants.{Absent}
-use Rattle.minijinja_lexer.specs.declared.raw.RawBlock.{RawBlock}
-use Rattle.minijinja_lexer.specs.declared.fault.Fault.{Fault}
-use Rattle.minijinja_lexer.specs.declared.scan.Sort.{Sort}
-use Rattle.minijinja_lexer.specs.declared.turn.Tag.{Tag}
-use Rattle.minijinja_lexer.specs.declared.turn.Tag.TheVariants.{Variable, Block, Line}
-use Rattle.minijinja_lexer.specs.declared.turn.Lexeme.{Lexeme}
-use Rattle.minijinja_lexer.specs.declared.turn.Close.{Close}
-use Rattle.minijinja_lexer.specs.declared.turn.Close.TheVariants.{Closed, Broken, Refused}
-use Rattle.minijinja_lexer.specs.declared.turn.Turn.TheVariants.{Token, End}
+use Rattle.minijinja_lexer.specs.Controls.{Control, Absent}
+use Rattle.minijinja_lexer.specs.RawBlocks.{RawBlock}
+use Rattle.minijinja_lexer.specs.Faults.{Fault}
+use Rattle.minijinja_lexer.specs.Sorts.{Sort}
+use Rattle.minijinja_lexer.specs.Tags.{Tag, Variable, Block, Line}
+use Rattle.minijinja_lexer.specs.Turns.{Lexeme, Close, Closed, Broken, Refused, Token, End}
 use Rattle.minijinja_lexer.proofs.Searching.{delimiter_is, no_delimiter_is, line_end_is, endraw-found, endraw-none}
 use Rattle.minijinja_lexer.proofs.OutsideSteps.{marked, plain_at}
 use Rattle.minijinja_lexer.proofs.Within.{behind_within, word_within, word_on}

@@ -3,13 +3,13 @@ use Rattle.std.proofs.Common.{◌≡◌, ℕ, ◌+◌, ◌-◌, ◌<◌, ◌≤�
 use Rattle.std.specs.Prelude.{codes}
 use Rattle.std.specs.List.{flat_map}
 use Rattle.std.proofs.lemmas.List.{length-take-le}
-use Rattle.minijinja_base.specs.Values.{Text}
-use Rattle.minijinja_base.specs.Syntax.{Syntax, start_of, end_of, IsBuildable}
-use Rattle.minijinja_base.specs.Positions.{slice, span_at}
-use Rattle.minijinja_base.specs.Tokens.{template_data}
-use Rattle.minijinja_base.specs.Markers.{marker_at}
-use Rattle.minijinja_base.specs.declared.syntax.StartMarker.{StartMarker}
-use Rattle.minijinja_base.specs.declared.syntax.StartMarker.TheVariants as markers
+use Rattle.minijinja_syntax.specs.Texts.{Text}
+use Rattle.minijinja_syntax.specs.Syntax.{Syntax, start_of, end_of, IsBuildable}
+use Rattle.minijinja_syntax.specs.Positions.{slice, span_at}
+use Rattle.minijinja_syntax.specs.Tokens.{template_data}
+use Rattle.minijinja_syntax.specs.Markers.{marker_at}
+use Rattle.minijinja_syntax.specs.declared.syntax.StartMarker.{StartMarker}
+use Rattle.minijinja_syntax.specs.declared.syntax.StartMarker.TheVariants as markers
 use Rattle.minijinja_lexer.specs.Stream.{SpannedTok}
 use Rattle.minijinja_lexer.specs.Brackets.{opened_by, shut_by}
 use Rattle.minijinja_lexer.specs.Whitespace.{control_behind, kept_stop, kept_before, kept_len, is_line_cut, line_kept_len, body_of}
@@ -17,14 +17,10 @@ use Rattle.minijinja_lexer.specs.Cut.{Segment, plain, comment, line_comment, raw
 use Rattle.minijinja_lexer.specs.TextTokens.{text_of, lexeme_token, close_tokens, close_stream, segment_tokens, data_tokens, stream_at, stream_in, behind_expression, tokens_of_template, tokens_of_expression}
 use Rattle.minijinja_lexer.specs.Relation.{NoEnd, IsDelimiterClose, IsClosedAt, IsOver, IsClose, IsInner, IsRaw, IsSegment, IsCut}
 use Rattle.minijinja_lexer.specs.Slices.{AreInOrder}
-use Rattle.minijinja_lexer.specs.declared.whitespace.Control.{Control}
-use Rattle.minijinja_lexer.specs.declared.whitespace.Control.TheVariants.{Absent, Remove, Preserve}
-use Rattle.minijinja_lexer.specs.declared.raw.RawBlock.{RawBlock}
-use Rattle.minijinja_lexer.specs.declared.turn.Tag.{Tag}
-use Rattle.minijinja_lexer.specs.declared.turn.Tag.TheVariants.{Variable, Block, Line}
-use Rattle.minijinja_lexer.specs.declared.turn.Lexeme.{Lexeme}
-use Rattle.minijinja_lexer.specs.declared.turn.Close.{Close}
-use Rattle.minijinja_lexer.specs.declared.turn.Close.TheVariants.{Closed, Broken, Refused}
+use Rattle.minijinja_lexer.specs.Controls.{Control, Absent, Remove, Preserve}
+use Rattle.minijinja_lexer.specs.RawBlocks.{RawBlock}
+use Rattle.minijinja_lexer.specs.Tags.{Tag, Variable, Block, Line}
+use Rattle.minijinja_lexer.specs.Turns.{Lexeme, Close, Closed, Broken, Refused}
 use Rattle.minijinja_lexer.proofs.Stops.{end_forward}
 use Rattle.minijinja_lexer.proofs.Within.{word_on}
 use Rattle.minijinja_lexer.proofs.OneCut.{body_within, passes_on}

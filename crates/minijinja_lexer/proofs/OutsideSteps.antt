@@ -2,28 +2,28 @@
 use Rattle.std.proofs.Common.{◌≡◌, ℕ, ◌+◌, ◌-◌, ◌<◌, ◌≤◌, true, false, cond, [], ◌∷◌, length, refl, ap, sym, ◌∙◌, arith, Option, Some, None, ⊎_elim}
 use Rattle.std.specs.Prelude.{is_some}
 use Rattle.std.proofs.lemmas.Bool.{ne_eqb, eq-eqb}
-use Rattle.minijinja_base.specs.Values.{Text}
-use Rattle.minijinja_base.specs.Syntax.{Syntax, start_of}
-use Rattle.minijinja_base.specs.Positions.{slice, span_at}
-use Rattle.minijinja_base.specs.Markers.{marker_at, next_marker, found_at, found_marker}
-use Rattle.minijinja_base.specs.Tokens.{Tok, tok_of, template_data}
-use Rattle.minijinja_base.specs.declared.tokens.Span.{Span}
-use Rattle.minijinja_base.specs.declared.error.ErrorKind.TheVariants.{SyntaxError}
-use Rattle.minijinja_base.specs.declared.syntax.StartMarker.{StartMarker}
-use Rattle.minijinja_base.proofs.Finding.{none_past}
-use Rattle.minijinja_base.proofs.Walking.{next_marker-here, next_marker-within, next_marker-stops}
+use Rattle.minijinja_syntax.specs.Texts.{Text}
+use Rattle.minijinja_syntax.specs.Syntax.{Syntax, start_of}
+use Rattle.minijinja_syntax.specs.Positions.{slice, span_at}
+use Rattle.minijinja_syntax.specs.Markers.{marker_at, next_marker, found_at, found_marker}
+use Rattle.minijinja_syntax.specs.Tokens.{Tok, tok_of, template_data}
+use Rattle.minijinja_syntax.specs.declared.tokens.Span.{Span}
+use Rattle.minijinja_syntax.specs.declared.error.ErrorKind.TheVariants.{SyntaxError}
+use Rattle.minijinja_syntax.specs.declared.syntax.StartMarker.{StartMarker}
+use Rattle.minijinja_syntax.proofs.Finding.{none_past}
+use Rattle.minijinja_syntax.proofs.Walking.{next_marker-here, next_marker-within, next_marker-stops}
 use Rattle.minijinja_lexer.specs.Stream.{before, ended, refused}
-use Rattle.minijinja_lexer.specs.Faults.{fault_kind}
-use Rattle.minijinja_lexer.specs.Place.{Place}
+use Rattle.minijinja_lexer.specs.Faults.{fault_kind, Fault}
+use Rattle.minijinja_lexer.specs.private.Place.{Place}
 use Rattle.minijinja_lexer.specs.Whitespace.{kept_stop, kept_before, body_of, control_len, control_behind}
 use Rattle.minijinja_lexer.specs.Cut.{inner_at, plain, comment, line_comment, tag, unclosed_comment, unclosed_raw, segment_of, segment_at}
-use Rattle.minijinja_lexer.specs.Found.{Is, IsData, IsSkipped, IsRawAt, IsUnclosed}
+use Rattle.minijinja_lexer.specs.private.Found.{Is, IsData, IsSkipped, IsRawAt, IsUnclosed}
 use Rattle.minijinja_lexer.specs.TextTokens.{start_tok, stream_at, stream_in, refusal_span, segment_tokens, data_tokens}
-use Rattle.minijinja_lexer.specs.States.{Steps, RawSteps, behind}
+use Rattle.minijinja_lexer.specs.private.States.{Steps, RawSteps, behind}
+use Rattle.minijinja_lexer.specs.private.Views.{raw_block_view}
 use Rattle.minijinja_lexer.specs.declared.raw.RawBlock.{RawBlock}
-use Rattle.minijinja_lexer.specs.declared.fault.Fault.{Fault}
-use Rattle.minijinja_lexer.specs.declared.fault.Fault.TheVariants as fault
-use Rattle.minijinja_lexer.specs.declared.turn.Tag.{Tag}
+use Rattle.minijinja_lexer.specs.Faults as fault
+use Rattle.minijinja_lexer.specs.Tags.{Tag}
 use Rattle.minijinja_lexer.specs.declared.step.Step.{Step}
 use Rattle.minijinja_lexer.specs.declared.step.Step.TheVariants as step
 use Rattle.minijinja_lexer.specs.declared.step.State.TheVariants as state
@@ -150,7 +150,7 @@ outside_raw s text at block (step.Token t span state.Outside) p h is steps =
     let a = is.moves in
     let b = is.places in
     let m : at < block.after = omega (arith, a, b.begin_is, b.start_onwards, b.stop_onwards, b.end_onwards, b.after_onwards) in (
-      stream_at-raw s text at block h m is.segment
+      stream_at-raw s text at (raw_block_view block) h m is.segment
           ∙ ap (λ x. before ((x, span_at text block.begin block.end) ∷ []) (stream_at s text block.after)) (sym steps.0)
           ∙ ap (λ x. before ((tok_of t, x) ∷ []) (stream_at s text block.after)) (sym steps.1)
           ∙ ap (before ((tok_of t, span) ∷ [])) (at_place s text block.after p steps.2),

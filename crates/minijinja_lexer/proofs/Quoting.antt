@@ -1,16 +1,16 @@
 -- Where a string ends.
 use Rattle.std.proofs.Common.{◌≡◌, ℕ, ◌+◌, ◌-◌, ◌<◌, ◌≤◌, ◌≢◌, Bool, true, false, cond, [], ◌∷◌, length, take, drop, get_or, refl, ap, sym, ◌∙◌, arith, subst, length-drop, get_or-drop, eq-eqb, ne_eqb, nat_eq}
 use Rattle.std.proofs.lemmas.List.{drop-drop}
-use Rattle.minijinja_base.specs.Values.{Text}
-use Rattle.minijinja_base.specs.Positions.{slice}
+use Rattle.minijinja_syntax.specs.Texts.{Text}
+use Rattle.minijinja_syntax.specs.Positions.{slice}
 use Rattle.std.specs.Prelude.{not, nat_lt, is_some, IsSome, Ok, Err}
 use Rattle.std.specs.Str.{IsUtf8, IsCharBoundary}
 use Rattle.std.proofs.lemmas.Bool.{lt-ltb, le-ltb}
 use Rattle.minijinja_lexer.specs.Escapes.{unescaped}
 use Rattle.minijinja_lexer.specs.Quoted.{quoted_len, quoted_inside, quoted, has_escapes}
-use Rattle.minijinja_lexer.specs.TokenPlaces.{ScanPlaces, InsidePlaces}
-use Rattle.minijinja_lexer.specs.declared.scan.Sort.TheVariants.{Str, String}
-use Rattle.minijinja_lexer.specs.declared.fault.Fault.TheVariants.{UnterminatedString, BadEscape}
+use Rattle.minijinja_lexer.specs.private.TokenPlaces.{ScanPlaces, InsidePlaces}
+use Rattle.minijinja_lexer.specs.Sorts.{Str, String}
+use Rattle.minijinja_lexer.specs.Faults.{UnterminatedString, BadEscape}
 use Rattle.minijinja_lexer.proofs.Scanning.{quoted_end, quoted_inside_places}
 
 -- the end of the string stands behind the first `len` bytes

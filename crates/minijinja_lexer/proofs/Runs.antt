@@ -3,7 +3,7 @@ use Rattle.std.proofs.Common.{◌≡◌, ℕ, ◌+◌, true, false, cond, [], �
 use Rattle.std.specs.Str.{IsUtf8, IsCharBoundary, chars}
 use Rattle.std.specs.Char.{len_utf8, encode_utf8}
 use Rattle.std.proofs.lemmas.Str.{chars-nil, IsCharBoundary-from_drop, chars_past_char, drop_past_char, IsUtf8-past_char, length-encode}
-use Rattle.minijinja_base.specs.Values.{Text}
+use Rattle.minijinja_syntax.specs.Texts.{Text}
 use Rattle.minijinja_lexer.specs.Whitespace.{is_line_space, line_space_run, line_space_len}
 
 -- len bytes of the text are such characters, and rest follows

@@ -2,16 +2,18 @@
 use Rattle.std.proofs.Common.{◌≡◌, ℕ, zero, suc, get_or-drop, length-drop, ◌+◌, ◌-◌, ◌<◌, ◌≤◌, Bool, true, false, cond, List, [], ◌∷◌, ◌++◌, length, drop, get_or, refl, ap, sym, ◌∙◌, arith, subst, length-append, ⊎_elim}
 use Rattle.std.specs.List.{prefix_len}
 use Rattle.std.specs.Str.{IsUtf8, IsCharBoundary, chars}
-use Rattle.std.specs.Char.{len_utf8, encode_utf8, is_ascii_digit, is_ascii_whitespace}
+use Rattle.std.specs.Char.{len_utf8, encode_utf8, is_ascii_digit, is_ascii_alphanumeric, is_ascii_whitespace}
 use Rattle.std.proofs.lemmas.List.{get_or_past}
-use Rattle.std.proofs.lemmas.Bool.{cases_lt}
+use Rattle.std.proofs.lemmas.Bool.{cases_lt, lt-ltb, le-ltb}
+use Rattle.std.proofs.Math.Seq.{drop-cons}
 use Rattle.std.proofs.lemmas.List.Sums.{prefix_len_passes}
 use Rattle.std.proofs.lemmas.Bool.Decides.{nat_tests}
-use Rattle.std.proofs.lemmas.Str.{chars-nil, IsCharBoundary-start, IsCharBoundary-after_ascii, IsCharBoundary-before_ascii, IsCharBoundary-from_drop, chars_past_char, drop_past_char, IsUtf8-past_char, length-encode, len_utf8_bounds}
-use Rattle.std.specs.Prelude.{IsTrue, ◌||◌, ◌==◌}
+use Rattle.std.proofs.lemmas.Str.{chars-nil, IsCharBoundary-start, IsCharBoundary-after_ascii, IsCharBoundary-before_ascii, IsCharBoundary-from_drop, chars_past_char, drop_past_char, IsUtf8-past_char, length-encode, len_utf8_bounds, len_utf8_ascii, encode_ascii}
+use Rattle.std.specs.Prelude.{IsTrue, ◌||◌, ◌&&◌, ◌==◌, nat_lt}
 use Rattle.unicode_ident.specs.Ident.{is_xid_continue}
-use Rattle.minijinja_base.specs.Values.{Text}
-use Rattle.minijinja_lexer.specs.AsciiEnds.{EndsInAscii}
+use Rattle.unicode_ident.proofs.IdentLemmas.{is_xid_continue-ascii}
+use Rattle.minijinja_syntax.specs.Texts.{Text}
+use Rattle.minijinja_lexer.specs.private.AsciiEnds.{EndsInAscii}
 use Rattle.minijinja_lexer.specs.Names.{name_len, continues_name}
 use Rattle.minijinja_lexer.specs.Quoted.{is_quote}
 
@@ -53,6 +55,18 @@ pub record NameRun (text : Text) (len : ℕ) (rest : Text) : Type 0 where
 pub name_start : (text : Text) → IsUtf8 text → NameRun text 0 text
 name_start text u = record { counted = omega arith; there = refl; lens = omega arith; utf8 = u }
 
+-- an ASCII byte that a name goes on with
+pub ascii_continues : (b : ℕ) → (is_ascii_alphanumeric b || (b == 95)) ≡ (nat_lt b 128 && continues_name b)
+ascii_continues b = ⊎_elim
+    (λ (l : b < 128). sym (ap (λ t. t && continues_name b) (lt-ltb b 128 l) ∙ ap (λ t. t || (b == 95)) (is_xid_continue-ascii b l) ∙ twice (is_ascii_alphanumeric b) (b == 95)))
+    (λ (g : 128 ≤ b). let none : (is_ascii_alphanumeric b || (b == 95)) ≡ false = grind (arith, nat_tests) in none ∙ sym (ap (λ t. t && continues_name b) (le-ltb b 128 g)))
+    (cases_lt b 128)
+  where
+    twice : (x y : Bool) → ((x || y) || y) ≡ (x || y)
+    twice true y = refl
+    twice false true = refl
+    twice false false = refl
+
 name_cons : (c : ℕ) (cs : List ℕ) → continues_name c ≡ true → name_len (c ∷ cs) ≡ len_utf8 c + name_len cs
 name_cons c cs h = ap (λ t. cond t (len_utf8 c + name_len cs) 0) h
 
@@ -75,6 +89,37 @@ pub name_stop : (text : Text) (len : ℕ) (rest after : Text) (c : ℕ) → Name
 name_stop text len rest after c run e h =
     let name_is : name_len (chars rest) ≡ 0 = ap name_len (chars_past_char rest after c run.utf8 e) ∙ name_none c (chars after) h in
     omega (arith, name_is, run.counted)
+
+-- the same at an ASCII byte
+ascii_front : (text : Text) (len : ℕ) → len < length text → get_or text len 0 < 128 → drop len text ≡ encode_utf8 (get_or text len 0) ++ drop (len + 1) text
+ascii_front text len h low =
+    let e : suc len ≡ len + 1 = omega arith in
+    drop-cons text len 0 h ∙ ap (λ n. get_or text len 0 ∷ drop n text) e ∙ ap (λ t. t ++ drop (len + 1) text) (sym (encode_ascii (get_or text len 0) low))
+
+pub ascii_step : (text : Text) (len : ℕ) → NameRun text len (drop len text) → len < length text → (nat_lt (get_or text len 0) 128 && continues_name (get_or text len 0)) ≡ true → NameRun text (len + 1) (drop (len + 1) text)
+ascii_step text len run h t =
+    let b : ℕ = get_or text len 0 in
+    let low : b < 128 = grind (arith, nat_tests, and_left (nat_lt b 128) (continues_name b) t) in
+    let one : len_utf8 b ≡ 1 = len_utf8_ascii b low in
+    subst (λ n. NameRun text (len + n) (drop (len + 1) text)) one
+    (name_step text len (drop len text) (drop (len + 1) text) b run (ascii_front text len h low) (and_right (nat_lt b 128) (continues_name b) t))
+  where
+    and_left : (x y : Bool) → (x && y) ≡ true → x ≡ true
+    and_left true y e = refl
+    and_left false y e = e
+
+    and_right : (x y : Bool) → (x && y) ≡ true → y ≡ true
+    and_right true y e = e
+    and_right false y e = let f : false ≡ true = e in cc
+
+pub ascii_stop : (text : Text) (len : ℕ) → NameRun text len (drop len text) → len < length text → get_or text len 0 < 128 → (nat_lt (get_or text len 0) 128 && continues_name (get_or text len 0)) ≡ false → len ≡ name_len (chars text)
+ascii_stop text len run h low f =
+    let b : ℕ = get_or text len 0 in
+    name_stop text len (drop len text) (drop (len + 1) text) b run (ascii_front text len h low) (ap (λ t. t && continues_name b) (sym (lt-ltb b 128 low)) ∙ f)
+
+-- the rest of a name behind its first bytes
+pub name_rest : (text : Text) (len m : ℕ) → NameRun text len (drop len text) → m ≡ name_len (chars (drop len text)) → len + m ≡ name_len (chars text)
+name_rest text len m run e = ap (λ n. len + n) e ∙ run.counted
 
 pub name_end : (text : Text) (len : ℕ) (rest : Text) → NameRun text len rest → length rest ≡ 0 → len ≡ name_len (chars text)
 name_end text len [] run h = let none : name_len (chars []) ≡ 0 = ap name_len chars-nil in omega (arith, run.counted, none)

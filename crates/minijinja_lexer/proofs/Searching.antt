@@ -2,15 +2,15 @@
 use Rattle.std.proofs.Common.{◌≡◌, ℕ, zero, suc, ◌+◌, ◌-◌, ◌<◌, ◌≤◌, true, false, cond, length, refl, ap, sym, ◌∙◌, arith, Option, None, ⊎_elim, inl, inr}
 use Rattle.std.specs.Prelude.{◌⊎◌, slice_index}
 use Rattle.std.proofs.lemmas.Bool.{cases_lt}
-use Rattle.minijinja_base.specs.Values.{Text}
-use Rattle.minijinja_base.specs.Syntax.{Syntax}
-use Rattle.minijinja_base.specs.Markers.{stands, next_place, is_line_end}
-use Rattle.minijinja_base.proofs.Walking.{next_place-on, next_place-here, next_place-within, next_place-before, next_place-stops}
-use Rattle.minijinja_base.proofs.Delimiters.{stands_within}
+use Rattle.minijinja_syntax.specs.Texts.{Text}
+use Rattle.minijinja_syntax.specs.Syntax.{Syntax}
+use Rattle.minijinja_syntax.specs.Markers.{stands, next_place, is_line_end}
+use Rattle.minijinja_syntax.proofs.Walking.{next_place-on, next_place-here, next_place-within, next_place-before, next_place-stops}
+use Rattle.minijinja_syntax.proofs.Delimiters.{stands_within}
 use Rattle.minijinja_lexer.specs.Cut.{next_delimiter, next_line_end}
 use Rattle.minijinja_lexer.specs.Raw.{endraw_at, endraw_from, next_endraw, or_later}
 use Rattle.minijinja_lexer.specs.Relation.{IsFirst, IsAbsent}
-use Rattle.minijinja_lexer.specs.declared.whitespace.Control.{Control}
+use Rattle.minijinja_lexer.specs.Controls.{Control}
 
 -- ---- delimiters
 

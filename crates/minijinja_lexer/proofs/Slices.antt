@@ -2,13 +2,13 @@
 use Rattle.std.proofs.Common.{◌≡◌, ℕ, zero, suc, ◌+◌, ◌-◌, ◌<◌, ◌≤◌, ◌==◌, Bool, true, false, cond, List, [], ◌∷◌, ◌++◌, length, drop, refl, ap, sym, arith, subst, map, length-take, Option, Some, None, Ok}
 use Rattle.std.specs.Prelude.{nat_lt, is_some, unwrap_or}
 use Rattle.std.specs.List.{flat_map}
-use Rattle.minijinja_base.specs.Values.{Text}
-use Rattle.minijinja_base.specs.Syntax.{Syntax, end_of}
-use Rattle.minijinja_base.specs.Positions.{slice, span_at}
-use Rattle.minijinja_base.specs.Tokens.{template_data}
-use Rattle.minijinja_base.specs.Markers.{stands, marker_at}
-use Rattle.minijinja_base.specs.declared.syntax.StartMarker.{StartMarker}
-use Rattle.minijinja_base.specs.declared.syntax.StartMarker.TheVariants as markers
+use Rattle.minijinja_syntax.specs.Texts.{Text}
+use Rattle.minijinja_syntax.specs.Syntax.{Syntax, end_of}
+use Rattle.minijinja_syntax.specs.Positions.{slice, span_at}
+use Rattle.minijinja_syntax.specs.Tokens.{template_data}
+use Rattle.minijinja_syntax.specs.Markers.{stands, marker_at}
+use Rattle.minijinja_syntax.specs.declared.syntax.StartMarker.{StartMarker}
+use Rattle.minijinja_syntax.specs.declared.syntax.StartMarker.TheVariants as markers
 use Rattle.minijinja_lexer.specs.Stream.{SpannedTok, Stream, ended, finished}
 use Rattle.minijinja_lexer.specs.TokenAt.{token_at}
 use Rattle.minijinja_lexer.specs.Escapes.{unescaped}
@@ -20,17 +20,13 @@ use Rattle.minijinja_lexer.specs.Cut.{Segment, comment, unclosed_comment, segmen
 use Rattle.minijinja_lexer.specs.Relation.{IsInner}
 use Rattle.minijinja_lexer.specs.TextTokens.{text_of, lexeme_token, close_tokens, close_stream, segment_tokens, data_tokens, stream_at, stream_in, behind_expression, refusal, end_tok, start_tok, tokens_of_template, tokens_of_expression}
 use Rattle.minijinja_lexer.specs.Slices.{IsRawText, IsSliceAt, AreSlices, AreSegmentSlices, AreCutSlices}
-use Rattle.minijinja_lexer.specs.declared.whitespace.Control.{Control}
-use Rattle.minijinja_lexer.specs.declared.whitespace.Control.TheVariants.{Absent, Remove, Preserve}
-use Rattle.minijinja_lexer.specs.declared.symbol.Symbol.{Symbol}
-use Rattle.minijinja_lexer.specs.declared.symbol.Symbol.TheVariants as symbols
-use Rattle.minijinja_lexer.specs.declared.scan.Sort.{Sort}
-use Rattle.minijinja_lexer.specs.declared.scan.Sort.TheVariants as sort
-use Rattle.minijinja_lexer.specs.declared.turn.Tag.{Tag}
-use Rattle.minijinja_lexer.specs.declared.turn.Tag.TheVariants.{Variable, Block, Line}
-use Rattle.minijinja_lexer.specs.declared.turn.Lexeme.{Lexeme}
-use Rattle.minijinja_lexer.specs.declared.turn.Close.{Close}
-use Rattle.minijinja_lexer.specs.declared.turn.Close.TheVariants.{Closed, Broken, Refused}
+use Rattle.minijinja_lexer.specs.Controls.{Control, Absent, Remove, Preserve}
+use Rattle.minijinja_lexer.specs.Symbols.{Symbol}
+use Rattle.minijinja_lexer.specs.Symbols as symbols
+use Rattle.minijinja_lexer.specs.Sorts.{Sort}
+use Rattle.minijinja_lexer.specs.Sorts as sort
+use Rattle.minijinja_lexer.specs.Tags.{Tag, Variable, Block, Line}
+use Rattle.minijinja_lexer.specs.Turns.{Lexeme, Close, Closed, Broken, Refused}
 use Rattle.minijinja_lexer.proofs.Tokens.{string_means}
 use Rattle.minijinja_lexer.proofs.Within.{tail_within}
 use Rattle.minijinja_lexer.proofs.Kept.{line_kept_within}
@@ -73,7 +69,7 @@ decoded : (x : Option Text) → is_some x ≡ true → Some (unwrap_or x []) ≡
 decoded None h = let e : false ≡ true = h in cc
 decoded (Some t) h = refl
 
-lexeme_slice : (text : Text) (start stop : ℕ) (x : Sort) → token_at text start ≡ Ok (x, stop) → IsSliceAt text (span_at text start stop) (lexeme_token text (record { start = start; stop = stop; sort = x })).0
+pub lexeme_slice : (text : Text) (start stop : ℕ) (x : Sort) → token_at text start ≡ Ok (x, stop) → IsSliceAt text (span_at text start stop) (lexeme_token text (record { start = start; stop = stop; sort = x })).0
 lexeme_slice text start stop sort.Ident e = refl
 lexeme_slice text start stop sort.Str e = refl
 lexeme_slice text start stop sort.String e = decoded (unescaped (slice text (start + 1) (stop - 1))) (string_means text start stop e)
@@ -86,12 +82,12 @@ lexemes_slices s text k o c at [] close is = tt
 lexemes_slices s text k o c at (l ∷ ls) close is =
     (lexeme_slice text l.start l.stop l.sort is.0.token, refl, lexemes_slices s text k (o + opened_by l.sort) (c + shut_by l.sort) l.stop ls close is.1)
 
-start_slice : (text : Text) (k : Tag) (start stop : ℕ) → IsSliceAt text (span_at text start stop) (start_tok k)
+pub start_slice : (text : Text) (k : Tag) (start stop : ℕ) → IsSliceAt text (span_at text start stop) (start_tok k)
 start_slice text Variable start stop = tt
 start_slice text Block start stop = tt
 start_slice text Line start stop = tt
 
-end_slice : (text : Text) (k : Tag) (start stop : ℕ) → IsSliceAt text (span_at text start stop) (end_tok k)
+pub end_slice : (text : Text) (k : Tag) (start stop : ℕ) → IsSliceAt text (span_at text start stop) (end_tok k)
 end_slice text Variable start stop = tt
 end_slice text Block start stop = tt
 end_slice text Line start stop = tt
@@ -109,7 +105,7 @@ tag_slices s text k start body =
 -- ---- raw blocks
 
 -- the tokens of a segment are as they should be
-abbrev AreOwn : Syntax → Text → Segment → Type 0
+abbrev pub AreOwn : Syntax → Text → Segment → Type 0
 AreOwn s text g = AreSegmentSlices s text g (segment_tokens s text g)
 
 EndsRaw : Syntax → Text → (at left : ℕ) → Option (ℕ × Control × ℕ) → Type 0
@@ -154,28 +150,31 @@ raw_kept_within s Absent text = either s.lstrip_blocks
 slice_short : (text : Text) (start stop : ℕ) → length (slice text start stop) ≤ stop - start
 slice_short text start stop = let l = length-take (stop - start) (drop start text) in omega (arith, l)
 
-raw_text : (s : Syntax) (text : Text) (begin close : ℕ) (control : Control) (tag_end : Control × ℕ) → begin ≤ close → endraw_at s text (close + length s.block_start) ≡ Some tag_end →
-    let b = raw_block s text begin control close tag_end in IsRawText s text b (slice text b.start b.stop)
-raw_text s text begin close control tag_end h e =
+raw_text : (s : Syntax) (text : Text) (body begin close : ℕ) (control : Control) (tag_end : Control × ℕ) → raw_at s text body ≡ Some (control, begin) → begin ≤ close → endraw_at s text (close + length s.block_start) ≡ Some tag_end →
+    let b = raw_block s text begin control close tag_end in IsRawText s text b.begin b.end (slice text b.start b.stop)
+raw_text s text body begin close control tag_end r h e =
     let a = tail_within s markers.Block control (slice text begin close) in
     let l = slice_short text begin close in
     let start : ℕ = begin + tail_len s markers.Block control (slice text begin close) in
     let k = raw_kept_within s (control_at text (close + length s.block_start)) (slice text start close) in
     let m = slice_short text start close in
     record {
+      body = body;
+      control = control;
+      raw_tag = r;
+      endraw_tag = ap is_some e;
       from = start;
       to = start + raw_kept_len s (control_at text (close + length s.block_start)) (slice text start close);
       start = omega arith;
       ordered = omega arith;
-      end = omega (arith, a, l, k, m, h);
+      stop = omega (arith, a, l, k, m, h);
       part = refl;
-      endraw = ap is_some e;
     }
 
-raw_slices : (s : Syntax) (text : Text) (start begin left : ℕ) (control : Control) (x : Option (ℕ × Control × ℕ)) → EndsRaw s text begin left x → AreOwn s text (raw_to s text start begin control x)
+raw_slices : (s : Syntax) (text : Text) (start body begin left : ℕ) (control : Control) (x : Option (ℕ × Control × ℕ)) → raw_at s text body ≡ Some (control, begin) → EndsRaw s text begin left x → AreOwn s text (raw_to s text start begin control x)
 unfolding EndsRaw
-raw_slices s text start begin left control None h = tt
-raw_slices s text start begin left control (Some r) h = (_, refl, raw_text s text begin r.0 control (r.1, r.2) h.0 h.2)
+raw_slices s text start body begin left control None e h = tt
+raw_slices s text start body begin left control (Some r) e h = (_, refl, raw_text s text body begin r.0 control (r.1, r.2) e h.0 h.2)
 
 -- ---- segments
 
@@ -186,9 +185,9 @@ data_slices text start kept = either (kept == start)
     either true = tt
     either false = (refl, refl, tt)
 
-block_slices : (s : Syntax) (text : Text) (start body : ℕ) (x : Option (Control × ℕ)) → AreOwn s text (block_to s text start body x)
-block_slices s text start body None = tag_slices s text Block start body
-block_slices s text start body (Some r) = raw_slices s text start r.1 (length text - r.1) r.0 (next_endraw s text r.1) (next_ends s text r.1)
+block_slices : (s : Syntax) (text : Text) (start body : ℕ) (x : Option (Control × ℕ)) → raw_at s text body ≡ x → AreOwn s text (block_to s text start body x)
+block_slices s text start body None e = tag_slices s text Block start body
+block_slices s text start body (Some r) e = raw_slices s text start body r.1 (length text - r.1) r.0 (next_endraw s text r.1) e (next_ends s text r.1)
 
 comment_slices : (s : Syntax) (text : Text) (start body : ℕ) → AreOwn s text (comment_at s text start body)
 comment_slices s text start body = either (nat_lt (next_delimiter (end_of s markers.Comment) text body) (length text)) _
@@ -200,12 +199,12 @@ comment_slices s text start body = either (nat_lt (next_delimiter (end_of s mark
 marker_slices : (s : Syntax) (text : Text) (at : ℕ) (m : Option StartMarker) → AreOwn s text (segment_of s text at m)
 marker_slices s text at None = data_slices text at _
 marker_slices s text at (Some markers.Variable) = tag_slices s text Variable at _
-marker_slices s text at (Some markers.Block) = block_slices s text at (body_of s text markers.Block at) (raw_at s text (body_of s text markers.Block at))
+marker_slices s text at (Some markers.Block) = block_slices s text at (body_of s text markers.Block at) (raw_at s text (body_of s text markers.Block at)) refl
 marker_slices s text at (Some markers.Comment) = comment_slices s text at (body_of s text markers.Comment at)
 marker_slices s text at (Some markers.LineStatement) = tag_slices s text Line at _
 marker_slices s text at (Some markers.LineComment) = tt
 
-segment_slices : (s : Syntax) (text : Text) (at : ℕ) → AreOwn s text (segment_at s text at)
+pub segment_slices : (s : Syntax) (text : Text) (at : ℕ) → AreOwn s text (segment_at s text at)
 unfolding segment_at
 segment_slices s text at = marker_slices s text at (marker_at s text at)
 

@@ -2,32 +2,27 @@
 use Rattle.std.proofs.Common.{◌≡◌, ℕ, zero, suc, ◌+◌, ◌<◌, ◌≤◌, Bool, true, false, cond, List, [], ◌∷◌, ◌==◌, length, drop, refl, ap, sym, ◌∙◌, arith, subst, Option, Some, None, Result, Ok, Err, ⊎_elim, inl, inr, length-drop}
 use Rattle.std.specs.Prelude.{is_some, nat_lt, ◌||◌, codes}
 use Rattle.std.proofs.lemmas.Bool.{cases_lt, lt-ltb, le-ltb, eqb-true, ltb-true, eq-eqb}
-use Rattle.minijinja_base.specs.Values.{Text}
-use Rattle.minijinja_base.specs.Syntax.{Syntax, end_of, IsBuildable}
-use Rattle.minijinja_base.specs.Markers.{marker_at, next_marker, IsMarkerAt}
-use Rattle.minijinja_base.specs.declared.syntax.StartMarker.{StartMarker}
-use Rattle.minijinja_base.specs.declared.syntax.StartMarker.TheVariants as markers
-use Rattle.minijinja_base.proofs.Markers.{AtMarker, marker_holds, some_from}
-use Rattle.minijinja_base.proofs.Walking.{next_marker-on, next_marker-within, next_marker-stops}
-use Rattle.minijinja_base.proofs.Delimiters.{stands_within}
-use Rattle.minijinja_base.proofs.Finding.{none_between}
+use Rattle.minijinja_syntax.specs.Texts.{Text}
+use Rattle.minijinja_syntax.specs.Syntax.{Syntax, end_of, IsBuildable}
+use Rattle.minijinja_syntax.specs.Markers.{marker_at, next_marker, IsMarkerAt}
+use Rattle.minijinja_syntax.specs.declared.syntax.StartMarker.{StartMarker}
+use Rattle.minijinja_syntax.specs.declared.syntax.StartMarker.TheVariants as markers
+use Rattle.minijinja_syntax.proofs.Markers.{AtMarker, marker_holds, some_from}
+use Rattle.minijinja_syntax.proofs.Walking.{next_marker-on, next_marker-within, next_marker-stops}
+use Rattle.minijinja_syntax.proofs.Delimiters.{stands_within}
+use Rattle.minijinja_syntax.proofs.Finding.{none_between}
 use Rattle.minijinja_lexer.specs.TokenAt.{token_at}
 use Rattle.minijinja_lexer.specs.Brackets.{opened_by, shut_by}
 use Rattle.minijinja_lexer.specs.Whitespace.{body_of, past_space, past_line_space, line_end_len, tail_len}
 use Rattle.minijinja_lexer.specs.Raw.{raw_at, endraw_at, next_endraw, or_later}
 use Rattle.minijinja_lexer.specs.Cut.{Inner, Segment, plain, comment, line_comment, raw, tag, unclosed_comment, unclosed_raw, marker_of, stop_of, close_stop, close_over, close_at, end_at, delimited_close, line_close, scanned, token_turn, turn_from, turn_at, inner_at, segment_at, segment_of, tag_at, comment_at, line_comment_at, raw_to, block_to, next_delimiter, next_line_end, tail_control, cut_at}
 use Rattle.minijinja_lexer.specs.Relation.{NoEnd, IsLexeme, IsDelimiterClose, IsLineClose, IsClosedAt, IsOver, IsClose, IsInner, IsPlain, IsComment, IsUnclosedComment, PassesOver, IsRaw, IsNoRaw, IsSegment, IsCut, IsAbsent, IsFirst}
-use Rattle.minijinja_lexer.specs.declared.whitespace.Control.{Control}
-use Rattle.minijinja_lexer.specs.declared.raw.RawBlock.{RawBlock}
-use Rattle.minijinja_lexer.specs.declared.scan.Sort.{Sort}
-use Rattle.minijinja_lexer.specs.declared.fault.Fault.{Fault}
-use Rattle.minijinja_lexer.specs.declared.turn.Tag.{Tag}
-use Rattle.minijinja_lexer.specs.declared.turn.Tag.TheVariants.{Variable, Block, Line}
-use Rattle.minijinja_lexer.specs.declared.turn.Lexeme.{Lexeme}
-use Rattle.minijinja_lexer.specs.declared.turn.Close.{Close}
-use Rattle.minijinja_lexer.specs.declared.turn.Close.TheVariants.{Closed, Broken, Refused}
-use Rattle.minijinja_lexer.specs.declared.turn.Turn.{Turn}
-use Rattle.minijinja_lexer.specs.declared.turn.Turn.TheVariants.{Token, End}
+use Rattle.minijinja_lexer.specs.Controls.{Control}
+use Rattle.minijinja_lexer.specs.RawBlocks.{RawBlock}
+use Rattle.minijinja_lexer.specs.Sorts.{Sort}
+use Rattle.minijinja_lexer.specs.Faults.{Fault}
+use Rattle.minijinja_lexer.specs.Tags.{Tag, Variable, Block, Line}
+use Rattle.minijinja_lexer.specs.Turns.{Lexeme, Close, Closed, Broken, Refused, Turn, Token, End}
 use Rattle.minijinja_lexer.proofs.Tokens.{token_is}
 use Rattle.minijinja_lexer.proofs.Within.{line_end_within, tail_within, word_within, past_line_space_within, delimited_within}
 use Rattle.minijinja_lexer.proofs.Searching.{delimiter-before, delimiter-within, delimiter-stops, line_end-before, line_end-within, line_end-stops, endraw-found, endraw-none, endraw-over}

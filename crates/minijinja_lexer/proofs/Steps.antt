@@ -1,19 +1,16 @@
 -- One step of the walks over a text: what stands at a place, and then what stands from its end on.
 use Rattle.std.proofs.Common.{◌≡◌, ℕ, zero, suc, ◌+◌, ◌-◌, ◌<◌, ◌≤◌, List, [], ◌∷◌, ◌++◌, length, drop, refl, ap, ◌∙◌, arith, drop-cons, map, append_assoc, append-nil}
 use Rattle.std.proofs.lemmas.List.{drop_all, drop-drop}
-use Rattle.minijinja_base.specs.Values.{Text}
-use Rattle.minijinja_base.specs.Syntax.{Syntax}
-use Rattle.minijinja_base.specs.Positions.{span_at}
+use Rattle.minijinja_syntax.specs.Texts.{Text}
+use Rattle.minijinja_syntax.specs.Syntax.{Syntax}
+use Rattle.minijinja_syntax.specs.Positions.{span_at}
 use Rattle.minijinja_lexer.specs.Stream.{Stream, before, ended, finished}
 use Rattle.minijinja_lexer.specs.Brackets.{opened_by, shut_by}
 use Rattle.minijinja_lexer.specs.Cut.{close_over, Inner, Segment, inner_from, inner_at, turn_at, go_on, cut_from, cut_at, segment_at, stop_of, close_stop, plain, comment, line_comment, raw, tag, unclosed_comment, unclosed_raw}
 use Rattle.minijinja_lexer.specs.TextTokens.{stream_at, stream_of, stream_in, close_stream, lexeme_token, segment_tokens, refusal, token_refusal, start_tok, end_tok}
-use Rattle.minijinja_lexer.specs.declared.raw.RawBlock.{RawBlock}
-use Rattle.minijinja_lexer.specs.declared.turn.Tag.{Tag}
-use Rattle.minijinja_lexer.specs.declared.turn.Lexeme.{Lexeme}
-use Rattle.minijinja_lexer.specs.declared.turn.Close.{Close}
-use Rattle.minijinja_lexer.specs.declared.turn.Close.TheVariants.{Closed, Broken, Refused}
-use Rattle.minijinja_lexer.specs.declared.turn.Turn.TheVariants.{Token, End}
+use Rattle.minijinja_lexer.specs.RawBlocks.{RawBlock}
+use Rattle.minijinja_lexer.specs.Tags.{Tag}
+use Rattle.minijinja_lexer.specs.Turns.{Lexeme, Close, Closed, Broken, Refused, Token, End}
 
 -- ---- inside a tag
 

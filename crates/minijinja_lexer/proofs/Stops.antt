@@ -1,26 +1,20 @@
 -- A tag ends no sooner than it goes on.
 use Rattle.std.proofs.Common.{◌≡◌, ℕ, zero, suc, ◌+◌, ◌-◌, ◌≤◌, Bool, true, false, cond, [], ◌∷◌, length, drop, arith, subst, length-drop, Option, Some, None}
 use Rattle.std.specs.Prelude.{Result, Ok, Err, nat_lt, ◌||◌, ◌&&◌, ◌==◌}
-use Rattle.minijinja_base.specs.Values.{Text}
-use Rattle.minijinja_base.specs.Syntax.{Syntax, end_of}
-use Rattle.minijinja_base.specs.Markers.{stands}
-use Rattle.minijinja_base.specs.declared.syntax.StartMarker.{StartMarker}
-use Rattle.minijinja_base.specs.declared.syntax.StartMarker.TheVariants as markers
+use Rattle.minijinja_syntax.specs.Texts.{Text}
+use Rattle.minijinja_syntax.specs.Syntax.{Syntax, end_of}
+use Rattle.minijinja_syntax.specs.Markers.{stands}
+use Rattle.minijinja_syntax.specs.declared.syntax.StartMarker.{StartMarker}
+use Rattle.minijinja_syntax.specs.declared.syntax.StartMarker.TheVariants as markers
 use Rattle.minijinja_lexer.specs.TokenAt.{token_at}
 use Rattle.minijinja_lexer.specs.Brackets.{opened_by, shut_by}
 use Rattle.minijinja_lexer.specs.Whitespace.{past_space, past_line_space, line_end_len, control_at, is_given}
 use Rattle.minijinja_lexer.specs.Cut.{close_over, close_at, end_at, delimited_close, line_close, scanned, token_turn, turn_from, Inner, inner_from, inner_at, turn_at, go_on, close_stop}
-use Rattle.minijinja_lexer.specs.declared.whitespace.Control.{Control}
-use Rattle.minijinja_lexer.specs.declared.whitespace.Control.TheVariants.{Absent}
-use Rattle.minijinja_lexer.specs.declared.scan.Sort.{Sort}
-use Rattle.minijinja_lexer.specs.declared.fault.Fault.{Fault}
-use Rattle.minijinja_lexer.specs.declared.turn.Tag.{Tag}
-use Rattle.minijinja_lexer.specs.declared.turn.Tag.TheVariants.{Variable, Block, Line}
-use Rattle.minijinja_lexer.specs.declared.turn.Lexeme.{Lexeme}
-use Rattle.minijinja_lexer.specs.declared.turn.Close.{Close}
-use Rattle.minijinja_lexer.specs.declared.turn.Close.TheVariants.{Closed}
-use Rattle.minijinja_lexer.specs.declared.turn.Turn.{Turn}
-use Rattle.minijinja_lexer.specs.declared.turn.Turn.TheVariants.{Token, End}
+use Rattle.minijinja_lexer.specs.Controls.{Control, Absent}
+use Rattle.minijinja_lexer.specs.Sorts.{Sort}
+use Rattle.minijinja_lexer.specs.Faults.{Fault}
+use Rattle.minijinja_lexer.specs.Tags.{Tag, Variable, Block, Line}
+use Rattle.minijinja_lexer.specs.Turns.{Lexeme, Close, Closed, Turn, Token, End}
 
 TurnStops : ℕ → ℕ → Turn → Type 0
 TurnStops at len (Token l) = Unit {0}

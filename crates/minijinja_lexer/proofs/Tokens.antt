@@ -7,19 +7,18 @@ use Rattle.std.proofs.lemmas.List.{drop-drop}
 use Rattle.std.proofs.lemmas.Str.{len_utf8_bounds}
 use Rattle.unicode_ident.specs.Ident.{is_xid_start, is_xid_continue}
 use Rattle.unicode_ident.proofs.IdentLemmas.{is_xid_start-is_xid_continue}
-use Rattle.minijinja_base.specs.Values.{Text}
-use Rattle.minijinja_base.specs.Positions.{slice}
+use Rattle.minijinja_syntax.specs.Texts.{Text}
+use Rattle.minijinja_syntax.specs.Positions.{slice}
 use Rattle.minijinja_lexer.specs.Symbols.{symbol_front, long_symbol, short_symbol, longer_symbol}
 use Rattle.minijinja_lexer.specs.Names.{name_len, begins_name, starts_name, continues_name}
 use Rattle.minijinja_lexer.specs.Escapes.{unescaped}
 use Rattle.minijinja_lexer.specs.Quoted.{is_quote, quoted, quoted_len, quoted_inside, has_escapes}
 use Rattle.minijinja_lexer.specs.Numbers.{number, number_len, radix_at, prefix_size, is_taken, taken_len, taken_value, reads_as_float, with_length}
 use Rattle.minijinja_lexer.specs.TokenAt.{token_at, token_front, symbol_or, word_front, integer, int_sort, is_behind_dot, placed}
-use Rattle.minijinja_lexer.specs.declared.symbol.Symbol.{Symbol}
-use Rattle.minijinja_lexer.specs.declared.scan.Sort.{Sort}
-use Rattle.minijinja_lexer.specs.declared.scan.Sort.TheVariants as sort
-use Rattle.minijinja_lexer.specs.declared.fault.Fault.{Fault}
-use Rattle.minijinja_lexer.specs.declared.fault.Fault.TheVariants.{FloatLiteral}
+use Rattle.minijinja_lexer.specs.Symbols.{Symbol}
+use Rattle.minijinja_lexer.specs.Sorts.{Sort}
+use Rattle.minijinja_lexer.specs.Sorts as sort
+use Rattle.minijinja_lexer.specs.Faults.{Fault, FloatLiteral}
 
 -- the inside of such a string means something
 abbrev pub Means : Text → ℕ → Sort → Type 0

@@ -2,18 +2,17 @@
 use Rattle.std.proofs.Common.{◌≡◌, ℕ, ◌+◌, ◌<◌, ◌≤◌, Bool, true, false, cond, length, drop, get_or, refl, arith, subst, length-drop, Option, Some, None, eqb, lit<}
 use Rattle.std.specs.Prelude.{◌&&◌, not}
 use Rattle.std.proofs.lemmas.Bool.{eqb-true}
-use Rattle.minijinja_base.specs.Values.{Text}
-use Rattle.minijinja_base.specs.Syntax.{Syntax, end_of, IsBuildable}
-use Rattle.minijinja_base.specs.Markers.{stands}
-use Rattle.minijinja_base.specs.declared.syntax.StartMarker.{StartMarker}
-use Rattle.minijinja_base.specs.declared.syntax.StartMarker.TheVariants as markers
-use Rattle.minijinja_base.proofs.Delimiters.{stands_within}
+use Rattle.minijinja_syntax.specs.Texts.{Text}
+use Rattle.minijinja_syntax.specs.Syntax.{Syntax, end_of, IsBuildable}
+use Rattle.minijinja_syntax.specs.Markers.{stands}
+use Rattle.minijinja_syntax.specs.declared.syntax.StartMarker.{StartMarker}
+use Rattle.minijinja_syntax.specs.declared.syntax.StartMarker.TheVariants as markers
+use Rattle.minijinja_syntax.proofs.Delimiters.{stands_within}
 use Rattle.minijinja_lexer.specs.Whitespace.{control_at, control_len, control_behind, is_given, past_space, past_line_space, line_end_len, tail_len, is_variable}
 use Rattle.minijinja_lexer.specs.Raw.{word_tag}
 use Rattle.minijinja_lexer.specs.Cut.{end_at}
 use Rattle.minijinja_lexer.specs.Relation.{IsDelimiterClose}
-use Rattle.minijinja_lexer.specs.declared.whitespace.Control.{Control}
-use Rattle.minijinja_lexer.specs.declared.whitespace.Control.TheVariants.{Absent, Remove, Preserve}
+use Rattle.minijinja_lexer.specs.Controls.{Control, Absent, Remove, Preserve}
 use Rattle.minijinja_lexer.proofs.Boundaries.{within}
 
 control_fits : (text : Text) (n : ℕ) → n ≤ length text → n + control_len (control_at text n) ≤ length text

@@ -1,8 +1,7 @@
 -- How many brackets a token opens and shuts.
 use Rattle.std.specs.Prelude.{ℕ}
 use Rattle.minijinja_lexer.specs.Symbols.{opens, closes}
-use Rattle.minijinja_lexer.specs.declared.scan.Sort.{Sort}
-use Rattle.minijinja_lexer.specs.declared.scan.Sort.TheVariants.{Symbol}
+use Rattle.minijinja_lexer.specs.Sorts.{Sort, Symbol}
 
 -- 1 at a bracket that opens, and else 0
 abbrev pub opened_by : Sort → ℕ

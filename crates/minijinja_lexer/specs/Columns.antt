@@ -2,8 +2,8 @@
 use Rattle.std.specs.Prelude.{ℕ, not}
 use Rattle.std.specs.List.{suffix_len}
 use Rattle.std.specs.Str.{chars}
-use Rattle.minijinja_base.specs.Values.{Text}
-use Rattle.minijinja_base.specs.Positions.{is_newline}
+use Rattle.minijinja_syntax.specs.Texts.{Text}
+use Rattle.minijinja_syntax.specs.Positions.{is_newline}
 
 -- how many characters stand behind the last newline of a text, or in all of it where there is none
 abbrev pub chars_since_newline : Text → ℕ

@@ -5,8 +5,8 @@ use Rattle.std.specs.List.{list_all}
 use Rattle.std.specs.Char.{is_digit}
 use Rattle.std.specs.Char.Utf16.{is_high_surrogate, is_low_surrogate, surrogate_pair_char, lone_unit_char}
 use Rattle.std.specs.Str.Parse.{digits_value}
-use Rattle.minijinja_base.specs.Values.{Text}
-use Rattle.minijinja_base.specs.Quotes.{quote_mark, backslash}
+use Rattle.minijinja_syntax.specs.Texts.{Text}
+use Rattle.minijinja_syntax.specs.Quotes.{quote_mark, backslash}
 use Rattle.minijinja_lexer.specs.Bytes.{letter_u}
 
 -- what a byte behind a backslash means: \ " ' and / themselves, b f n r and t a control character

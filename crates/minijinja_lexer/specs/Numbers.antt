@@ -4,12 +4,11 @@ use Rattle.std.specs.List.{prefix_len, list_all}
 use Rattle.std.specs.Char.{is_ascii_digit, is_ascii_hexdigit, is_digit}
 use Rattle.std.specs.Str.{chars}
 use Rattle.std.specs.Str.Parse.{digits_value}
-use Rattle.minijinja_base.specs.Values.{Text}
-use Rattle.minijinja_base.specs.Positions.{slice}
+use Rattle.minijinja_syntax.specs.Texts.{Text}
+use Rattle.minijinja_syntax.specs.Positions.{slice}
 use Rattle.minijinja_lexer.specs.Bytes.{minus_sign, plus_sign, period, underscore, zero_digit}
 use Rattle.minijinja_lexer.specs.Names.{begins_name}
-use Rattle.minijinja_lexer.specs.declared.fault.Fault.{Fault}
-use Rattle.minijinja_lexer.specs.declared.fault.Fault.TheVariants.{MissingDigits, DigitOutOfRange, TrailingUnderscore, IntegerTooLarge, FloatLiteral}
+use Rattle.minijinja_lexer.specs.Faults.{Fault, MissingDigits, DigitOutOfRange, TrailingUnderscore, IntegerTooLarge, FloatLiteral}
 
 -- the radix of a prefix 0b, 0o or 0x, in either case; 10 without one
 abbrev pub radix_of : ℕ → ℕ

@@ -1,13 +1,11 @@
 -- A string at the front of a text.
 use Rattle.std.specs.Prelude.{ℕ, ◌+◌, Bool, nat_lt, ◌==◌, ◌||◌, not, if◌then◌else◌, [], ◌∷◌, length, take, drop, slice_index, is_some, Result, Ok, Err}
 use Rattle.std.specs.List.{list_any}
-use Rattle.minijinja_base.specs.Values.{Text}
-use Rattle.minijinja_base.specs.Quotes.{quote_mark, backslash}
+use Rattle.minijinja_syntax.specs.Texts.{Text}
+use Rattle.minijinja_syntax.specs.Quotes.{quote_mark, backslash}
 use Rattle.minijinja_lexer.specs.Escapes.{unescaped}
-use Rattle.minijinja_lexer.specs.declared.scan.Sort.{Sort}
-use Rattle.minijinja_lexer.specs.declared.scan.Sort.TheVariants.{Str, String}
-use Rattle.minijinja_lexer.specs.declared.fault.Fault.{Fault}
-use Rattle.minijinja_lexer.specs.declared.fault.Fault.TheVariants.{UnterminatedString, BadEscape}
+use Rattle.minijinja_lexer.specs.Sorts.{Sort, Str, String}
+use Rattle.minijinja_lexer.specs.Faults.{Fault, UnterminatedString, BadEscape}
 
 -- " and '
 abbrev pub is_quote : ℕ → Bool

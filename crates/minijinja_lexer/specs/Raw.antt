@@ -1,15 +1,14 @@
 -- Raw blocks: text between the tags `raw` and `endraw`, in which no markers count.
 use Rattle.std.specs.Prelude.{ℕ, zero, suc, ◌+◌, ◌-◌, ◌&&◌, if◌then◌else◌, codes, length, drop, Option, Some, None}
-use Rattle.minijinja_base.specs.Values.{Text}
-use Rattle.minijinja_base.specs.Syntax.{Syntax}
-use Rattle.minijinja_base.specs.Positions.{slice}
-use Rattle.minijinja_base.specs.Markers.{stands}
-use Rattle.minijinja_base.specs.declared.syntax.StartMarker.TheVariants.{Block}
+use Rattle.minijinja_syntax.specs.Texts.{Text}
+use Rattle.minijinja_syntax.specs.Syntax.{Syntax}
+use Rattle.minijinja_syntax.specs.Positions.{slice}
+use Rattle.minijinja_syntax.specs.Markers.{stands}
+use Rattle.minijinja_syntax.specs.declared.syntax.StartMarker.TheVariants.{Block}
 use Rattle.minijinja_lexer.specs.Whitespace.{control_at, control_len, past_space, tail_len, trimmed_len, line_kept_len}
-use Rattle.minijinja_lexer.specs.declared.whitespace.Control.{Control}
-use Rattle.minijinja_lexer.specs.declared.whitespace.Control.TheVariants.{Absent, Remove, Preserve}
+use Rattle.minijinja_lexer.specs.Controls.{Control, Absent, Remove, Preserve}
 -- The text from `begin` to `end` stands between the tags, what is kept of it from `start` to `stop`; `after` is behind the block.
-use Rattle.minijinja_lexer.specs.declared.raw.RawBlock.{RawBlock}
+use Rattle.minijinja_lexer.specs.RawBlocks.{RawBlock}
 
 -- The control at the end of a tag of one word, and where it ends. It is read from behind the tag's marker on: ASCII
 -- whitespace, the word, ASCII whitespace, an optional control, the block end.

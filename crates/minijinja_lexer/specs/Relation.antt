@@ -1,23 +1,20 @@
 -- The cut as a relation: what each segment is, read off the text.
 use Rattle.std.specs.Prelude.{◌≡◌, ◌≢◌, ℕ, ◌+◌, ◌<◌, ◌≤◌, true, false, ◌⊎◌, List, [], ◌∷◌, length, drop, slice_index, Some, None, Ok, Err}
-use Rattle.minijinja_base.specs.Values.{Text}
-use Rattle.minijinja_base.specs.Syntax.{Syntax, end_of}
-use Rattle.minijinja_base.specs.Markers.{is_line_end, stands, IsMarkerAt, NoMarkerBetween}
-use Rattle.minijinja_base.specs.declared.syntax.StartMarker.{StartMarker}
-use Rattle.minijinja_base.specs.declared.syntax.StartMarker.TheVariants as markers
+use Rattle.minijinja_syntax.specs.Texts.{Text}
+use Rattle.minijinja_syntax.specs.Syntax.{Syntax, end_of}
+use Rattle.minijinja_syntax.specs.Markers.{is_line_end, stands, IsMarkerAt, NoMarkerBetween}
+use Rattle.minijinja_syntax.specs.declared.syntax.StartMarker.{StartMarker}
+use Rattle.minijinja_syntax.specs.declared.syntax.StartMarker.TheVariants as markers
 use Rattle.minijinja_lexer.specs.TokenAt.{token_at}
 use Rattle.minijinja_lexer.specs.Brackets.{opened_by, shut_by}
 use Rattle.minijinja_lexer.specs.Whitespace.{body_of, past_space, past_line_space, line_end_len, tail_len}
 use Rattle.minijinja_lexer.specs.Raw.{raw_at, endraw_at, raw_block}
 use Rattle.minijinja_lexer.specs.Cut.{Inner, Segment, plain, comment, line_comment, raw, tag, unclosed_comment, unclosed_raw, marker_of, end_at, close_at, tail_control, stop_of}
-use Rattle.minijinja_lexer.specs.declared.whitespace.Control.{Control}
-use Rattle.minijinja_lexer.specs.declared.raw.RawBlock.{RawBlock}
-use Rattle.minijinja_lexer.specs.declared.fault.Fault.{Fault}
-use Rattle.minijinja_lexer.specs.declared.turn.Tag.{Tag}
-use Rattle.minijinja_lexer.specs.declared.turn.Tag.TheVariants.{Variable, Block, Line}
-use Rattle.minijinja_lexer.specs.declared.turn.Lexeme.{Lexeme}
-use Rattle.minijinja_lexer.specs.declared.turn.Close.{Close}
-use Rattle.minijinja_lexer.specs.declared.turn.Close.TheVariants.{Closed, Broken, Refused}
+use Rattle.minijinja_lexer.specs.Controls.{Control}
+use Rattle.minijinja_lexer.specs.RawBlocks.{RawBlock}
+use Rattle.minijinja_lexer.specs.Faults.{Fault}
+use Rattle.minijinja_lexer.specs.Tags.{Tag, Variable, Block, Line}
+use Rattle.minijinja_lexer.specs.Turns.{Lexeme, Close, Closed, Broken, Refused}
 
 -- ---- inside a tag
 

@@ -1,16 +1,16 @@
 -- The text of a token is the slice of the text at its span, and spans are in order and begin and end between characters.
 use Rattle.std.specs.Str.{IsCharBoundary}
-use Rattle.std.specs.Prelude.{◌≡◌, ℕ, ◌+◌, ◌-◌, ◌≤◌, List, [], ◌∷◌, ◌++◌, length, Some, IsSome}
-use Rattle.minijinja_base.specs.Values.{Text}
-use Rattle.minijinja_base.specs.Syntax.{Syntax}
-use Rattle.minijinja_base.specs.Positions.{slice, span_at}
-use Rattle.minijinja_base.specs.Tokens.{Tok, template_data, ident, str, string}
-use Rattle.minijinja_base.specs.declared.tokens.Span.{Span}
+use Rattle.std.specs.Prelude.{◌≡◌, ◌⊎◌, ℕ, ◌+◌, ◌-◌, ◌≤◌, List, [], ◌∷◌, ◌++◌, length, Some, IsSome}
+use Rattle.minijinja_syntax.specs.Texts.{Text}
+use Rattle.minijinja_syntax.specs.Syntax.{Syntax}
+use Rattle.minijinja_syntax.specs.Positions.{slice, span_at}
+use Rattle.minijinja_syntax.specs.Tokens.{Tok, template_data, ident, str, string}
+use Rattle.minijinja_syntax.specs.declared.tokens.Span.{Span}
 use Rattle.minijinja_lexer.specs.Escapes.{unescaped}
-use Rattle.minijinja_lexer.specs.Raw.{endraw_at}
+use Rattle.minijinja_lexer.specs.Controls.{Control}
+use Rattle.minijinja_lexer.specs.Raw.{raw_at, endraw_at}
 use Rattle.minijinja_lexer.specs.Cut.{Segment, raw}
 use Rattle.minijinja_lexer.specs.Stream.{SpannedTok}
-use Rattle.minijinja_lexer.specs.declared.raw.RawBlock.{RawBlock}
 
 -- data and an identifier are the slice at the span, a string is it without the quotes, a decoded one what that means
 abbrev pub IsSliceAt : Text → Span → Tok → Type 0
@@ -25,20 +25,29 @@ abbrev pub AreSlices : Text → List SpannedTok → Type 0
 AreSlices text [] = Unit {0}
 AreSlices text (t ∷ ts) = IsSliceAt text t.1 t.0 × (t.1 ≡ span_at text t.1.start_offset t.1.end_offset) × AreSlices text ts
 
--- the text is a part of what stands between a raw block's tags, and behind that stands an endraw tag
-pub record IsRawText (s : Syntax) (text : Text) (block : RawBlock) (t : Text) : Type 0 where
+-- the text is a part of what stands from `begin` to `end`; a raw tag ends at the one, and behind the other stands an endraw
+-- tag
+pub record IsRawText (s : Syntax) (text : Text) (begin end : ℕ) (t : Text) : Type 0 where
+  pub body : ℕ
+  pub control : Control
+  pub raw_tag : raw_at s text body ≡ Some (control, begin)
+  pub endraw_tag : IsSome (endraw_at s text (end + length s.block_start))
   pub from : ℕ
   pub to : ℕ
-  pub start : block.begin ≤ from
+  pub start : begin ≤ from
   pub ordered : from ≤ to
-  pub end : to ≤ block.end
+  pub stop : to ≤ end
   pub part : t ≡ slice text from to
-  pub endraw : IsSome (endraw_at s text (block.end + length s.block_start))
+
+-- The text of a token with its span: a raw block's data is a part of what stands between its tags, and that of any other
+-- token is the slice.
+abbrev pub IsTokenText : Syntax → Text → Tok → Span → Type 0
+IsTokenText s text tok span = IsSliceAt text span tok ⊎ ((t : Text) × (tok ≡ template_data t) × IsRawText s text span.start_offset span.end_offset t)
 
 -- A raw block has one token, such a text with the span of what stands between the tags. The tokens of any other segment
 -- are the slices at their spans.
 abbrev pub AreSegmentSlices : Syntax → Text → Segment → List SpannedTok → Type 0
-AreSegmentSlices s text (raw start block) ts = (t : Text) × (ts ≡ (template_data t, span_at text block.begin block.end) ∷ []) × IsRawText s text block t
+AreSegmentSlices s text (raw start block) ts = (t : Text) × (ts ≡ (template_data t, span_at text block.begin block.end) ∷ []) × IsRawText s text block.begin block.end t
 AreSegmentSlices s text _ ts = AreSlices text ts
 
 -- the tokens are those of the segments, one segment after another

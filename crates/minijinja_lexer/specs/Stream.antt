@@ -1,15 +1,16 @@
 -- The tokens that are to come, and how they end.
 use Rattle.std.specs.Prelude.{◌≡◌, ◌⊎◌, List, [], ◌∷◌, ◌++◌, map, Option, Some, None, Result, Ok, Err}
-use Rattle.minijinja_base.specs.Tokens.{Tok, tok_of, string, int128}
+use Rattle.minijinja_syntax.specs.Tokens.{Tok, tok_of, string, int128}
 use Rattle.std.specs.Borrow.{Bor}
 use Rattle.std.specs.Option.{option_map}
-use Rattle.minijinja_base.specs.Errors.{kind_of, name_of, span_of, IsOutOfMemory}
-use Rattle.minijinja_base.specs.Values.{Text}
-use Rattle.minijinja_base.specs.declared.tokens.Token.{Token}
-use Rattle.minijinja_base.specs.declared.tokens.Span.{Span}
-use Rattle.minijinja_base.specs.declared.error.Error.{Error}
-use Rattle.minijinja_base.specs.declared.error.ErrorKind.{ErrorKind}
-use Rattle.minijinja_base.specs.declared.error.ErrorKind.TheVariants.{SyntaxError, BadEscape, OutOfMemory}
+use Rattle.minijinja_syntax.specs.Errors.{kind_of, name_of, span_of, IsOutOfMemory}
+use Rattle.minijinja_syntax.specs.Texts.{Text}
+use Rattle.minijinja_syntax.specs.Syntax.{Syntax}
+use Rattle.minijinja_syntax.specs.declared.tokens.Token.{Token}
+use Rattle.minijinja_syntax.specs.declared.tokens.Span.{Span}
+use Rattle.minijinja_syntax.specs.declared.error.Error.{Error}
+use Rattle.minijinja_syntax.specs.declared.error.ErrorKind.{ErrorKind}
+use Rattle.minijinja_syntax.specs.declared.error.ErrorKind.TheVariants.{SyntaxError, BadEscape, OutOfMemory}
 
 -- a token and where it stands
 abbrev pub SpannedTok : Type 0
@@ -82,8 +83,9 @@ Answers old (Ok (Some t)) new = old ≡ before (spanned_tok t ∷ []) new
 Answers old (Ok None) new = (old ≡ ended finished) × (new ≡ old)
 Answers old (Err e) new = Refuses old e new ⊎ RunsOut old e new
 
--- what a tokenizer says of itself: the name of its source, its text, and the tokens to come
+-- what a tokenizer says of itself: its syntax, the name of its source, its text, and the tokens to come
 pub record Lexing : Type 0 where
+  pub syntax : Syntax
   pub filename : Text
   pub source : Text
   pub stream : Stream

@@ -1,9 +1,18 @@
 -- The symbols inside a tag: which one stands at the front of a text, which token it is, and which are brackets.
 use Rattle.std.specs.Prelude.{ℕ, ◌==◌, ◌&&◌, if◌then◌else◌, slice_index, Option, Some, None}
-use Rattle.minijinja_base.specs.Values.{Text}
-use Rattle.minijinja_base.specs.Tokens.{Tok, plus, minus, mul, div, floor_div, pow, rem, dot, comma, colon, tilde, assign, pipe, eq, ne, gt, gte, lt, lte, bracket_open, bracket_close, paren_open, paren_close, brace_open, brace_close}
-use Rattle.minijinja_lexer.specs.declared.symbol.Symbol.{Symbol}
-use Rattle.minijinja_lexer.specs.declared.symbol.Symbol.TheVariants.{Plus, Minus, Mul, Div, FloorDiv, Pow, Mod, Dot, Comma, Colon, Tilde, Assign, Pipe, Eq, Ne, Gt, Gte, Lt, Lte, BracketOpen, BracketClose, ParenOpen, ParenClose, BraceOpen, BraceClose}
+use Rattle.minijinja_syntax.specs.Texts.{Text}
+use Rattle.minijinja_syntax.specs.Tokens.{Tok, plus, minus, mul, div, floor_div, pow, rem, dot, comma, colon, tilde, assign, pipe, eq, ne, gt, gte, lt, lte, bracket_open, bracket_close, paren_open, paren_close, brace_open, brace_close}
+
+-- a token that is written with the same bytes wherever it stands
+pub data Symbol : Type 0 where
+  -- + - * / // ** %
+  Plus Minus Mul Div FloorDiv Pow Mod : Symbol
+  -- . , : ~ = |
+  Dot Comma Colon Tilde Assign Pipe : Symbol
+  -- == != > >= < <=
+  Eq Ne Gt Gte Lt Lte : Symbol
+  -- [ ] ( ) { }
+  BracketOpen BracketClose ParenOpen ParenClose BraceOpen BraceClose : Symbol
 
 -- the symbol that two bytes write: // ** == != >= <=
 abbrev pub long_symbol : ℕ → ℕ → Option Symbol

@@ -2,26 +2,21 @@
 use Rattle.std.specs.Prelude.{ℕ, ◌+◌, ◌-◌, ◌==◌, if◌then◌else◌, min, List, [], ◌∷◌, ◌++◌, length, map, unwrap_or, Some}
 use Rattle.std.specs.List.{flat_map}
 use Rattle.std.specs.Io.BufRead.{strip_last}
-use Rattle.minijinja_base.specs.Values.{Text}
-use Rattle.minijinja_base.specs.Syntax.{Syntax}
-use Rattle.minijinja_base.specs.Positions.{slice, span_at}
-use Rattle.minijinja_base.specs.Tokens.{Tok, template_data, variable_start, variable_end, block_start, block_end, ident, str, string, int, int128}
-use Rattle.minijinja_base.specs.declared.tokens.Span.{Span}
-use Rattle.minijinja_base.specs.declared.error.ErrorKind.TheVariants.{SyntaxError}
+use Rattle.minijinja_syntax.specs.Texts.{Text}
+use Rattle.minijinja_syntax.specs.Syntax.{Syntax}
+use Rattle.minijinja_syntax.specs.Positions.{slice, span_at}
+use Rattle.minijinja_syntax.specs.Tokens.{Tok, template_data, variable_start, variable_end, block_start, block_end, ident, str, string, int, int128}
+use Rattle.minijinja_syntax.specs.declared.tokens.Span.{Span}
+use Rattle.minijinja_syntax.specs.declared.error.ErrorKind.TheVariants.{SyntaxError}
 use Rattle.minijinja_lexer.specs.Escapes.{unescaped}
 use Rattle.minijinja_lexer.specs.Symbols.{symbol_tok}
-use Rattle.minijinja_lexer.specs.Faults.{fault_kind}
+use Rattle.minijinja_lexer.specs.Faults.{fault_kind, Fault, BadEscape}
 use Rattle.minijinja_lexer.specs.Stream.{SpannedTok, Ending, finished, refused, Stream, before, ended}
 use Rattle.minijinja_lexer.specs.Whitespace.{kept_stop}
 use Rattle.minijinja_lexer.specs.Cut.{Segment, plain, comment, line_comment, raw, tag, unclosed_comment, unclosed_raw, inner_at, cut_at}
-use Rattle.minijinja_lexer.specs.declared.fault.Fault.{Fault}
-use Rattle.minijinja_lexer.specs.declared.fault.Fault.TheVariants.{BadEscape}
-use Rattle.minijinja_lexer.specs.declared.scan.Sort.TheVariants as sort
-use Rattle.minijinja_lexer.specs.declared.turn.Tag.{Tag}
-use Rattle.minijinja_lexer.specs.declared.turn.Tag.TheVariants.{Variable, Block, Line}
-use Rattle.minijinja_lexer.specs.declared.turn.Lexeme.{Lexeme}
-use Rattle.minijinja_lexer.specs.declared.turn.Close.{Close}
-use Rattle.minijinja_lexer.specs.declared.turn.Close.TheVariants.{Closed, Broken, Refused}
+use Rattle.minijinja_lexer.specs.Sorts as sort
+use Rattle.minijinja_lexer.specs.Tags.{Tag, Variable, Block, Line}
+use Rattle.minijinja_lexer.specs.Turns.{Lexeme, Close, Closed, Broken, Refused}
 
 -- the text of a source: unless the syntax keeps it, one final \n goes, and then one final \r
 unfoldable pub text_of : Syntax → Text → Text

@@ -2,17 +2,15 @@
 use Rattle.std.specs.Prelude.{ℕ, ◌+◌, ◌-◌, ◌^◌, Bool, ◌&&◌, nat_lt, ◌==◌, if◌then◌else◌, drop, slice_index, Option, Some, None, Result, Ok, Err}
 use Rattle.std.specs.Char.{is_ascii_digit}
 use Rattle.std.specs.Str.{chars}
-use Rattle.minijinja_base.specs.Values.{Text}
+use Rattle.minijinja_syntax.specs.Texts.{Text}
 use Rattle.minijinja_lexer.specs.Bytes.{period}
 use Rattle.minijinja_lexer.specs.Symbols.{symbol_front}
 use Rattle.minijinja_lexer.specs.Names.{begins_name, name_len}
 use Rattle.minijinja_lexer.specs.Numbers.{number}
 use Rattle.minijinja_lexer.specs.Quoted.{is_quote, quoted}
-use Rattle.minijinja_lexer.specs.declared.symbol.Symbol as symbol
-use Rattle.minijinja_lexer.specs.declared.scan.Sort.{Sort}
-use Rattle.minijinja_lexer.specs.declared.scan.Sort.TheVariants.{Ident, Int, Int128, Symbol}
-use Rattle.minijinja_lexer.specs.declared.fault.Fault.{Fault}
-use Rattle.minijinja_lexer.specs.declared.fault.Fault.TheVariants.{UnexpectedCharacter}
+use Rattle.minijinja_lexer.specs.Symbols as symbol
+use Rattle.minijinja_lexer.specs.Sorts.{Sort, Ident, Int, Int128, Symbol}
+use Rattle.minijinja_lexer.specs.Faults.{Fault, UnexpectedCharacter}
 
 -- an identifier at the front; what begins none is refused where it stands
 abbrev pub name : Text → Result (Sort × ℕ) (Fault × ℕ)

@@ -3,15 +3,14 @@ use Rattle.std.specs.Prelude.{ℕ, ◌+◌, ◌-◌, Bool, true, false, not, ◌
 use Rattle.std.specs.List.{prefix_len, suffix_len, list_all, take_while}
 use Rattle.std.specs.Char.{is_ascii_whitespace, is_whitespace, len_utf8}
 use Rattle.std.specs.Str.{chars, trim_start, trim_end}
-use Rattle.minijinja_base.specs.Values.{Text}
-use Rattle.minijinja_base.specs.Syntax.{Syntax, start_of}
-use Rattle.minijinja_base.specs.Positions.{slice, is_newline}
-use Rattle.minijinja_base.specs.Markers.{is_line_end, marker_at}
-use Rattle.minijinja_base.specs.declared.syntax.StartMarker.{StartMarker}
-use Rattle.minijinja_base.specs.declared.syntax.StartMarker.TheVariants as marker
+use Rattle.minijinja_syntax.specs.Texts.{Text}
+use Rattle.minijinja_syntax.specs.Syntax.{Syntax, start_of}
+use Rattle.minijinja_syntax.specs.Positions.{slice, is_newline}
+use Rattle.minijinja_syntax.specs.Markers.{is_line_end, marker_at}
+use Rattle.minijinja_syntax.specs.declared.syntax.StartMarker.{StartMarker}
+use Rattle.minijinja_syntax.specs.declared.syntax.StartMarker.TheVariants as marker
 use Rattle.minijinja_lexer.specs.Bytes.{minus_sign, plus_sign}
-use Rattle.minijinja_lexer.specs.declared.whitespace.Control.{Control}
-use Rattle.minijinja_lexer.specs.declared.whitespace.Control.TheVariants.{Absent, Remove, Preserve}
+use Rattle.minijinja_lexer.specs.Controls.{Control, Absent, Remove, Preserve}
 
 -- ---- controls
 

@@ -1,24 +1,41 @@
-//! Lines and columns, byte by byte.
-ghost use Rattle.std.specs.Prelude.{◌≡◌, ◌≤◌, take, length};
-ghost use Rattle.minijinja_base.specs.Positions.{line_after, column_after};
-ghost use Rattle.minijinja_lexer.specs.Place.{next_line, next_column};
+//! Lines and columns.
+ghost use Rattle.std.specs.Prelude.{◌≡◌, ◌+◌, ◌<◌, ◌≤◌, ◌^◌, ◌++◌, take, length, min, count_by};
+ghost use Rattle.minijinja_syntax.specs.Positions.{is_lead, line_after, column_after};
+ghost use Rattle.minijinja_syntax.specs.Texts.{Text};
+ghost use Rattle.minijinja_lexer.specs.private.Place.{next_line, next_column};
 
-/// The line and the column after one more byte.
-#[inline]
-fn step(line: u16, column: u16, byte: u8) -> (u16, u16)
-    ensures line { result.0 ≡ next_line line byte }
-    ensures column { result.1 ≡ next_column column byte }
+use memchr::{memchr_iter, memrchr};
+
+/// From so many bytes on a stretch is searched for its line ends, and not counted byte by byte.
+const FAR: usize = 32;
+
+/// The line and the column after one more byte; what they stop at is left to the caller.
+#[inline(always)]
+fn step(line: usize, column: usize, byte: u8) -> (usize, usize)
+    requires line { line + 1 < 2 ^ 64 }
+    requires column { column + 1 < 2 ^ 64 }
+    ensures line { min 65535 result.0 ≡ next_line (min 65535 line) byte }
+    ensures column { min 65535 result.1 ≡ next_column (min 65535 column) byte }
+    ensures line_bound { result.0 ≤ line + 1 }
+    ensures column_bound { result.1 ≤ column + 1 }
 {
     if byte == b'\n' {
-        (line.saturating_add(1), 0)
-    } else if byte < 128 || byte >= 192 {
-        (line, column.saturating_add(1))
+        (line + 1, 0)
     } else {
-        (line, column)
+        (line, column + usize::from(is_lead(byte)))
     }
 }
 
+/// Whether a character begins with the byte.
+#[inline(always)]
+fn is_lead(byte: u8) -> bool
+    ensures { result ≡ is_lead byte }
+{
+    byte < 128 || byte >= 192
+}
+
 /// The line and the column of `to`, from those of `at`.
+#[inline(always)]
 pub(crate) fn after(text: &str, at: usize, to: usize, line: u16, column: u16) -> (u16, u16)
     requires ordered { at ≤ to }
     requires within { to ≤ length text.now }
@@ -28,10 +45,59 @@ pub(crate) fn after(text: &str, at: usize, to: usize, line: u16, column: u16) ->
     ensures column { result.1 ≡ column_after (take to text.now) }
 {
     let bytes = text.as_bytes();
-    let mut line = line;
-    let mut column = column;
+    if to - at >= FAR {
+        return far_after(bytes, at, to, line, column);
+    }
+    let mut line = usize::from(line);
+    let mut column = usize::from(column);
     for i in at..to {
         (line, column) = step(line, column, bytes[i]);
     }
-    (line, column)
+    (stopped(line), stopped(column))
+}
+
+/// The same over a stretch of many bytes.
+#[inline(never)]
+fn far_after(text: &[u8], at: usize, to: usize, line: u16, column: u16) -> (u16, u16)
+    requires ordered { at ≤ to }
+    requires within { to ≤ length text.now }
+    requires line { line ≡ line_after (take at text.now) }
+    requires column { column ≡ column_after (take at text.now) }
+    ensures line { result.0 ≡ line_after (take to text.now) }
+    ensures column { result.1 ≡ column_after (take to text.now) }
+{
+    let stretch = &text[at..to];
+    match memrchr(b'\n', stretch) {
+        Some(last) => (
+            moved(line, memchr_iter(b'\n', stretch).count()),
+            moved(0, char_count(&stretch[last + 1..])),
+        ),
+        None => (line, moved(column, char_count(stretch))),
+    }
+}
+
+/// A line or a column so much further on.
+fn moved(count: u16, more: usize) -> u16
+    ensures { result ≡ min 65535 (count + more) }
+{
+    stopped(usize::from(count).saturating_add(more))
+}
+
+/// A line or a column as a span has it.
+#[inline(always)]
+fn stopped(count: usize) -> u16
+    ensures { result ≡ min 65535 count }
+{
+    count.min(65535) as u16
+}
+
+/// How many characters begin in the bytes.
+fn char_count(bytes: &[u8]) -> usize
+    ensures { result ≡ count_by is_lead bytes.now }
+{
+    if bytes.is_ascii() {
+        bytes.len()
+    } else {
+        bytes.iter().filter(|byte| is_lead(**byte)).count()
+    }
 }

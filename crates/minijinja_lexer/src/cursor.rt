@@ -3,7 +3,7 @@ ghost use Rattle.std.specs.Prelude.{◌≡◌, ℕ, ◌+◌, ◌<◌, ◌≤◌,
 
 use crate::count::after;
 use crate::fault::Fault;
-use minijinja_base::tokens::Span;
+use minijinja_syntax::tokens::Span;
 use std::marker::Model;
 
 /// A place between characters. The line counts from 1 and the column from 0, in characters; both stop at 65535.
@@ -16,11 +16,11 @@ pub(crate) struct Cursor<'s> {
 }
 
 impl<'s> Model for Cursor<'s> {
-    ghost use Rattle.minijinja_lexer.specs.Place.{Place};
+    ghost use Rattle.minijinja_lexer.specs.private.Place.{Place};
 
     ghost Value = { Place };
 
-    ghost use Rattle.minijinja_lexer.specs.AtCursor.{cursor_view, IsCursor};
+    ghost use Rattle.minijinja_lexer.specs.private.AtCursor.{cursor_view, IsCursor};
 
     ghost view = { cursor_view };
 
@@ -30,10 +30,11 @@ impl<'s> Model for Cursor<'s> {
 impl<'s> Cursor<'s> {
     ghost use Rattle.std.specs.Prelude.{◌≡◌, ℕ, ◌+◌, ◌<◌, ◌≤◌, ◌^◌, length, take};
     ghost use Rattle.std.specs.Str.{IsCharBoundary};
-    ghost use Rattle.minijinja_base.specs.Positions.{span_at, line_after, column_after};
-    ghost use Rattle.minijinja_lexer.specs.Place.{Place};
+    ghost use Rattle.minijinja_syntax.specs.Positions.{span_at, line_after, column_after};
+    ghost use Rattle.minijinja_lexer.specs.private.Place.{Place};
     ghost use Rattle.minijinja_lexer.specs.Slices.{IsBetweenChars};
     ghost use Rattle.minijinja_lexer.specs.TextTokens.{refusal_span, fault_span};
+    ghost use Rattle.minijinja_lexer.specs.private.Views.{fault_view};
 
     pub(crate) fn new(text: &'s str) -> Self
         requires { length text.now < 2 ^ 32 }
@@ -47,12 +48,14 @@ impl<'s> Cursor<'s> {
         }
     }
 
+    #[inline]
     pub(crate) fn text(&self) -> &'s str
         ensures { result.now ≡ self.now.text }
     {
         self.text
     }
 
+    #[inline]
     pub(crate) fn at(&self) -> usize
         ensures value { result ≡ self.now.at }
         ensures boundary { IsCharBoundary self.now.text result }
@@ -61,6 +64,7 @@ impl<'s> Cursor<'s> {
     }
 
     /// The line, the column and the byte where it stands.
+    #[inline(always)]
     fn position(&self) -> (u16, u16, u32)
         ensures line { result.0 ≡ line_after (take self.now.at self.now.text) }
         ensures column { result.1 ≡ column_after (take self.now.at self.now.text) }
@@ -70,6 +74,7 @@ impl<'s> Cursor<'s> {
     }
 
     /// Moves on to a place.
+    #[inline(always)]
     pub(crate) fn advance(&mut self, to: usize)
         requires onwards { self.old.at ≤ to }
         requires boundary { IsCharBoundary self.old.text to }
@@ -82,6 +87,7 @@ impl<'s> Cursor<'s> {
     }
 
     /// Moves over a stretch, and answers its span.
+    #[inline(always)]
     pub(crate) fn span(&mut self, start: usize, stop: usize) -> Span
         requires onwards { self.old.at ≤ start }
         requires ordered { start ≤ stop }
@@ -106,6 +112,7 @@ impl<'s> Cursor<'s> {
     }
 
     /// Moves on to where the text is refused, and answers the refusal's span.
+    #[cold]
     pub(crate) fn refusal(&mut self, place: usize) -> Span
         requires onwards { self.old.at ≤ place }
         requires boundary { IsCharBoundary self.old.text place }
@@ -125,12 +132,13 @@ impl<'s> Cursor<'s> {
     }
 
     /// Moves on to where a token that begins at `start` is refused, and answers the refusal's span.
+    #[cold]
     pub(crate) fn fault_span(&mut self, fault: Fault, start: usize, place: usize) -> Span
         requires onwards { self.old.at ≤ start }
         requires ordered { start ≤ place }
         requires start_boundary { IsCharBoundary self.old.text start }
         requires place_boundary { IsCharBoundary self.old.text place }
-        ensures span { result ≡ fault_span self.old.text fault start place }
+        ensures span { result ≡ fault_span self.old.text (fault_view fault) start place }
         ensures place { self.new ≡ record { text = self.old.text; at = place } }
     {
         match fault {

@@ -2,13 +2,14 @@
 ghost use Rattle.std.specs.Prelude.{◌≡◌, ◌+◌, ◌-◌, ◌≤◌, ◌==◌, ◌||◌, not, Option, length, take, drop, reverse, slice_index, IfSome};
 ghost use Rattle.std.specs.List.{prefix_len};
 ghost use Rattle.std.specs.Str.{IsCharBoundary};
-ghost use Rattle.minijinja_base.specs.Markers.{is_line_end, marker_at};
-ghost use Rattle.minijinja_base.specs.Positions.{slice};
-ghost use Rattle.minijinja_base.specs.Syntax.{start_of};
+ghost use Rattle.minijinja_syntax.specs.Markers.{is_line_end, marker_at};
+ghost use Rattle.minijinja_syntax.specs.Positions.{slice};
+ghost use Rattle.minijinja_syntax.specs.Syntax.{start_of};
 ghost use Rattle.minijinja_lexer.specs.Whitespace as spec;
+ghost use Rattle.minijinja_lexer.specs.private.Views.{control_view};
 
 use crate::whitespace::{Control, control_behind, is_line_end};
-use minijinja_base::syntax::{StartMarker, SyntaxConfig};
+use minijinja_syntax::syntax::{StartMarker, SyntaxConfig};
 
 pub(crate) fn trimmed_len(text: &str) -> usize
     ensures value { result ≡ spec.trimmed_len text.now }
@@ -77,7 +78,7 @@ fn kept_len(
     before: &str,
     text: &str,
 ) -> usize
-    ensures value { result ≡ spec.kept_len syntax.now marker control before.now text.now }
+    ensures value { result ≡ spec.kept_len syntax.now marker (control_view control) before.now text.now }
     ensures boundary { IsCharBoundary text.now result }
 {
     match control {

@@ -5,7 +5,7 @@ ghost use Rattle.std.specs.Char.Utf16.{is_high_surrogate, is_low_surrogate, surr
 ghost use Rattle.std.specs.Str.{IsCharBoundary};
 ghost use Rattle.std.specs.String.{string_bytes};
 ghost use Rattle.minijinja_lexer.specs.Escapes as spec;
-ghost use Rattle.minijinja_lexer.specs.AsciiEnds.{EndsInAscii};
+ghost use Rattle.minijinja_lexer.specs.private.AsciiEnds.{EndsInAscii};
 
 use crate::number::digit_of;
 use crate::scan::byte_at;
@@ -155,6 +155,7 @@ fn plain_len(text: &str) -> usize
 }
 
 /// What the inside of a string with escapes means.
+#[inline(never)]
 pub(crate) fn unescape(alloc: Global, inside: &str) -> Result<String, AllocError>
     requires { IsSome (spec.unescaped inside.now) }
     ensures { IfOk result (λ s. spec.unescaped inside.now ≡ Some (string_bytes s)) }

@@ -1,10 +1,11 @@
 //! Why a text is refused.
 ghost use Rattle.std.specs.Prelude.{◌≡◌, Some};
-ghost use Rattle.minijinja_base.specs.Errors.{kind_of, name_of, span_of};
+ghost use Rattle.minijinja_syntax.specs.Errors.{kind_of, name_of, span_of};
 ghost use Rattle.minijinja_lexer.specs.Faults.{fault_kind};
+ghost use Rattle.minijinja_lexer.specs.private.Views.{fault_view};
 
-use minijinja_base::error::{Detail, Error, ErrorKind};
-use minijinja_base::tokens::Span;
+use minijinja_syntax::error::{Detail, Error, ErrorKind};
+use minijinja_syntax::tokens::Span;
 
 /// Why a text is refused.
 #[derive(Clone, Copy)]
@@ -44,7 +45,7 @@ fn detail<'s>(fault: Fault) -> Detail<'s> {
 }
 
 fn kind(fault: Fault) -> ErrorKind
-    ensures { result ≡ fault_kind fault }
+    ensures { result ≡ fault_kind (fault_view fault) }
 {
     match fault {
         Fault::BadEscape => ErrorKind::BadEscape,
@@ -52,8 +53,9 @@ fn kind(fault: Fault) -> ErrorKind
     }
 }
 
+#[cold]
 pub(crate) fn refusal<'s>(fault: Fault, filename: &'s str, span: Span) -> Error<'s>
-    ensures kind { kind_of result ≡ fault_kind fault }
+    ensures kind { kind_of result ≡ fault_kind (fault_view fault) }
     ensures name { name_of result ≡ Some filename.entry }
     ensures span { span_of result ≡ Some span }
 {

@@ -1,16 +1,17 @@
 //! A step inside a tag.
 ghost use Rattle.std.specs.Prelude.{◌≡◌, ℕ, ◌≤◌, length};
 ghost use Rattle.std.specs.Str.{IsCharBoundary};
-ghost use Rattle.minijinja_base.specs.Syntax.{Syntax};
-ghost use Rattle.minijinja_lexer.specs.Places.{ClosePlaces};
+ghost use Rattle.minijinja_syntax.specs.Syntax.{Syntax};
+ghost use Rattle.minijinja_lexer.specs.private.Places.{ClosePlaces};
+ghost use Rattle.minijinja_lexer.specs.private.Views.{tag_view, close_view};
 ghost use Rattle.minijinja_lexer.specs.TextTokens.{stream_in, close_stream, behind_expression};
-ghost use Rattle.minijinja_lexer.specs.States.{Steps, StateFits, TakesBetweenChars, behind, stream_from};
+ghost use Rattle.minijinja_lexer.specs.private.States.{Steps, StateFits, Takes, behind, stream_from};
 
 use crate::cursor::Cursor;
 use crate::fault::Fault;
 use crate::step::{State, Step};
 use crate::turn::{Close, Tag, Turn, close_over, end_token, opened_by, shut_by, token_of, turn_at};
-use minijinja_base::syntax::SyntaxConfig;
+use minijinja_syntax::syntax::SyntaxConfig;
 use std::alloc::Global;
 
 /// The next token of a tag with so many brackets opened and shut, which may be the whole text.
@@ -26,8 +27,8 @@ pub(crate) fn step_inside<'s>(
     requires opened { opened ≤ cursor.old.at }
     requires shut { shut ≤ cursor.old.at }
     ensures text { cursor.new.text ≡ cursor.old.text }
-    ensures steps { Steps syntax.now (stream_in syntax.now cursor.old.text tag (behind syntax.now cursor.old.text whole) opened shut cursor.old.at) result cursor.new }
-    ensures between { TakesBetweenChars cursor.old.text result }
+    ensures steps { Steps syntax.now (stream_in syntax.now cursor.old.text (tag_view tag) (behind syntax.now cursor.old.text whole) opened shut cursor.old.at) result cursor.new }
+    ensures takes { Takes syntax.now cursor.old.text result }
 {
     let text = cursor.text();
     let at = cursor.at();
@@ -53,11 +54,12 @@ pub(crate) fn step_inside<'s>(
 }
 
 /// The end of a tag.
+#[inline(always)]
 fn step_end<'s>(cursor: &mut Cursor<'s>, tag: Tag, whole: bool, close: Close) -> Step<'s>
-    requires { ClosePlaces cursor.old.text cursor.old.at close }
+    requires { ClosePlaces cursor.old.text cursor.old.at (close_view close) }
     ensures text { cursor.new.text ≡ cursor.old.text }
-    ensures steps { (s : Syntax) → Steps s (close_stream cursor.old.text tag (behind s cursor.old.text whole) close) result cursor.new }
-    ensures between { TakesBetweenChars cursor.old.text result }
+    ensures steps { (s : Syntax) → Steps s (close_stream cursor.old.text (tag_view tag) (behind s cursor.old.text whole) (close_view close)) result cursor.new }
+    ensures takes { (s : Syntax) → Takes s cursor.old.text result }
 {
     match close {
         Close::Closed(start, stop, after) => {
@@ -73,6 +75,7 @@ fn step_end<'s>(cursor: &mut Cursor<'s>, tag: Tag, whole: bool, close: Close) ->
 }
 
 /// The state behind a tag, whose tail is skipped. Behind one that is the whole text, a text that goes on is refused.
+#[inline(always)]
 fn state_behind(cursor: &mut Cursor<'_>, whole: bool, after: usize) -> State
     requires onwards { cursor.old.at ≤ after }
     requires boundary { IsCharBoundary cursor.old.text after }

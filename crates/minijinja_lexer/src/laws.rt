@@ -1,15 +1,15 @@
 //! Laws of the definitions.
 ghost use Rattle.std.specs.Prelude.{◌≡◌, ℕ, List, min, take};
 ghost use Rattle.std.specs.Str.{IsUtf8, IsCharBoundary};
-ghost use Rattle.minijinja_base.specs.Positions.{column_after};
-ghost use Rattle.minijinja_base.specs.Values.{Text};
-ghost use Rattle.minijinja_base.specs.Syntax.{Syntax, IsBuildable};
+ghost use Rattle.minijinja_syntax.specs.Positions.{column_after};
+ghost use Rattle.minijinja_syntax.specs.Texts.{Text};
+ghost use Rattle.minijinja_syntax.specs.Syntax.{Syntax, IsBuildable};
 ghost use Rattle.minijinja_lexer.specs.Columns.{chars_since_newline};
 ghost use Rattle.minijinja_lexer.specs.Cut.{Inner, Segment, inner_at, cut_at};
 ghost use Rattle.minijinja_lexer.specs.Relation.{IsCut, IsExpression};
 ghost use Rattle.minijinja_lexer.specs.Slices.{AreSlices, AreCutSlices, AreInOrder};
 ghost use Rattle.minijinja_lexer.specs.TextTokens.{text_of, tokens_of_template, tokens_of_expression};
-ghost use Rattle.minijinja_lexer.specs.declared.turn.Tag.TheVariants.{Variable};
+ghost use Rattle.minijinja_lexer.specs.Tags.{Variable};
 
 /// A text has one cut.
 pub fn one_cut()

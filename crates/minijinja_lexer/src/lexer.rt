@@ -1,10 +1,11 @@
 //! The tokenizer. A clause sees the tokens to come.
 ghost use Rattle.std.specs.Prelude.{◌≡◌, ◌≢◌, ◌<◌, ◌^◌, length, IfErr, IfOk, IfSome, if◌then◌else◌};
-ghost use Rattle.minijinja_base.specs.Errors.{kind_of};
-ghost use Rattle.minijinja_base.specs.declared.error.ErrorKind.TheVariants.{OutOfMemory};
-ghost use Rattle.minijinja_lexer.specs.Slices.{IsBetweenChars};
+ghost use Rattle.minijinja_syntax.specs.Errors.{kind_of};
+ghost use Rattle.minijinja_syntax.specs.Tokens.{tok_of};
+ghost use Rattle.minijinja_syntax.specs.declared.error.ErrorKind.TheVariants.{OutOfMemory};
+ghost use Rattle.minijinja_lexer.specs.Slices.{IsBetweenChars, IsTokenText};
 ghost use Rattle.minijinja_lexer.specs.Stream.{Answers, IsNamed, IsTokenizerKind};
-ghost use Rattle.minijinja_lexer.specs.States.{StateFits, Steps, TakesBetweenChars, stream_from};
+ghost use Rattle.minijinja_lexer.specs.private.States.{StateFits, Steps, Takes, stream_from};
 ghost use Rattle.minijinja_lexer.specs.TextTokens.{text_of, tokens_of_template, tokens_of_expression};
 
 use crate::cursor::Cursor;
@@ -14,10 +15,10 @@ use crate::outside::step_outside;
 use crate::source::text_of;
 use crate::step::{State, Step};
 use crate::turn::Tag;
-use minijinja_base::error::Error;
-pub use minijinja_base::syntax::StartMarker;
-use minijinja_base::syntax::SyntaxConfig;
-use minijinja_base::tokens::{Span, Token};
+use minijinja_syntax::error::Error;
+pub use minijinja_syntax::syntax::StartMarker;
+use minijinja_syntax::syntax::SyntaxConfig;
+use minijinja_syntax::tokens::{Span, Token};
 use std::alloc::{AllocError, Global};
 use std::marker::Model;
 
@@ -31,7 +32,7 @@ fn next_step<'s>(
     requires { StateFits cursor.old state }
     ensures text { cursor.new.text ≡ cursor.old.text }
     ensures steps { Steps syntax.now (stream_from syntax.now cursor.old state) result cursor.new }
-    ensures between { TakesBetweenChars cursor.old.text result }
+    ensures takes { Takes syntax.now cursor.old.text result }
 {
     match state {
         State::Outside => step_outside(syntax, cursor),
@@ -59,7 +60,7 @@ impl<'s, 'c> Model for Tokenizer<'s, 'c> {
 
     ghost Value = { Lexing };
 
-    ghost use Rattle.minijinja_lexer.specs.AtTokenizer.{tokenizer_view, IsTokenizer};
+    ghost use Rattle.minijinja_lexer.specs.private.AtTokenizer.{tokenizer_view, IsTokenizer};
 
     ghost view = { tokenizer_view };
 
@@ -77,6 +78,7 @@ impl<'s, 'c> Tokenizer<'s, 'c> {
         syntax: &'c SyntaxConfig,
     ) -> Self
         requires { length input.now < 2 ^ 32 }
+        ensures syntax { result.syntax ≡ syntax.now }
         ensures filename { result.filename ≡ filename.now }
         ensures source { result.source ≡ text_of syntax.now input.now }
         ensures stream { result.stream ≡ (if in_expr then tokens_of_expression syntax.now input.now else tokens_of_template syntax.now input.now) }
@@ -115,8 +117,11 @@ impl<'s, 'c> Tokenizer<'s, 'c> {
         ensures answers { Answers self.old.stream result self.new.stream }
         // The text may be cut where a token begins and where it ends.
         ensures between { IfOk result (λ token. IfSome token (λ t. IsBetweenChars self.old.source t.1)) }
+        // A name, a string without escapes and data outside of raw blocks is the slice at the span.
+        ensures text { IfOk result (λ token. IfSome token (λ t. IsTokenText self.old.syntax self.old.source (tok_of t.0) t.1)) }
         ensures cause { IfErr result (λ e. IsTokenizerKind (kind_of e)) }
         ensures named { IfErr result (λ e. kind_of e ≢ OutOfMemory → IsNamed self.old.filename e) }
+        ensures syntax { self.new.syntax ≡ self.old.syntax }
         ensures filename { self.new.filename ≡ self.old.filename }
         ensures source { self.new.source ≡ self.old.source }
     {

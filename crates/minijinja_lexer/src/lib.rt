@@ -16,12 +16,8 @@ mod outside;
 mod quoted;
 mod raw;
 mod scan;
-#[cfg(test)]
-mod scan_tests;
 mod source;
 mod step;
 mod symbol;
-#[cfg(test)]
-mod tests;
 mod turn;
 mod whitespace;

@@ -1,5 +1,5 @@
 //! An identifier at the front of a text.
-ghost use Rattle.std.specs.Prelude.{◌≡◌, ◌<◌, IsTrue};
+ghost use Rattle.std.specs.Prelude.{◌≡◌, ◌<◌, ◌&&◌, nat_lt, IsTrue};
 ghost use Rattle.std.specs.Str.{IsCharBoundary, chars};
 ghost use Rattle.minijinja_lexer.specs.Names as spec;
 
@@ -19,8 +19,39 @@ pub(crate) fn begins_name(text: &str) -> bool
     }
 }
 
+/// Whether a name may go on with the byte. A byte of a character beyond ASCII is no such.
+#[inline]
+fn continues_ascii(byte: u8) -> bool
+    ensures { result ≡ (nat_lt byte 128 && spec.continues_name byte) }
+{
+    byte.is_ascii_alphanumeric() | (byte == b'_')
+}
+
 /// How many bytes at the front a name may go on with.
+#[inline]
 pub(crate) fn name_len(text: &str) -> usize
+    ensures value { result ≡ spec.name_len (chars text.now) }
+    ensures boundary { IsCharBoundary text.now result }
+{
+    let bytes = text.as_bytes();
+    let mut len = 0;
+    while len < bytes.len() {
+        let byte = bytes[len];
+        if !continues_ascii(byte) {
+            return if byte < 128 {
+                len
+            } else {
+                len + any_name_len(&text[len..])
+            };
+        }
+        len += 1;
+    }
+    len
+}
+
+/// The same, character by character.
+#[inline(never)]
+fn any_name_len(text: &str) -> usize
     ensures value { result ≡ spec.name_len (chars text.now) }
     ensures boundary { IsCharBoundary text.now result }
 {

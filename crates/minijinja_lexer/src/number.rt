@@ -6,7 +6,8 @@ ghost use Rattle.std.specs.List.{prefix_len};
 ghost use Rattle.std.specs.Str.{IsCharBoundary};
 ghost use Rattle.std.specs.Str.Parse.{digits_value};
 ghost use Rattle.minijinja_lexer.specs.Numbers as spec;
-ghost use Rattle.minijinja_lexer.specs.NumberPlaces.{NumberPlaces};
+ghost use Rattle.minijinja_lexer.specs.private.NumberPlaces.{NumberPlaces};
+ghost use Rattle.minijinja_lexer.specs.private.Views.{value_view, number_view};
 
 use crate::fault::Fault;
 use crate::name::begins_name;
@@ -115,7 +116,7 @@ fn value_of(radix: u32, taken: &[u8]) -> Option<u128>
 
 fn taken_value(radix: u32, taken: &[u8]) -> Result<u128, Fault>
     requires some { 1 ≤ radix }
-    ensures { result ≡ spec.taken_value radix taken.now }
+    ensures { value_view result ≡ spec.taken_value radix taken.now }
 {
     if taken.is_empty() {
         return Err(Fault::MissingDigits);
@@ -146,10 +147,11 @@ fn number_len(radix: u32, text: &str) -> usize
 
 /// The value of the number at the front and its length, or why it is refused and how many bytes on.
 #[tactic(auto, unfolding(crate::specs::Numbers::number))]
+#[inline(never)]
 pub(crate) fn number(behind_dot: bool, text: &str) -> Result<(u128, usize), (Fault, usize)>
     requires digit { IsTrue (is_ascii_digit (slice_index text.now 0)) }
-    ensures value { result ≡ spec.number behind_dot text.now }
-    ensures places { NumberPlaces text.now result }
+    ensures value { number_view result ≡ spec.number behind_dot text.now }
+    ensures places { NumberPlaces text.now (number_view result) }
 {
     let radix = radix_at(text.as_bytes());
     let len = number_len(radix, text);

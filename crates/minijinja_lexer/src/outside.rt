@@ -1,15 +1,16 @@
 //! A step outside any tag.
 ghost use Rattle.std.specs.Prelude.{◌≡◌, ℕ, ◌+◌, ◌<◌, ◌≤◌, Option, length};
 ghost use Rattle.std.specs.Str.{IsCharBoundary};
-ghost use Rattle.minijinja_base.specs.Markers.{marker_at, IsMarkerPlace};
-ghost use Rattle.minijinja_base.specs.Syntax.{start_of};
+ghost use Rattle.minijinja_syntax.specs.Markers.{marker_at, IsMarkerPlace};
+ghost use Rattle.minijinja_syntax.specs.Syntax.{start_of};
 ghost use Rattle.minijinja_lexer.specs.Cut as spec;
 ghost use Rattle.minijinja_lexer.specs.TextTokens.{stream_at};
-ghost use Rattle.minijinja_lexer.specs.RawPlaces.{RawBlockPlaces};
-ghost use Rattle.minijinja_lexer.specs.States.{Steps, RawSteps, TakesBetweenChars};
+ghost use Rattle.minijinja_lexer.specs.private.RawPlaces.{RawBlockPlaces};
+ghost use Rattle.minijinja_lexer.specs.private.States.{Steps, RawSteps, Takes, TakesBetween};
 ghost use Rattle.minijinja_lexer.specs.Raw.{raw_at};
+ghost use Rattle.minijinja_lexer.specs.private.Views.{control_view};
 ghost use Rattle.minijinja_lexer.specs.Whitespace.{control_len, control_behind};
-ghost use Rattle.minijinja_lexer.specs.Found.{IsFound};
+ghost use Rattle.minijinja_lexer.specs.private.Found.{IsFound};
 
 use crate::cursor::Cursor;
 use crate::data::kept_stop;
@@ -21,8 +22,8 @@ use crate::turn::{Tag, start_token};
 use crate::whitespace::{
     Control, control_at, control_behind, control_len, past_line_end, past_tail,
 };
-use minijinja_base::syntax::{StartMarker, SyntaxConfig};
-use minijinja_base::tokens::Token;
+use minijinja_syntax::syntax::{StartMarker, SyntaxConfig};
+use minijinja_syntax::tokens::Token;
 
 /// The segment that stands at a place: data up to a place, with where it is kept to; a comment up to a place; a raw
 /// block; a tag whose marker ends at a place; or what has no end.
@@ -37,7 +38,7 @@ enum Found {
 
 /// The control before a comment's end delimiter.
 fn tail_control(text: &str, body: usize, end: usize) -> Control
-    ensures { result ≡ spec.tail_control text.now body end }
+    ensures { control_view result ≡ spec.tail_control text.now body end }
 {
     if body < end {
         control_at(text, end - 1)
@@ -142,7 +143,7 @@ fn step_raw<'s>(cursor: &mut Cursor<'s>, text: &'s str, block: RawBlock) -> Step
     requires onwards { cursor.old.at ≤ block.begin }
     requires places { RawBlockPlaces text.now block.begin block }
     ensures steps { RawSteps cursor.old.text block result cursor.new }
-    ensures between { TakesBetweenChars cursor.old.text result }
+    ensures between { TakesBetween cursor.old.text result }
 {
     let RawBlock {
         begin,
@@ -164,7 +165,7 @@ fn step_raw<'s>(cursor: &mut Cursor<'s>, text: &'s str, block: RawBlock) -> Step
 pub(crate) fn step_outside<'s>(syntax: &SyntaxConfig, cursor: &mut Cursor<'s>) -> Step<'s>
     ensures text { cursor.new.text ≡ cursor.old.text }
     ensures steps { Steps syntax.now (stream_at syntax.now cursor.old.text cursor.old.at) result cursor.new }
-    ensures between { TakesBetweenChars cursor.old.text result }
+    ensures takes { Takes syntax.now cursor.old.text result }
 {
     let text = cursor.text();
     while cursor.at() < text.len() {

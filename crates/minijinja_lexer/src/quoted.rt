@@ -1,7 +1,8 @@
 //! A string at the front of a text.
 ghost use Rattle.std.specs.Prelude.{◌≡◌, ◌<◌, ◌≤◌, length, slice_index, IsTrue};
 ghost use Rattle.minijinja_lexer.specs.Quoted as spec;
-ghost use Rattle.minijinja_lexer.specs.TokenPlaces.{ScanPlaces};
+ghost use Rattle.minijinja_lexer.specs.private.TokenPlaces.{ScanPlaces};
+ghost use Rattle.minijinja_lexer.specs.private.Views.{scan_view};
 
 use crate::escape::has_meaning;
 use crate::fault::Fault;
@@ -33,7 +34,7 @@ fn has_escapes(inside: &[u8]) -> bool
 /// The string whose inside has this length.
 fn quoted_inside(inside: &[u8], len: usize) -> Result<(Sort, usize), (Fault, usize)>
     requires { len ≡ length inside.now }
-    ensures { result ≡ spec.quoted_inside inside.now len }
+    ensures { scan_view result ≡ spec.quoted_inside inside.now len }
 {
     if !has_escapes(inside) {
         Ok((Sort::Str, len + 2))
@@ -45,10 +46,11 @@ fn quoted_inside(inside: &[u8], len: usize) -> Result<(Sort, usize), (Fault, usi
 }
 
 /// The string at the front and its length, or why it is refused and how many bytes on.
+#[inline(never)]
 pub(crate) fn quoted(text: &str) -> Result<(Sort, usize), (Fault, usize)>
     requires { IsTrue (spec.is_quote (slice_index text.now 0)) }
-    ensures value { result ≡ spec.quoted text.now }
-    ensures places { ScanPlaces text.now 0 result }
+    ensures value { scan_view result ≡ spec.quoted text.now }
+    ensures places { ScanPlaces text.now 0 (scan_view result) }
 {
     let bytes = text.as_bytes();
     let rest = &bytes[1..];

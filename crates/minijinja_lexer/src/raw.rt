@@ -2,15 +2,16 @@
 ghost use Rattle.std.specs.Prelude.{◌≡◌, ℕ, ◌+◌, ◌<◌, ◌≤◌, codes, length, slice_index, IfSome, Option};
 ghost use Rattle.std.specs.Option.{option_map};
 ghost use Rattle.std.specs.Str.{IsCharBoundary};
-ghost use Rattle.minijinja_base.specs.Positions.{slice};
+ghost use Rattle.minijinja_syntax.specs.Positions.{slice};
 ghost use Rattle.minijinja_lexer.specs.Cut.{next_delimiter, next_line_end};
 ghost use Rattle.minijinja_lexer.specs.Raw as spec;
-ghost use Rattle.minijinja_lexer.specs.RawPlaces.{IsRawBlock};
+ghost use Rattle.minijinja_lexer.specs.private.RawPlaces.{IsRawBlock};
+ghost use Rattle.minijinja_lexer.specs.private.Views.{control_view, end_view, endraw_view};
 
 use crate::data::{line_kept_len, trimmed_len};
 use crate::find::next_delimiter;
 use crate::whitespace::{Control, control_at, past_control, past_space, past_tail, tail_len};
-use minijinja_base::syntax::{StartMarker, SyntaxConfig, stands_at};
+use minijinja_syntax::syntax::{StartMarker, SyntaxConfig, stands_at};
 
 /// A raw block by its places: the text between its tags runs from `begin` to `end`, what is kept of it from `start` to
 /// `stop`, and `after` is behind the block and what is skipped there.
@@ -28,7 +29,7 @@ pub(crate) struct RawBlock {
 fn word_tag(syntax: &SyntaxConfig, text: &str, word: &str, at: usize) -> Option<(Control, usize)>
     requires word { 0 < length word.now }
     requires boundary { IsCharBoundary text.now at }
-    ensures value { result ≡ spec.word_tag syntax.now text.now word.now at }
+    ensures value { end_view result ≡ spec.word_tag syntax.now text.now word.now at }
     ensures onwards { IfSome result (λ r. at < r.1) }
     ensures boundary { IfSome result (λ r. IsCharBoundary text.now r.1) }
 {
@@ -49,7 +50,7 @@ fn word_tag(syntax: &SyntaxConfig, text: &str, word: &str, at: usize) -> Option<
 /// The control at the end of the raw tag whose marker ends at a place, and where the tag ends.
 pub(crate) fn raw_at(syntax: &SyntaxConfig, text: &str, at: usize) -> Option<(Control, usize)>
     requires { IsCharBoundary text.now at }
-    ensures value { result ≡ spec.raw_at syntax.now text.now at }
+    ensures value { end_view result ≡ spec.raw_at syntax.now text.now at }
     ensures onwards { IfSome result (λ r. at < r.1) }
     ensures boundary { IfSome result (λ r. IsCharBoundary text.now r.1) }
 {
@@ -59,7 +60,7 @@ pub(crate) fn raw_at(syntax: &SyntaxConfig, text: &str, at: usize) -> Option<(Co
 /// The same of the endraw tag whose block start ends at a place.
 fn endraw_at(syntax: &SyntaxConfig, text: &str, at: usize) -> Option<(Control, usize)>
     requires { IsCharBoundary text.now at }
-    ensures value { result ≡ spec.endraw_at syntax.now text.now at }
+    ensures value { end_view result ≡ spec.endraw_at syntax.now text.now at }
     ensures onwards { IfSome result (λ r. at < r.1) }
     ensures boundary { IfSome result (λ r. IsCharBoundary text.now r.1) }
 {
@@ -69,7 +70,7 @@ fn endraw_at(syntax: &SyntaxConfig, text: &str, at: usize) -> Option<(Control, u
 /// The first endraw tag from a place on: where it begins, the control at its end, and where it ends.
 fn next_endraw(syntax: &SyntaxConfig, text: &str, at: usize) -> Option<(usize, Control, usize)>
     requires { IsCharBoundary text.now at }
-    ensures value { result ≡ spec.next_endraw syntax.now text.now at }
+    ensures value { endraw_view result ≡ spec.next_endraw syntax.now text.now at }
     ensures onwards { IfSome result (λ r. (at ≤ r.0) × (r.0 < r.2)) }
     ensures start { IfSome result (λ r. IsCharBoundary text.now r.0) }
     ensures end { IfSome result (λ r. IsCharBoundary text.now r.2) }
@@ -91,7 +92,7 @@ fn next_endraw(syntax: &SyntaxConfig, text: &str, at: usize) -> Option<(usize, C
 }
 
 fn raw_kept_len(syntax: &SyntaxConfig, control: Control, text: &str) -> usize
-    ensures value { result ≡ spec.raw_kept_len syntax.now control text.now }
+    ensures value { result ≡ spec.raw_kept_len syntax.now (control_view control) text.now }
     ensures boundary { IsCharBoundary text.now result }
 {
     match control {
@@ -108,6 +109,7 @@ fn raw_kept_len(syntax: &SyntaxConfig, control: Control, text: &str) -> usize
 }
 
 /// The raw block whose first tag ends with the control at `begin`, if an endraw tag follows.
+#[inline(never)]
 pub(crate) fn raw_block(
     syntax: &SyntaxConfig,
     text: &str,
@@ -115,7 +117,7 @@ pub(crate) fn raw_block(
     control: Control,
 ) -> Option<RawBlock>
     requires { IsCharBoundary text.now begin }
-    ensures { IsRawBlock syntax.now text.now begin control result }
+    ensures { IsRawBlock syntax.now text.now begin (control_view control) result }
 {
     let (end, end_control, tag_end) = next_endraw(syntax, text, begin)?;
     let start = begin + tail_len(syntax, StartMarker::Block, control, &text[begin..end]);

@@ -4,7 +4,8 @@ ghost use Rattle.std.specs.Char.{is_ascii_whitespace};
 ghost use Rattle.std.specs.List.{prefix_len};
 ghost use Rattle.std.specs.Str.{IsCharBoundary, chars};
 ghost use Rattle.minijinja_lexer.specs.TokenAt as spec;
-ghost use Rattle.minijinja_lexer.specs.TokenPlaces.{ScanPlaces};
+ghost use Rattle.minijinja_lexer.specs.private.TokenPlaces.{ScanPlaces};
+ghost use Rattle.minijinja_lexer.specs.private.Views.{sort_view, scan_view};
 
 use crate::fault::Fault;
 use crate::name::{begins_name, name_len};
@@ -49,7 +50,7 @@ pub(crate) fn byte_at(text: &[u8], at: usize) -> u8
 }
 
 fn int_sort(value: u128) -> Sort
-    ensures { result ≡ spec.int_sort value }
+    ensures { sort_view result ≡ spec.int_sort value }
 {
     if value <= u128::from(u64::MAX) {
         Sort::Int(value as u64)
@@ -60,8 +61,8 @@ fn int_sort(value: u128) -> Sort
 
 fn word_front(behind_dot: bool, text: &str) -> Result<(Sort, usize), (Fault, usize)>
     requires { 0 < length text.now }
-    ensures value { result ≡ spec.word_front behind_dot text.now }
-    ensures places { ScanPlaces text.now 0 result }
+    ensures value { scan_view result ≡ spec.word_front behind_dot text.now }
+    ensures places { ScanPlaces text.now 0 (scan_view result) }
 {
     let first = text.as_bytes()[0];
     if first == b'"' || first == b'\'' {
@@ -79,8 +80,8 @@ fn word_front(behind_dot: bool, text: &str) -> Result<(Sort, usize), (Fault, usi
 #[tactic(auto, unfolding(crate::specs::TokenAt::token_front))]
 fn token_front(behind_dot: bool, text: &str) -> Result<(Sort, usize), (Fault, usize)>
     requires { 0 < length text.now }
-    ensures value { result ≡ spec.token_front behind_dot text.now }
-    ensures places { ScanPlaces text.now 0 result }
+    ensures value { scan_view result ≡ spec.token_front behind_dot text.now }
+    ensures places { ScanPlaces text.now 0 (scan_view result) }
 {
     match symbol_front(text.as_bytes()) {
         Some((symbol, len)) => Ok((Sort::Symbol(symbol), len)),
@@ -99,8 +100,8 @@ fn is_behind_dot(text: &[u8], at: usize) -> bool
 pub(crate) fn token_at(text: &str, at: usize) -> Result<(Sort, usize), (Fault, usize)>
     requires within { at < length text.now }
     requires boundary { IsCharBoundary text.now at }
-    ensures value { result ≡ spec.token_at text.now at }
-    ensures places { ScanPlaces text.now at result }
+    ensures value { scan_view result ≡ spec.token_at text.now at }
+    ensures places { ScanPlaces text.now at (scan_view result) }
 {
     match token_front(is_behind_dot(text.as_bytes(), at), &text[at..]) {
         Ok((sort, len)) => Ok((sort, at + len)),

@@ -3,7 +3,7 @@ ghost use Rattle.std.specs.Prelude.{◌≡◌, ◌<◌, ◌≤◌, length};
 ghost use Rattle.std.specs.Io.BufRead.{strip_last};
 ghost use Rattle.minijinja_lexer.specs.TextTokens as spec;
 
-use minijinja_base::syntax::SyntaxConfig;
+use minijinja_syntax::syntax::SyntaxConfig;
 
 fn without_last(text: &str, byte: u8) -> &str
     requires { byte < 128 }

@@ -1,7 +1,7 @@
 //! One step of the tokenizer.
 use crate::fault::Fault;
 use crate::turn::Tag;
-use minijinja_base::tokens::{Span, Token};
+use minijinja_syntax::tokens::{Span, Token};
 
 /// Where the tokenizer stands: in a tag with the counts of brackets opened and shut in it, where the tag may be the
 /// whole text.

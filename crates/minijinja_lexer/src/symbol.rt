@@ -1,11 +1,13 @@
 //! The symbols inside a tag.
 ghost use Rattle.std.specs.Prelude.{◌≡◌, ◌<◌, IsSome, IfSome};
-ghost use Rattle.minijinja_base.specs.Tokens.{tok_of};
-ghost use Rattle.minijinja_lexer.specs.AsciiEnds.{EndsInAscii};
+ghost use Rattle.minijinja_syntax.specs.Tokens.{tok_of};
+ghost use Rattle.minijinja_lexer.specs.private.AsciiEnds.{EndsInAscii};
 ghost use Rattle.minijinja_lexer.specs.Symbols as spec;
+ghost use Rattle.std.specs.Option.{option_map};
+ghost use Rattle.minijinja_lexer.specs.private.Views.{symbol_view};
 
 use crate::scan::byte_at;
-use minijinja_base::tokens::Token;
+use minijinja_syntax::tokens::Token;
 
 /// A token that is written with the same bytes wherever it stands.
 #[derive(Clone, Copy)]
@@ -63,7 +65,7 @@ pub(crate) enum Symbol {
 }
 
 fn long_symbol(first: u8, second: u8) -> Option<Symbol>
-    ensures value { result ≡ spec.long_symbol first second }
+    ensures value { option_map symbol_view result ≡ spec.long_symbol first second }
     ensures ascii { IsSome result → (0 < second) × (second < 128) }
 {
     match (first, second) {
@@ -78,7 +80,7 @@ fn long_symbol(first: u8, second: u8) -> Option<Symbol>
 }
 
 fn short_symbol(byte: u8) -> Option<Symbol>
-    ensures value { result ≡ spec.short_symbol byte }
+    ensures value { option_map symbol_view result ≡ spec.short_symbol byte }
     ensures ascii { IsSome result → (0 < byte) × (byte < 128) }
 {
     match byte {
@@ -108,7 +110,7 @@ fn short_symbol(byte: u8) -> Option<Symbol>
 /// The longest symbol at the front, and its length.
 #[tactic(auto, unfolding(crate::specs::Symbols::symbol_front))]
 pub(crate) fn symbol_front(text: &[u8]) -> Option<(Symbol, usize)>
-    ensures value { result ≡ spec.symbol_front text.now }
+    ensures value { option_map (λ s. (symbol_view s.0, s.1)) result ≡ spec.symbol_front text.now }
     ensures places { IfSome result (λ s. EndsInAscii text.now s.1) }
 {
     let first = byte_at(text, 0);
@@ -120,7 +122,7 @@ pub(crate) fn symbol_front(text: &[u8]) -> Option<(Symbol, usize)>
 }
 
 pub(crate) fn symbol_token<'s>(symbol: Symbol) -> Token<'s>
-    ensures { tok_of result ≡ spec.symbol_tok symbol }
+    ensures { tok_of result ≡ spec.symbol_tok (symbol_view symbol) }
 {
     match symbol {
         Symbol::Plus => Token::Plus,
@@ -153,7 +155,7 @@ pub(crate) fn symbol_token<'s>(symbol: Symbol) -> Token<'s>
 
 /// 1 at a bracket of any kind that opens, and else 0.
 pub(crate) fn opens(symbol: Symbol) -> usize
-    ensures { result ≡ spec.opens symbol }
+    ensures { result ≡ spec.opens (symbol_view symbol) }
 {
     match symbol {
         Symbol::BracketOpen | Symbol::ParenOpen | Symbol::BraceOpen => 1,
@@ -163,7 +165,7 @@ pub(crate) fn opens(symbol: Symbol) -> usize
 
 /// 1 at a bracket of any kind that closes, and else 0.
 pub(crate) fn closes(symbol: Symbol) -> usize
-    ensures { result ≡ spec.closes symbol }
+    ensures { result ≡ spec.closes (symbol_view symbol) }
 {
     match symbol {
         Symbol::BracketClose | Symbol::ParenClose | Symbol::BraceClose => 1,

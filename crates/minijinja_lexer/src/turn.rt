@@ -1,13 +1,15 @@
 //! What stands at a place in a tag.
-ghost use Rattle.std.specs.Prelude.{◌≡◌, ℕ, ◌+◌, ◌-◌, ◌<◌, ◌≤◌, Option, length, drop, IfOk, IfErr, IfSome, IsTrue};
+ghost use Rattle.std.specs.Prelude.{◌≡◌, ℕ, ◌+◌, ◌-◌, ◌<◌, ◌≤◌, Option, option_map, length, drop, IfOk, IfErr, IfSome, IsTrue};
 ghost use Rattle.std.specs.Str.{IsCharBoundary};
-ghost use Rattle.minijinja_base.specs.Syntax.{IsBuildable, IsDelimited, end_of};
-ghost use Rattle.minijinja_base.specs.Tokens.{tok_of};
+ghost use Rattle.minijinja_syntax.specs.Syntax.{IsBuildable, IsDelimited, end_of};
+ghost use Rattle.minijinja_syntax.specs.Tokens.{tok_of};
 ghost use Rattle.minijinja_lexer.specs.Brackets as brackets;
 ghost use Rattle.minijinja_lexer.specs.Cut as spec;
+ghost use Rattle.minijinja_lexer.specs.Whitespace.{past_space};
 ghost use Rattle.minijinja_lexer.specs.Stream.{OwnsMemory};
 ghost use Rattle.minijinja_lexer.specs.TextTokens.{start_tok, end_tok, lexeme_tok};
-ghost use Rattle.minijinja_lexer.specs.Places.{TurnPlaces, ClosePlaces, LexemePlaces};
+ghost use Rattle.minijinja_lexer.specs.private.Places.{TurnPlaces, ClosePlaces, LexemePlaces};
+ghost use Rattle.minijinja_lexer.specs.private.Views.{tag_view, sort_view, lexeme_view, close_view, turn_view, end_view};
 
 use crate::escape::unescape;
 use crate::fault::Fault;
@@ -16,8 +18,8 @@ use crate::symbol::{closes, opens, symbol_token};
 use crate::whitespace::{
     Control, control_at, control_len, past_line_end, past_line_space, past_space, past_tail,
 };
-use minijinja_base::syntax::{StartMarker, SyntaxConfig, stands_at};
-use minijinja_base::tokens::Token;
+use minijinja_syntax::syntax::{StartMarker, SyntaxConfig, stands_at};
+use minijinja_syntax::tokens::Token;
 use std::alloc::{AllocError, Global};
 
 /// A kind of tag that holds tokens.
@@ -54,7 +56,7 @@ pub(crate) enum Turn {
 }
 
 pub(crate) fn start_token<'s>(tag: Tag) -> Token<'s>
-    ensures { tok_of result ≡ start_tok tag }
+    ensures { tok_of result ≡ start_tok (tag_view tag) }
 {
     match tag {
         Tag::Variable => Token::VariableStart,
@@ -63,7 +65,7 @@ pub(crate) fn start_token<'s>(tag: Tag) -> Token<'s>
 }
 
 pub(crate) fn end_token<'s>(tag: Tag) -> Token<'s>
-    ensures { tok_of result ≡ end_tok tag }
+    ensures { tok_of result ≡ end_tok (tag_view tag) }
 {
     match tag {
         Tag::Variable => Token::VariableEnd,
@@ -73,7 +75,7 @@ pub(crate) fn end_token<'s>(tag: Tag) -> Token<'s>
 
 /// How many brackets a token opens.
 pub(crate) fn opened_by(sort: Sort) -> usize
-    ensures value { result ≡ brackets.opened_by sort }
+    ensures value { result ≡ brackets.opened_by (sort_view sort) }
     ensures bound { result ≤ 1 }
 {
     match sort {
@@ -84,7 +86,7 @@ pub(crate) fn opened_by(sort: Sort) -> usize
 
 /// How many brackets a token shuts.
 pub(crate) fn shut_by(sort: Sort) -> usize
-    ensures value { result ≡ brackets.shut_by sort }
+    ensures value { result ≡ brackets.shut_by (sort_view sort) }
     ensures bound { result ≤ 1 }
 {
     match sort {
@@ -100,9 +102,9 @@ pub(crate) fn token_of<'s>(
     at: usize,
     lexeme: Lexeme,
 ) -> Result<Token<'s>, AllocError>
-    requires { LexemePlaces text.now at lexeme }
-    ensures token { IfOk result (λ t. tok_of t ≡ lexeme_tok text.now lexeme) }
-    ensures memory { IfErr result (λ _. OwnsMemory (lexeme_tok text.now lexeme)) }
+    requires { LexemePlaces text.now at (lexeme_view lexeme) }
+    ensures token { IfOk result (λ t. tok_of t ≡ lexeme_tok text.now (lexeme_view lexeme)) }
+    ensures memory { IfErr result (λ _. OwnsMemory (lexeme_tok text.now (lexeme_view lexeme))) }
 {
     let Lexeme { start, stop, sort } = lexeme;
     Ok(match sort {
@@ -117,10 +119,11 @@ pub(crate) fn token_of<'s>(
 
 /// The control of an end delimiter at a place, and where the delimiter ends.
 #[tactic(auto, unfolding(crate::specs::Cut::end_at))]
+#[inline(always)]
 fn end_at(text: &str, at: usize, delimiter: &str) -> Option<(Control, usize)>
     requires some { 0 < length delimiter.now }
     requires boundary { IsCharBoundary text.now at }
-    ensures value { result ≡ spec.end_at delimiter.now text.now at }
+    ensures value { end_view result ≡ spec.end_at delimiter.now text.now at }
     ensures onwards { IfSome result (λ r. at < r.1) }
     ensures boundary { IfSome result (λ r. IsCharBoundary text.now r.1) }
 {
@@ -134,31 +137,33 @@ fn end_at(text: &str, at: usize, delimiter: &str) -> Option<(Control, usize)>
     }
 }
 
-/// The end delimiter behind the whitespace at a place, with the tail that is skipped behind it.
+/// The end delimiter at a place behind whitespace, with the tail that is skipped behind it.
+#[inline(always)]
 fn delimiter_close(
     syntax: &SyntaxConfig,
     text: &str,
     marker: StartMarker,
     delimiter: &str,
-    at: usize,
+    start: usize,
 ) -> Option<Close>
     requires some { 0 < length delimiter.now }
     requires delimiter { delimiter.now ≡ end_of syntax.now marker }
-    requires boundary { IsCharBoundary text.now at }
-    ensures value { result ≡ spec.delimiter_close syntax.now text.now marker at }
-    ensures places { IfSome result (ClosePlaces text.now at) }
+    requires boundary { IsCharBoundary text.now start }
+    ensures value { option_map close_view result
+        ≡ spec.delimited_close syntax.now text.now marker start (spec.end_at delimiter.now text.now start) }
+    ensures places { IfSome result (λ close. ClosePlaces text.now start (close_view close)) }
 {
-    let start = past_space(text, at);
     let (control, stop) = end_at(text, start, delimiter)?;
     let after = past_tail(syntax, marker, control, text, stop);
     Some(Close::Closed(start, stop, after))
 }
 
 /// A line end or the end of the text, behind whitespace other than `\r` and `\n`.
+#[inline(never)]
 fn line_close(text: &str, at: usize) -> Option<Close>
     requires { IsCharBoundary text.now at }
-    ensures value { result ≡ spec.line_close text.now at }
-    ensures places { IfSome result (ClosePlaces text.now at) }
+    ensures value { option_map close_view result ≡ spec.line_close text.now at }
+    ensures places { IfSome result (λ close. ClosePlaces text.now at (close_view close)) }
 {
     let place = past_line_space(text, at);
     let stop = past_line_end(text, place);
@@ -169,12 +174,15 @@ fn line_close(text: &str, at: usize) -> Option<Close>
     }
 }
 
-/// The end that stands at a place in a tag, if one does.
+/// The end that stands at a place in a tag, if one does; whitespace stands from there to `start`.
 #[tactic(auto, unfolding(crate::specs::Cut::close_at))]
-fn close_at(syntax: &SyntaxConfig, text: &str, tag: Tag, at: usize) -> Option<Close>
-    requires { IsCharBoundary text.now at }
-    ensures value { result ≡ spec.close_at syntax.now text.now tag at }
-    ensures places { IfSome result (ClosePlaces text.now at) }
+#[inline]
+fn close_at(syntax: &SyntaxConfig, text: &str, tag: Tag, at: usize, start: usize) -> Option<Close>
+    requires boundary { IsCharBoundary text.now at }
+    requires space { start ≡ past_space text.now at }
+    requires behind { IsCharBoundary text.now start }
+    ensures value { option_map close_view result ≡ spec.close_at syntax.now text.now (tag_view tag) at }
+    ensures places { IfSome result (λ close. ClosePlaces text.now at (close_view close)) }
 {
     match tag {
         Tag::Variable => delimiter_close(
@@ -182,14 +190,14 @@ fn close_at(syntax: &SyntaxConfig, text: &str, tag: Tag, at: usize) -> Option<Cl
             text,
             StartMarker::Variable,
             syntax.variable_delimiters().1,
-            at,
+            start,
         ),
         Tag::Block => delimiter_close(
             syntax,
             text,
             StartMarker::Block,
             syntax.block_delimiters().1,
-            at,
+            start,
         ),
         Tag::Line => line_close(text, at),
     }
@@ -197,7 +205,7 @@ fn close_at(syntax: &SyntaxConfig, text: &str, tag: Tag, at: usize) -> Option<Cl
 
 /// How a tag ends with the text, at a place.
 pub(crate) fn close_over(len: usize, place: usize, tag: Tag) -> Close
-    ensures { result ≡ spec.close_over len place tag }
+    ensures { close_view result ≡ spec.close_over len place (tag_view tag) }
 {
     match tag {
         Tag::Variable | Tag::Block => Close::Broken,
@@ -205,10 +213,11 @@ pub(crate) fn close_over(len: usize, place: usize, tag: Tag) -> Close
     }
 }
 
+#[inline]
 fn token_turn(text: &str, tag: Tag, at: usize) -> Turn
     requires { IsCharBoundary text.now at }
-    ensures value { result ≡ spec.token_turn text.now tag at }
-    ensures places { TurnPlaces text.now at result }
+    ensures value { turn_view result ≡ spec.token_turn text.now (tag_view tag) at }
+    ensures places { TurnPlaces text.now at (turn_view result) }
 {
     if at < text.len() {
         match token_at(text, at) {
@@ -226,6 +235,7 @@ fn token_turn(text: &str, tag: Tag, at: usize) -> Turn
 
 /// What stands at a place in a tag with so many brackets opened and shut.
 #[tactic(auto, unfolding(crate::specs::Cut::turn_at))]
+#[inline]
 pub(crate) fn turn_at(
     syntax: &SyntaxConfig,
     text: &str,
@@ -235,13 +245,14 @@ pub(crate) fn turn_at(
     at: usize,
 ) -> Turn
     requires { IsCharBoundary text.now at }
-    ensures value { result ≡ spec.turn_at syntax.now text.now tag opened shut at }
-    ensures places { TurnPlaces text.now at result }
+    ensures value { turn_view result ≡ spec.turn_at syntax.now text.now (tag_view tag) opened shut at }
+    ensures places { TurnPlaces text.now at (turn_view result) }
 {
+    let start = past_space(text, at);
     if opened == shut {
-        if let Some(close) = close_at(syntax, text, tag, at) {
+        if let Some(close) = close_at(syntax, text, tag, at, start) {
             return Turn::End(close);
         }
     }
-    token_turn(text, tag, past_space(text, at))
+    token_turn(text, tag, start)
 }

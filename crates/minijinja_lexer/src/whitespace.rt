@@ -1,12 +1,13 @@
 //! Controls, and the whitespace that is skipped behind an end.
 ghost use Rattle.std.specs.Prelude.{◌≡◌, ◌+◌, ◌-◌, ◌≤◌, length, drop, slice_index};
 ghost use Rattle.std.specs.Str.{IsCharBoundary, chars, trim_start};
-ghost use Rattle.minijinja_base.specs.Markers as markers;
-ghost use Rattle.minijinja_base.specs.Syntax.{Syntax};
+ghost use Rattle.minijinja_syntax.specs.Markers as markers;
+ghost use Rattle.minijinja_syntax.specs.Syntax.{Syntax};
 ghost use Rattle.minijinja_lexer.specs.Whitespace as spec;
+ghost use Rattle.minijinja_lexer.specs.private.Views.{control_view};
 
 use crate::scan::{byte_at, space_len};
-use minijinja_base::syntax::{StartMarker, SyntaxConfig};
+use minijinja_syntax::syntax::{StartMarker, SyntaxConfig};
 
 /// What a `-` or `+` at a marker asks of the whitespace beside it.
 #[derive(Clone, Copy)]
@@ -17,7 +18,7 @@ pub(crate) enum Control {
 }
 
 fn control_of(byte: u8) -> Control
-    ensures { result ≡ spec.control_of byte }
+    ensures { control_view result ≡ spec.control_of byte }
 {
     match byte {
         b'-' => Control::Remove,
@@ -27,13 +28,13 @@ fn control_of(byte: u8) -> Control
 }
 
 pub(crate) fn control_at(text: &str, at: usize) -> Control
-    ensures { result ≡ spec.control_at text.now at }
+    ensures { control_view result ≡ spec.control_at text.now at }
 {
     control_of(byte_at(text.as_bytes(), at))
 }
 
 pub(crate) fn control_len(control: Control) -> usize
-    ensures { result ≡ spec.control_len control }
+    ensures { result ≡ spec.control_len (control_view control) }
 {
     match control {
         Control::Absent => 0,
@@ -52,7 +53,7 @@ pub(crate) fn past_control(text: &str, at: usize) -> usize
 
 /// The control of a marker that ends at a place.
 pub(crate) fn control_behind(text: &str, at: usize, marker: StartMarker) -> Control
-    ensures { result ≡ spec.control_behind text.now at marker }
+    ensures { control_view result ≡ spec.control_behind text.now at marker }
 {
     match marker {
         StartMarker::LineStatement => Control::Absent,
@@ -133,6 +134,7 @@ pub(crate) fn past_line_end(text: &str, at: usize) -> usize
     at + line_end_len(&text[at..])
 }
 
+#[inline(never)]
 fn leading_space(text: &str) -> usize
     ensures value { result ≡ length text.now - length (trim_start text.now) }
     ensures boundary { IsCharBoundary text.now result }
@@ -154,13 +156,14 @@ fn is_variable(marker: StartMarker) -> bool
 
 /// How much of the text behind an end with the control is skipped.
 #[tactic(auto, unfolding(crate::specs::Whitespace::tail_len))]
+#[inline]
 pub(crate) fn tail_len(
     syntax: &SyntaxConfig,
     marker: StartMarker,
     control: Control,
     text: &str,
 ) -> usize
-    ensures value { result ≡ spec.tail_len syntax.now marker control text.now }
+    ensures value { result ≡ spec.tail_len syntax.now marker (control_view control) text.now }
     ensures boundary { IsCharBoundary text.now result }
 {
     match control {
@@ -185,7 +188,7 @@ pub(crate) fn past_tail(
     at: usize,
 ) -> usize
     requires { IsCharBoundary text.now at }
-    ensures value { result ≡ at + spec.tail_len syntax.now marker control (drop at text.now) }
+    ensures value { result ≡ at + spec.tail_len syntax.now marker (control_view control) (drop at text.now) }
     ensures onwards { at ≤ result }
     ensures boundary { IsCharBoundary text.now result }
 {

@@ -1,7 +1,7 @@
 use Rattle.std.proofs.Common.{not, rules, tests}
 use Rattle.std.specs.Char.{is_whitespace}
 use Rattle.std.proofs.lemmas.Iterator.Search.{YieldsList-from_take_while, all_from_yields_List}
-use Rattle.minijinja_base.specs.Markers.{is_line_end}
+use Rattle.minijinja_syntax.specs.Markers.{is_line_end}
 use Rattle.minijinja_lexer.specs.Whitespace.{ends_blank}
 use Rattle.minijinja_lexer.proofs.Backwards.{YieldsList-from_rev_chars}
 use Rattle.minijinja_lexer.proofs.data.ends_blank.Goals as goal

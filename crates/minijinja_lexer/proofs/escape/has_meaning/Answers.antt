@@ -1,6 +1,6 @@
 use Rattle.std.proofs.Common.{sym, ap, ◌∙◌, subst}
 use Rattle.std.proofs.lemmas.List.{take_rest}
-use Rattle.minijinja_lexer.specs.AsciiEnds.{EndsInAscii}
+use Rattle.minijinja_lexer.specs.private.AsciiEnds.{EndsInAscii}
 use Rattle.minijinja_lexer.specs.Escapes.{escape}
 use Rattle.minijinja_lexer.proofs.Escaping.{same_bad, same_past_escape, same_past_byte, same_end}
 use Rattle.minijinja_lexer.proofs.escape.has_meaning.Goals as goal

@@ -1,6 +1,6 @@
 use Rattle.std.proofs.Common.{◌≡◌, ◌+◌, ◌-◌, ◌<◌, drop, take, length, arith, sym, ap, ◌∙◌, subst}
 use Rattle.std.specs.String.{string_bytes}
-use Rattle.minijinja_lexer.specs.AsciiEnds.{EndsInAscii}
+use Rattle.minijinja_lexer.specs.private.AsciiEnds.{EndsInAscii}
 use Rattle.minijinja_lexer.specs.Escapes.{escape}
 use Rattle.std.proofs.lemmas.List.{take_rest}
 use Rattle.minijinja_lexer.proofs.Escaping.{Decoded, decoded_start, decoded_plain, decoded_escape, plain_moves, decoded_end}

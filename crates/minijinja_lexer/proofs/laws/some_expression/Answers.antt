@@ -1,4 +1,4 @@
-use Rattle.minijinja_lexer.specs.declared.turn.Tag.TheVariants.{Variable}
+use Rattle.minijinja_lexer.specs.Tags.{Variable}
 use Rattle.minijinja_lexer.proofs.SomeCut.{inner_holds}
 use Rattle.minijinja_lexer.proofs.laws.some_expression.Goals as goal
 

@@ -1,5 +1,5 @@
 use Rattle.std.proofs.Common.{ap, length, arith}
-use Rattle.minijinja_base.specs.declared.syntax.StartMarker.TheVariants.{Comment}
+use Rattle.minijinja_syntax.specs.declared.syntax.StartMarker.TheVariants.{Comment}
 use Rattle.minijinja_lexer.proofs.outside.comment_at.Goals as goal
 
 pub next_delimiter-end-requires-clause-some : goal.next_delimiter-end-requires-clause-some

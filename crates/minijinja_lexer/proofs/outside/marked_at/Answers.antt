@@ -1,8 +1,8 @@
 use Rattle.std.proofs.Common.{sym, ap, ◌∙◌, arith}
-use Rattle.minijinja_base.specs.declared.syntax.StartMarker.TheVariants.{Variable, Block, Comment, LineStatement, LineComment}
+use Rattle.minijinja_syntax.specs.declared.syntax.StartMarker.TheVariants.{Variable, Block, Comment, LineStatement, LineComment}
 use Rattle.minijinja_lexer.specs.Cut.{tag_at, block_to, comment_at, line_comment_at}
 use Rattle.minijinja_lexer.specs.Raw.{raw_at}
-use Rattle.minijinja_lexer.specs.declared.turn.Tag.TheVariants as tags
+use Rattle.minijinja_lexer.specs.Tags as tags
 use Rattle.minijinja_lexer.proofs.OutsideSteps.{body_is, marked_as}
 use Rattle.minijinja_lexer.proofs.outside.marked_at.Goals as goal
 

@@ -1,12 +1,14 @@
 use Rattle.std.proofs.Common.{◌≡◌, ℕ, ◌<◌, length, ap, sym, ◌∙◌, arith, subst}
-use Rattle.minijinja_base.specs.Values.{Text}
-use Rattle.minijinja_base.specs.Positions.{span_at}
-use Rattle.minijinja_lexer.specs.Place.{Place}
+use Rattle.minijinja_syntax.specs.Texts.{Text}
+use Rattle.minijinja_syntax.specs.Positions.{span_at}
+use Rattle.minijinja_lexer.specs.private.Place.{Place}
+use Rattle.minijinja_lexer.specs.private.Views.{tag_view, fault_view}
 use Rattle.minijinja_lexer.specs.Stream.{Stream}
-use Rattle.minijinja_lexer.specs.States.{Steps, RawSteps}
+use Rattle.minijinja_lexer.specs.private.States.{Steps, RawSteps, Takes, TakesBetween}
 use Rattle.minijinja_lexer.specs.TextTokens.{stream_at, refusal_span}
 use Rattle.minijinja_lexer.proofs.Steps.{stream_at-over}
 use Rattle.minijinja_lexer.proofs.OutsideSteps.{here, outside_data, outside_none, outside_skipped, outside_unclosed, outside_raw, outside_tag}
+use Rattle.minijinja_lexer.proofs.RawTexts.{raw_takes}
 use Rattle.minijinja_lexer.proofs.outside.step_outside.Goals as goal
 use Rattle.minijinja_lexer.proofs.outside.step_outside.Goals.{After-found_at}
 
@@ -60,10 +62,18 @@ returns-in-Raw-clause-steps c =
     (outside_raw c.args.syntax.now c.text-text.result.now c.at-at.result c.in-Raw.block c.step_raw.result c.step_raw.new.cursor
     (inside d) c.in-Raw.ensures (subst (λ x. RawSteps x c.in-Raw.block c.step_raw.result c.step_raw.new.cursor) (same_text d) c.step_raw.ensures.steps))
 
+pub returns-in-Raw-clause-takes : goal.returns-in-Raw-clause-takes
+returns-in-Raw-clause-takes c =
+    let d = (goal.at-returns-in-Raw-clause-takes c).After-found_at in
+    subst (λ x. Takes c.args.syntax.now x c.step_raw.result) c.text-text.ensures
+    (raw_takes c.args.syntax.now c.text-text.result.now c.at-at.result c.in-Raw.block c.step_raw.result c.step_raw.new.cursor c.in-Raw.ensures
+    (subst (λ x. RawSteps x c.in-Raw.block c.step_raw.result c.step_raw.new.cursor) (same_text d) c.step_raw.ensures.steps)
+    (subst (λ x. TakesBetween x c.step_raw.result) (same_text d) c.step_raw.ensures.between))
+
 pub returns-in-Tag-clause-steps : goal.returns-in-Tag-clause-steps
 returns-in-Tag-clause-steps c =
     let d = (goal.at-returns-in-Tag-clause-steps c).After-found_at in (
-      from_here d ∙ outside_tag c.args.syntax.now c.text-text.result.now c.in-Tag.tag c.at-at.result c.in-Tag.body _ c.span-span-in-Tag.result c.span-span-in-Tag.new.self
+      from_here d ∙ outside_tag c.args.syntax.now c.text-text.result.now (tag_view c.in-Tag.tag) c.at-at.result c.in-Tag.body _ c.span-span-in-Tag.result c.span-span-in-Tag.new.self
           (inside d) c.in-Tag.ensures c.start_token.ensures
           (c.span-span-in-Tag.ensures.span ∙ ap (λ x. span_at x c.at-at.result c.in-Tag.body) (same_text d))
           (c.span-span-in-Tag.ensures.place ∙ placed _ _ c.in-Tag.body (same_text d)),
@@ -73,7 +83,7 @@ returns-in-Tag-clause-steps c =
 pub returns-in-Unclosed-clause-steps : goal.returns-in-Unclosed-clause-steps
 returns-in-Unclosed-clause-steps c =
     let d = (goal.at-returns-in-Unclosed-clause-steps c).After-found_at in
-    from_here d ∙ outside_unclosed c.args.syntax.now c.text-text.result.now c.at-at.result c.in-Unclosed.fault c.refusal.result
+    from_here d ∙ outside_unclosed c.args.syntax.now c.text-text.result.now c.at-at.result (fault_view c.in-Unclosed.fault) c.refusal.result
     (inside d) c.in-Unclosed.ensures (c.refusal.ensures.span ∙ ap (λ x. refusal_span x (length c.text-text.result.now)) (same_text d))
 
 pub returns-clause-steps : goal.returns-clause-steps

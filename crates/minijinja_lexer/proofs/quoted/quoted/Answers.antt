@@ -1,7 +1,7 @@
 use Rattle.std.proofs.Common.{◌<◌, ◌-◌, length, take, drop, refl, sym, ap, ◌∙◌, subst, get_or, arith}
 use Rattle.std.proofs.lemmas.List.{take_rest}
 use Rattle.minijinja_lexer.specs.Quoted.{is_quote, quoted_len}
-use Rattle.minijinja_lexer.specs.TokenPlaces.{ScanPlaces}
+use Rattle.minijinja_lexer.specs.private.TokenPlaces.{ScanPlaces}
 use Rattle.minijinja_lexer.proofs.Scanning.{quote_low}
 use Rattle.minijinja_lexer.proofs.Quoting.{quoted_found, quoted_open, quoted_places}
 use Rattle.minijinja_lexer.proofs.quoted.quoted.Goals as goal

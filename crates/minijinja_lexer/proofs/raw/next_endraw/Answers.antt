@@ -1,5 +1,6 @@
 use Rattle.std.proofs.Common.{◌≡◌, ◌+◌, ◌∙◌, sym, ap, length, arith}
-use Rattle.minijinja_base.specs.declared.syntax.StartMarker.TheVariants.{Block}
+use Rattle.minijinja_syntax.specs.declared.syntax.StartMarker.TheVariants.{Block}
+use Rattle.minijinja_lexer.specs.private.Views.{end_view}
 use Rattle.minijinja_lexer.specs.Raw.{endraw_at, next_endraw, or_later}
 use Rattle.minijinja_lexer.specs.Cut.{next_delimiter}
 use Rattle.minijinja_lexer.proofs.Searching.{endraw-none, endraw-found, endraw-over}
@@ -18,11 +19,11 @@ returns-then-place-text-clause-value c =
     c.if-place-text.true)
 
 -- the block start that is found
-pub found : (c : After-endraw_at) → next_endraw c.args.syntax.now c.args.text.now c.loop-from.from ≡ or_later c.next_delimiter-place.result c.endraw_at.result (next_endraw c.args.syntax.now c.args.text.now (c.next_delimiter-place.result + length c.args.syntax.now.block_start))
+pub found : (c : After-endraw_at) → next_endraw c.args.syntax.now c.args.text.now c.loop-from.from ≡ or_later c.next_delimiter-place.result (end_view c.endraw_at.result) (next_endraw c.args.syntax.now c.args.text.now (c.next_delimiter-place.result + length c.args.syntax.now.block_start))
 found c =
     let s = c.args.syntax.now in
     let l = ap length c.block_delimiters.ensures.start in
-    endraw-found s c.args.text.now c.loop-from.from c.next_delimiter-place.result c.endraw_at.result (c.block_delimiters.ensures.built.delimiters Block tt).0 (omega arith)
+    endraw-found s c.args.text.now c.loop-from.from c.next_delimiter-place.result (end_view c.endraw_at.result) (c.block_delimiters.ensures.built.delimiters Block tt).0 (omega arith)
     (sym (c.next_delimiter-place.ensures.value ∙ ap (λ d. next_delimiter d c.args.text.now c.loop-from.from) c.block_delimiters.ensures.start))
     (let w = c.next_delimiter-place.ensures.within in let f = c.if-place-text.false in omega (arith, w, f))
     (ap (λ n. endraw_at s c.args.text.now (c.next_delimiter-place.result + n)) (sym l) ∙ sym c.endraw_at.ensures.value)
@@ -32,7 +33,7 @@ returns-in-Some-clause-value c =
     let d = (goal.at-returns-in-Some-clause-value c).After-endraw_at in
     let s = c.args.syntax.now in
     let p = c.next_delimiter-place.result in
-    sym (ap (λ x. or_later p x (next_endraw s c.args.text.now (p + length s.block_start))) c.in-Some.is) ∙ sym (found d) ∙ c.loop-from.invariant.0
+    sym (ap (λ x. or_later p (end_view x) (next_endraw s c.args.text.now (p + length s.block_start))) c.in-Some.is) ∙ sym (found d) ∙ c.loop-from.invariant.0
 
 pub loop-from-smaller : goal.loop-from-smaller
 loop-from-smaller c =
@@ -52,7 +53,7 @@ loop-from-preserved c =
     let w = c.next_delimiter-place.ensures.within in
     let f = c.if-place-text.false in (
       ap (λ n. next_endraw s c.args.text.now (p + n)) l
-          ∙ sym (ap (λ x. or_later p x (next_endraw s c.args.text.now (p + length s.block_start))) c.in_default.is) ∙ sym (found d) ∙ c.loop-from.invariant.0,
+          ∙ sym (ap (λ x. or_later p (end_view x) (next_endraw s c.args.text.now (p + length s.block_start))) c.in_default.is) ∙ sym (found d) ∙ c.loop-from.invariant.0,
       c.next_delimiter-place.ensures.end (omega (arith, w, f)),
       omega arith,
     )

@@ -1,5 +1,5 @@
 use Rattle.std.proofs.Common.{ap, length, arith}
-use Rattle.minijinja_base.specs.declared.syntax.StartMarker.TheVariants.{Block}
+use Rattle.minijinja_syntax.specs.declared.syntax.StartMarker.TheVariants.{Block}
 use Rattle.minijinja_lexer.proofs.raw.word_tag.Goals as goal
 
 pub stands_at-requires-2-clause-some : goal.stands_at-requires-2-clause-some

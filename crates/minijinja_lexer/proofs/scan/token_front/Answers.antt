@@ -1,5 +1,5 @@
 use Rattle.std.proofs.Common.{subst}
-use Rattle.minijinja_lexer.specs.AsciiEnds.{EndsInAscii}
+use Rattle.minijinja_lexer.specs.private.AsciiEnds.{EndsInAscii}
 use Rattle.minijinja_lexer.proofs.Scanning.{ascii_end}
 use Rattle.minijinja_lexer.proofs.scan.token_front.Goals as goal
 

@@ -1,5 +1,5 @@
 use Rattle.std.proofs.Common.{ap, length, arith}
-use Rattle.minijinja_base.specs.declared.syntax.StartMarker.TheVariants.{Variable, Block}
+use Rattle.minijinja_syntax.specs.declared.syntax.StartMarker.TheVariants.{Variable, Block}
 use Rattle.minijinja_lexer.proofs.turn.close_at.Goals as goal
 
 pub delimiter_close-requires-clause-some : goal.delimiter_close-requires-clause-some

@@ -1,0 +1,6 @@
+-- What a `-` or `+` at a marker asks of the whitespace beside it.
+
+pub data Control : Type 0 where
+  Absent : Control
+  Remove : Control
+  Preserve : Control

@@ -1,0 +1,12 @@
+-- What specifies private functions alone, and need not be believed.
+pub mod Place
+pub mod AtCursor
+pub mod AsciiEnds
+pub mod Views
+pub mod TokenPlaces
+pub mod NumberPlaces
+pub mod RawPlaces
+pub mod Places
+pub mod Found
+pub mod States
+pub mod AtTokenizer
