@@ -5,6 +5,7 @@
 #![tactic(auto)]
 
 pub mod compile;
+pub mod laws;
 #[cfg(test)]
 mod tests;
 

@@ -110,6 +110,33 @@ fn prints_code(rt: HostRuntime) {
             "a\"b\\c\nd\re\tf",
             "template\n0 EmitRaw(\"a\\\"b\\\\c\\nd\\re\\tf\")\nhint 32\n",
         ),
+        (
+            "{% set x = a.b %}abc{{ x }}",
+            "template\n0 Lookup(\"a\")\n1 GetAttr(\"b\")\n2 StoreLocal(\"x\")\n3 EmitRaw(\"abc\")\n4 Lookup(\"x\")\n5 Emit\nhint 8\n",
+        ),
+        ("{{ x }}", "template\n0 Lookup(\"x\")\n1 Emit\nhint 1\n"),
+        ("{{ super() }}", "template\n0 FastSuper\nhint 1\n"),
+        (
+            "{{ super(x) }}",
+            "template\n0 Lookup(\"x\")\n1 CallFunction(\"super\", 1)\n2 Emit\nhint 1\n",
+        ),
+        (
+            "{{ loop(x) }}",
+            "template\n0 Lookup(\"x\")\n1 FastRecurse\nhint 1\n",
+        ),
+        (
+            "{{ loop() }}",
+            "template\n0 CallFunction(\"loop\", 0)\n1 Emit\nhint 1\n",
+        ),
+        (
+            "{{ loop(*x) }}",
+            "template\n0 Lookup(\"x\")\n1 UnpackLists(1)\n2 CallFunction(\"loop\", none)\n3 Emit\nhint 1\n",
+        ),
+        ("{{ self.b(x) }}", "template\n0 CallBlock(\"b\")\nhint 1\n"),
+        (
+            "{{ y.loop(x) }}",
+            "template\n0 Lookup(\"y\")\n1 Lookup(\"x\")\n2 CallMethod(\"loop\", 2)\n3 Emit\nhint 1\n",
+        ),
     ];
     for (source, code) in rows {
         let file = &mut source.as_bytes();

@@ -1,12 +1,12 @@
-//! What no clause says: that memory suffices, where an error stands, and the exact spans of nodes.
+//! What the parser accepts, how deep it goes, and what it answers after a tree and after a refusal.
 ghost use Rattle.std.specs.Prelude.{◌<◌, ◌^◌, length};
 
+use crate::ast::Stmt;
+use crate::error::{Error, ErrorKind};
 use crate::parser::{Parser, TokenStream, parse, parse_expr};
-use minijinja_base::error::{Error, ErrorKind};
-use minijinja_base::syntax::SyntaxConfig;
-use minijinja_base::tokens::{Span, Token};
-use minijinja_base::value::Value;
-use minijinja_tree::ast::{Expr, Stmt};
+use crate::syntax::SyntaxConfig;
+use crate::tokens::{Span, Token};
+use crate::value::Value;
 use std::alloc::Global;
 use std::process::Abort;
 use std::test::Fail;
@@ -17,10 +17,6 @@ fn parsed<'s>(rt: &HostRuntime, source: &'s str) -> Result<Stmt<'s, Value>, Erro
 
 fn is_expression(rt: &HostRuntime, source: &str) -> bool {
     parse_expr::<Value>(rt.alloc(), source).is_ok()
-}
-
-fn refusal<'s>(rt: &HostRuntime, source: &'s str) -> Option<Error<'s>> {
-    parse_expr::<Value>(rt.alloc(), source).err()
 }
 
 /// The text between so many of the opening and the closing one.
@@ -109,91 +105,6 @@ fn accepts_each_form_of_expression(rt: HostRuntime) {
 }
 
 #[test]
-fn refuses_what_is_no_expression(rt: HostRuntime) -> Result<(), Fail> {
-    for source in [
-        "",
-        "'a' ?",
-        "1.5",
-        "1e5",
-        "1_",
-        "0b2",
-        "0x",
-        "340282366920938463463374607431768211456",
-        "f(b=x, y)",
-        "f(**b, y)",
-        "f('a'=1)",
-        "f(,)",
-        "[,]",
-        "x[]",
-        "x is",
-        "x is defined if b",
-        "x|1",
-        "a not b",
-        "{a}",
-        "a b",
-    ] {
-        let error = refusal(&rt, source).ok_or(source)?;
-        assert!(rt; error.kind() == ErrorKind::SyntaxError);
-        assert!(rt; error.name() == Some("<expression>"));
-    }
-    let error = refusal(&rt, "'\\q'").ok_or("accepted")?;
-    assert!(rt; error.kind() == ErrorKind::BadEscape);
-    Ok(())
-}
-
-#[test]
-fn refuses_what_is_no_template(rt: HostRuntime) -> Result<(), Fail> {
-    for source in [
-        "{% set loop = a %}",
-        "{% set a.b = c %}",
-        "{% set a %}",
-        "{{ a",
-        "{{ ( }}",
-        "{{ a b }}",
-        "{{ }}",
-        "{{ x is defined if b }}",
-        "{% if a %}",
-        "{% %}",
-    ] {
-        let error = parsed(&rt, source).err().ok_or(source)?;
-        assert!(rt; error.kind() == ErrorKind::SyntaxError);
-        assert!(rt; error.name() == Some("page"));
-    }
-    Ok(())
-}
-
-#[test]
-fn an_error_stands_at_the_last_token_read(rt: HostRuntime) -> Result<(), Fail> {
-    for (source, column) in [
-        ("(", 0),
-        ("[1", 1),
-        ("{'a'", 1),
-        ("{'a':", 4),
-        ("{'a': 1", 6),
-        ("x[1", 2),
-        ("x[1:", 3),
-        ("f(a", 2),
-        ("f(*", 2),
-        ("f(a=", 3),
-        ("f(a=1, b)", 7),
-        ("x.", 1),
-        ("x|", 1),
-        ("x is", 2),
-        ("not", 0),
-        ("1 +", 2),
-        ("a <", 2),
-        ("a not", 2),
-        ("a if", 2),
-        ("a b", 2),
-    ] {
-        let error = refusal(&rt, source).ok_or(source)?;
-        let span = error.span().ok_or(source)?;
-        assert!(rt; (span.start_line, span.start_col) == (1, column));
-    }
-    Ok(())
-}
-
-#[test]
 fn nests_up_to_150_deep(rt: HostRuntime) -> Result<(), Fail> {
     assert!(rt; is_expression(&rt, nested(&rt, "(", "x", ")", 74)?.as_str()));
     assert!(rt; !is_expression(&rt, nested(&rt, "(", "x", ")", 75)?.as_str()));
@@ -214,26 +125,6 @@ fn takes_2000_arguments(rt: HostRuntime) -> Result<(), Fail> {
     let mut refused = nested(&rt, "", "f(x", ", x", 2000)?;
     refused.push(')')?;
     assert!(rt; !is_expression(&rt, refused.as_str()));
-    Ok(())
-}
-
-fn columns(expr: &Expr<'_, Value>) -> (u16, u16) {
-    let span = expr.span();
-    (span.start_col, span.end_col)
-}
-
-#[test]
-fn a_node_goes_from_its_first_token_to_its_last(rt: HostRuntime) -> Result<(), Fail> {
-    let tree = parse_expr::<Value>(rt.alloc(), "a + f(b).c|d")
-        .ok()
-        .ok_or("refused")?;
-    assert!(rt; columns(&tree) == (0, 12));
-    let Expr::BinOp(sum) = &tree else {
-        return Err(Fail::from("a sum"));
-    };
-    assert!(rt; columns(&sum.node().left) == (0, 1));
-    // A filter goes from its name on, as in the upstream crate.
-    assert!(rt; columns(&sum.node().right) == (11, 12));
     Ok(())
 }
 

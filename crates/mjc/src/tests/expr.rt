@@ -53,6 +53,10 @@ fn names_and_literals(rt: HostRuntime) {
         ),
         ("(1, 2)", "expression\n0 LoadConst((1, 2))\n"),
         ("[[1]]", "expression\n0 LoadConst([1])\n1 BuildList(1)\n"),
+        (
+            "{'a': x, 'b': 2}",
+            "expression\n0 LoadConst(\"a\")\n1 Lookup(\"x\")\n2 LoadConst(\"b\")\n3 LoadConst(2)\n4 BuildMap(2)\n",
+        ),
     ];
     assert_code(&rt, rt.alloc(), &rows);
 }
@@ -180,6 +184,14 @@ fn operators(rt: HostRuntime) {
             "a if b if c else d",
             "expression\n0 Lookup(\"c\")\n1 JumpIfFalse(8)\n2 Lookup(\"b\")\n3 JumpIfFalse(6)\n4 Lookup(\"a\")\n5 Jump(7)\n6 LoadConst(silent)\n7 Jump(9)\n8 Lookup(\"d\")\n",
         ),
+        (
+            "1 < x < 3 < y",
+            "expression\n0 LoadConst(1)\n1 Lookup(\"x\")\n2 CompareAndPreserve(Lt)\n3 JumpIfFalseOrPop(10)\n4 LoadConst(3)\n5 CompareAndPreserve(Lt)\n6 JumpIfFalseOrPop(10)\n7 Lookup(\"y\")\n8 Lt\n9 Jump(12)\n10 Swap\n11 DiscardTop\n",
+        ),
+        (
+            "a if b and c else d",
+            "expression\n0 Lookup(\"b\")\n1 JumpIfFalseOrPop(3)\n2 Lookup(\"c\")\n3 JumpIfFalse(6)\n4 Lookup(\"a\")\n5 Jump(7)\n6 Lookup(\"d\")\n",
+        ),
     ];
     assert_code(&rt, rt.alloc(), &rows);
 }
@@ -277,6 +289,22 @@ fn postfix_and_arguments(rt: HostRuntime) {
             "f(a)(b)",
             "expression\n0 Lookup(\"a\")\n1 CallFunction(\"f\", 1)\n2 Lookup(\"b\")\n3 CallObject(2)\n",
         ),
+        (
+            "x[1::y]",
+            "expression\n0 Lookup(\"x\")\n1 LoadConst(1)\n2 LoadConst(none)\n3 Lookup(\"y\")\n4 Slice\n",
+        ),
+        (
+            "f(1, *a, 2, *b, 3, k=4, **c, l=m)",
+            "expression\n0 LoadConst(1)\n1 BuildList(1)\n2 Lookup(\"a\")\n3 LoadConst(2)\n4 BuildList(1)\n5 Lookup(\"b\")\n6 LoadConst(3)\n7 LoadConst(\"k\")\n8 LoadConst(4)\n9 BuildKwargs(1)\n10 Lookup(\"c\")\n11 LoadConst(\"l\")\n12 Lookup(\"m\")\n13 BuildKwargs(1)\n14 MergeKwargs(3)\n15 BuildList(2)\n16 UnpackLists(5)\n17 CallFunction(\"f\", none)\n",
+        ),
+        (
+            "f(a=x, b=1)",
+            "expression\n0 LoadConst(\"a\")\n1 Lookup(\"x\")\n2 LoadConst(\"b\")\n3 LoadConst(1)\n4 BuildKwargs(2)\n5 CallFunction(\"f\", 1)\n",
+        ),
+        (
+            "o.m(*x, y)",
+            "expression\n0 Lookup(\"o\")\n1 BuildList(1)\n2 Lookup(\"x\")\n3 Lookup(\"y\")\n4 BuildList(1)\n5 UnpackLists(3)\n6 CallMethod(\"m\", none)\n",
+        ),
     ];
     assert_code(&rt, rt.alloc(), &rows);
 }
@@ -340,6 +368,10 @@ fn filters_and_tests(rt: HostRuntime) {
             "a is in [1]",
             "expression\n0 Lookup(\"a\")\n1 LoadConst([1])\n2 PerformTest(\"in\", 2, 0)\n",
         ),
+        (
+            "o|f(*x, y)",
+            "expression\n0 Lookup(\"o\")\n1 BuildList(1)\n2 Lookup(\"x\")\n3 Lookup(\"y\")\n4 BuildList(1)\n5 UnpackLists(3)\n6 ApplyFilter(\"f\", none, 0)\n",
+        ),
     ];
     assert_code(&rt, rt.alloc(), &rows);
 }
@@ -379,6 +411,32 @@ fn constants_fold(rt: HostRuntime) {
         ("\"a\" in \"abc\"", "expression\n0 LoadConst(true)\n"),
         ("1 < 2 and \"x\"", "expression\n0 LoadConst(\"x\")\n"),
         ("0 or none", "expression\n0 LoadConst(none)\n"),
+        ("-'a'", "expression\n0 LoadConst(\"a\")\n1 Neg\n"),
+        (
+            "1 + 2 + x",
+            "expression\n0 LoadConst(3)\n1 Lookup(\"x\")\n2 Add\n",
+        ),
+        (
+            "x + 1 + 2",
+            "expression\n0 Lookup(\"x\")\n1 LoadConst(1)\n2 Add\n3 LoadConst(2)\n4 Add\n",
+        ),
+        (
+            "2 + 1 // 0",
+            "expression\n0 LoadConst(2)\n1 LoadConst(1)\n2 LoadConst(0)\n3 IntDiv\n4 Add\n",
+        ),
+        ("1 and 2", "expression\n0 LoadConst(2)\n"),
+        (
+            "x and 1",
+            "expression\n0 Lookup(\"x\")\n1 JumpIfFalseOrPop(3)\n2 LoadConst(1)\n",
+        ),
+        (
+            "'a' in 'ab' not in 1",
+            "expression\n0 LoadConst(\"a\")\n1 LoadConst(\"ab\")\n2 CompareAndPreserve(In)\n3 JumpIfFalseOrPop(8)\n4 LoadConst(1)\n5 In\n6 Not\n7 Jump(10)\n8 Swap\n9 DiscardTop\n",
+        ),
+        (
+            "[1, 1 + 1]",
+            "expression\n0 LoadConst(1)\n1 LoadConst(2)\n2 BuildList(2)\n",
+        ),
     ];
     assert_code(&rt, rt.alloc(), &rows);
 }
