@@ -2,7 +2,7 @@
 ghost use Rattle.std.specs.Prelude.{◌≡◌, ◌+◌, ◌<◌, ◌≤◌, ◌||◌, ◌==◌, length, slice_index, IsTrue, IfSome};
 ghost use Rattle.std.specs.Str.{IsCharBoundary};
 ghost use Rattle.minijinja_syntax.specs.Syntax.{Syntax, IsBuildable};
-ghost use Rattle.minijinja_syntax.specs.Markers.{stands, is_blank, is_line_end, starts_line, may_begin, marker_at, found_marker};
+ghost use Rattle.minijinja_syntax.specs.Markers.{stands, is_blank, is_line_end, starts_line, may_begin, marker_at, next_marker, found_marker};
 ghost use Rattle.minijinja_syntax.specs.private.DefaultStarts.{HasDefaultStarts, braced_marker};
 
 use crate::syntax::{Settings, StartMarker};
@@ -152,21 +152,24 @@ fn default_marker_at(text: &[u8], at: usize) -> Option<StartMarker>
     }
 }
 
-/// The next marker, where the start delimiters are the default ones.
+/// The first place at or behind the byte `offset` where a marker begins, or the end of the text, where the start
+/// delimiters are the default ones.
 #[inline(never)]
-fn next_default_marker(text: &[u8], offset: usize) -> Option<(usize, StartMarker, usize)>
+fn next_default_place(text: &[u8], offset: usize) -> usize
     requires { offset ≤ length text.now }
-    ensures { (s : Syntax) → IsBuildable s → HasDefaultStarts s → result ≡ found_marker s text.now offset }
+    ensures place { (s : Syntax) → IsBuildable s → HasDefaultStarts s → result ≡ next_marker s text.now offset }
+    ensures ordered { offset ≤ result }
+    ensures within { result ≤ length text.now }
 {
     let mut place = offset;
     while let Some(ahead) = memchr(b'{', &text[place..]) {
         place += ahead;
-        if let Some(marker) = default_marker_at(text, place) {
-            return Some((place - offset, marker, DEFAULT_START_LEN));
+        if default_marker_at(text, place).is_some() {
+            return place;
         }
         place += 1;
     }
-    None
+    text.len()
 }
 
 /// See [`SyntaxConfig::find_marker`]: of a syntax whose start delimiters are the default ones, with both prefixes off.
@@ -182,7 +185,11 @@ pub(super) fn find_default_marker(
     // A tag is sought once more where it begins: that is to cost next to nothing.
     match default_marker_at(text, offset) {
         Some(marker) => Some((0, marker, DEFAULT_START_LEN)),
-        None => next_default_marker(text, offset),
+        None => {
+            let place = next_default_place(text, offset);
+            let marker = default_marker_at(text, place)?;
+            Some((place - offset, marker, DEFAULT_START_LEN))
+        }
     }
 }
 

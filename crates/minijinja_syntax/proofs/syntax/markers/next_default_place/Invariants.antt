@@ -2,7 +2,7 @@ use Rattle.std.proofs.Common.{◌≡◌, ◌≤◌, ◌-◌, length}
 use Rattle.minijinja_syntax.specs.Syntax.{Syntax, IsBuildable}
 use Rattle.minijinja_syntax.specs.Markers.{next_marker}
 use Rattle.minijinja_syntax.specs.private.DefaultStarts.{HasDefaultStarts}
-use Rattle.minijinja_syntax.proofs.syntax.markers.next_default_marker.Given as goal
+use Rattle.minijinja_syntax.proofs.syntax.markers.next_default_place.Given as goal
 
 abbrev pub invariant-loop-ahead : goal.invariant-loop-ahead
 invariant-loop-ahead l =
