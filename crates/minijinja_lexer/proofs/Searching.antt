@@ -4,8 +4,8 @@ use Rattle.std.specs.Prelude.{◌⊎◌, slice_index}
 use Rattle.std.proofs.lemmas.Bool.{cases_lt}
 use Rattle.minijinja_syntax.specs.Texts.{Text}
 use Rattle.minijinja_syntax.specs.Syntax.{Syntax}
-use Rattle.minijinja_syntax.specs.Markers.{stands, next_place, is_line_end}
-use Rattle.minijinja_syntax.proofs.Walking.{next_place-on, next_place-here, next_place-within, next_place-before, next_place-stops}
+use Rattle.minijinja_syntax.specs.Markers.{stands, is_line_end}
+use Rattle.minijinja_syntax.proofs.Walking.{next_place-within, next_place-before, next_place-stops}
 use Rattle.minijinja_syntax.proofs.Delimiters.{stands_within}
 use Rattle.minijinja_lexer.specs.Cut.{next_delimiter, next_line_end}
 use Rattle.minijinja_lexer.specs.Raw.{endraw_at, endraw_from, next_endraw, or_later}
@@ -13,20 +13,6 @@ use Rattle.minijinja_lexer.specs.Relation.{IsFirst, IsAbsent}
 use Rattle.minijinja_lexer.specs.Controls.{Control}
 
 -- ---- delimiters
-
-pub delimiter-on : (d text : Text) (at : ℕ) → at < length text → stands d text at ≡ false → next_delimiter d text at ≡ next_delimiter d text (at + 1)
-unfolding next_delimiter
-delimiter-on d text at h f =
-    let e : length text - at - 1 ≡ length text - (at + 1) = omega arith in
-    next_place-on (stands d text) at (length text - at) (omega arith) f ∙ ap (next_place (stands d text) (at + 1)) e
-
-pub delimiter-here : (d text : Text) (at : ℕ) → stands d text at ≡ true → next_delimiter d text at ≡ at
-unfolding next_delimiter
-delimiter-here d text at t = next_place-here (stands d text) at (length text - at) t
-
-pub delimiter-over : (d text : Text) (at : ℕ) → at ≡ length text → next_delimiter d text at ≡ length text
-unfolding next_delimiter
-delimiter-over d text at h = let e : length text - at ≡ 0 = omega arith in ap (next_place (stands d text) at) e ∙ h
 
 pub delimiter-within : (d text : Text) (at : ℕ) → at ≤ length text → (at ≤ next_delimiter d text at) × (next_delimiter d text at ≤ length text)
 unfolding next_delimiter
@@ -66,20 +52,6 @@ no_delimiter_is d text at h none =
     (cases_lt n (length text))
 
 -- ---- line ends
-
-pub line_end-on : (text : Text) (at : ℕ) → at < length text → is_line_end (slice_index text at) ≡ false → next_line_end text at ≡ next_line_end text (at + 1)
-unfolding next_line_end
-line_end-on text at h f =
-    let e : length text - at - 1 ≡ length text - (at + 1) = omega arith in
-    next_place-on (λ p. is_line_end (slice_index text p)) at (length text - at) (omega arith) f ∙ ap (next_place (λ p. is_line_end (slice_index text p)) (at + 1)) e
-
-pub line_end-here : (text : Text) (at : ℕ) → is_line_end (slice_index text at) ≡ true → next_line_end text at ≡ at
-unfolding next_line_end
-line_end-here text at t = next_place-here (λ p. is_line_end (slice_index text p)) at (length text - at) t
-
-pub line_end-over : (text : Text) (at : ℕ) → at ≡ length text → next_line_end text at ≡ length text
-unfolding next_line_end
-line_end-over text at h = let e : length text - at ≡ 0 = omega arith in ap (next_place (λ p. is_line_end (slice_index text p)) at) e ∙ h
 
 pub line_end-within : (text : Text) (at : ℕ) → at ≤ length text → (at ≤ next_line_end text at) × (next_line_end text at ≤ length text)
 unfolding next_line_end
