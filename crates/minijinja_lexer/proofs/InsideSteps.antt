@@ -9,10 +9,10 @@ use Rattle.minijinja_lexer.specs.Stream.{Stream, before, NeedsMemory, OwnsMemory
 use Rattle.minijinja_lexer.specs.private.Place.{Place}
 use Rattle.minijinja_lexer.specs.Brackets.{opened_by, shut_by}
 use Rattle.minijinja_lexer.specs.Cut.{turn_at}
-use Rattle.minijinja_lexer.specs.TextTokens.{stream_in, lexeme_tok, close_stream, end_tok}
+use Rattle.minijinja_lexer.specs.TextTokens.{stream_in, lexeme_tok}
 use Rattle.minijinja_lexer.specs.private.States.{behind}
 use Rattle.minijinja_lexer.specs.Tags.{Tag}
-use Rattle.minijinja_lexer.specs.Turns.{Lexeme, Closed, Token}
+use Rattle.minijinja_lexer.specs.Turns.{Lexeme, Token}
 use Rattle.minijinja_lexer.proofs.Steps.{stream_in-token}
 
 pub inside_token : (s : Syntax) (text : Text) (k : Tag) (whole : Bool) (o c at : ℕ) (l : Lexeme) (v : Tok) (span : Span) (p : Place) (o' c' : ℕ) →
@@ -32,16 +32,3 @@ pub inside_memory : (s : Syntax) (text : Text) (k : Tag) (whole : Bool) (o c at 
     at < length text → at < l.stop → turn_at s text k o c at ≡ Token l → OwnsMemory (lexeme_tok text l) → NeedsMemory (stream_in s text k (behind s text whole) o c at).tokens
 inside_memory s text k whole o c at l h m turn owns =
     subst (λ (x : Stream). NeedsMemory x.tokens) (sym (stream_in-token s text k (behind s text whole) o c at l h m turn)) owns
-
--- at the end of a tag
-pub end_closed : (s : Syntax) (text : Text) (k : Tag) (whole : Bool) (start stop after : ℕ) (v : Tok) (span : Span) (later : Stream) →
-    v ≡ end_tok k → span ≡ span_at text start stop → behind s text whole stop after ≡ later
-    → close_stream text k (behind s text whole) (Closed start stop after) ≡ before ((v, span) ∷ []) later
-end_closed s text k whole start stop after v span later e f g =
-    ap (λ v. before ((v, span_at text start stop) ∷ []) (behind s text whole stop after)) (sym e)
-    ∙ ap (λ f. before ((v, f) ∷ []) (behind s text whole stop after)) (sym f)
-    ∙ ap (before ((v, span) ∷ [])) g
-
--- behind a tag, at a place that is known by an equation
-pub behind_place : (s : Syntax) (text : Text) (whole : Bool) (stop after : ℕ) (p : Place) (later : Stream) → p ≡ record { text = text; at = stop } → later ≡ behind s p.text whole p.at after → behind s text whole stop after ≡ later
-behind_place s text whole stop after p later e f = ap (λ (q : Place). behind s q.text whole q.at after) (sym e) ∙ sym f

@@ -18,9 +18,6 @@ pub record Before (quote : ℕ) (text : Text) (len : ℕ) : Type 0 where
   pub within : len ≤ length text
   pub left : quoted_len quote text ≡ len + quoted_len quote (drop len text)
 
-pub before_start : (q : ℕ) (text : Text) → Before q text 0
-before_start q text = record { within = omega arith; left = omega arith }
-
 at_quote : (q : ℕ) (text : Text) → 0 < length text → get_or text 0 0 ≡ q → quoted_len q text ≡ 0
 at_quote q [] some e = absurd (omega (arith, some))
 at_quote q (b ∷ []) some e = ap (λ t. cond t 0 1) (eq-eqb b q e)

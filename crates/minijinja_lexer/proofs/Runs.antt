@@ -1,5 +1,5 @@
 -- The characters at the front of a text that are whitespace other than \r and \n.
-use Rattle.std.proofs.Common.{◌≡◌, ℕ, ◌+◌, true, false, cond, [], ◌∷◌, ◌++◌, length, drop, refl, ap, sym, ◌∙◌, arith, subst, length-append}
+use Rattle.std.proofs.Common.{◌≡◌, ℕ, ◌+◌, true, false, cond, [], ◌∷◌, ◌++◌, length, drop, ap, sym, ◌∙◌, arith, subst, length-append}
 use Rattle.std.specs.Str.{IsUtf8, IsCharBoundary, chars}
 use Rattle.std.specs.Char.{len_utf8, encode_utf8}
 use Rattle.std.proofs.lemmas.Str.{chars-nil, IsCharBoundary-from_drop, chars_past_char, drop_past_char, IsUtf8-past_char, length-encode}
@@ -12,9 +12,6 @@ pub record SpaceRun (text : Text) (len : ℕ) (rest : Text) : Type 0 where
   pub there : drop len text ≡ rest
   pub lens : len + length rest ≡ length text
   pub utf8 : IsUtf8 rest
-
-pub run_start : (text : Text) → IsUtf8 text → SpaceRun text 0 text
-run_start text u = record { counted = omega arith; there = refl; lens = omega arith; utf8 = u }
 
 pub run_step : (text : Text) (len : ℕ) (rest after : Text) (c : ℕ) → SpaceRun text len rest → rest ≡ encode_utf8 c ++ after → is_line_space c ≡ true → SpaceRun text (len + len_utf8 c) after
 run_step text len rest after c run e h =

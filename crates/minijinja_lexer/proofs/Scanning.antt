@@ -2,7 +2,7 @@
 use Rattle.std.proofs.Common.{◌≡◌, ℕ, zero, suc, get_or-drop, length-drop, ◌+◌, ◌-◌, ◌<◌, ◌≤◌, Bool, true, false, cond, List, [], ◌∷◌, ◌++◌, length, drop, get_or, refl, ap, sym, ◌∙◌, arith, subst, length-append, ⊎_elim}
 use Rattle.std.specs.List.{prefix_len}
 use Rattle.std.specs.Str.{IsUtf8, IsCharBoundary, chars}
-use Rattle.std.specs.Char.{len_utf8, encode_utf8, is_ascii_digit, is_ascii_alphanumeric, is_ascii_whitespace}
+use Rattle.std.specs.Char.{len_utf8, encode_utf8, is_ascii_alphanumeric, is_ascii_whitespace}
 use Rattle.std.proofs.lemmas.List.{get_or_past}
 use Rattle.std.proofs.lemmas.Bool.{cases_lt, lt-ltb, le-ltb}
 use Rattle.std.proofs.Math.Seq.{drop-cons}
@@ -39,9 +39,6 @@ ascii_run p bs low u le = at_end (prefix_len p bs) refl
         let f : n + 1 ≡ suc n = omega arith in
         subst (λ m. IsCharBoundary bs m) f (IsCharBoundary-after_ascii bs n u h (low (get_or bs n 0) (prefix_len_passes p bs n 0 k)))
 
-pub digit_low : (b : ℕ) → is_ascii_digit b ≡ true → b < 128
-digit_low b h = grind (arith, nat_tests)
-
 pub space_low : (b : ℕ) → is_ascii_whitespace b ≡ true → b < 128
 space_low b h = grind (arith, nat_tests)
 
@@ -51,9 +48,6 @@ pub record NameRun (text : Text) (len : ℕ) (rest : Text) : Type 0 where
   pub there : drop len text ≡ rest
   pub lens : len + length rest ≡ length text
   pub utf8 : IsUtf8 rest
-
-pub name_start : (text : Text) → IsUtf8 text → NameRun text 0 text
-name_start text u = record { counted = omega arith; there = refl; lens = omega arith; utf8 = u }
 
 -- an ASCII byte that a name goes on with
 pub ascii_continues : (b : ℕ) → (is_ascii_alphanumeric b || (b == 95)) ≡ (nat_lt b 128 && continues_name b)
@@ -116,10 +110,6 @@ pub ascii_stop : (text : Text) (len : ℕ) → NameRun text len (drop len text) 
 ascii_stop text len run h low f =
     let b : ℕ = get_or text len 0 in
     name_stop text len (drop len text) (drop (len + 1) text) b run (ascii_front text len h low) (ap (λ t. t && continues_name b) (sym (lt-ltb b 128 low)) ∙ f)
-
--- the rest of a name behind its first bytes
-pub name_rest : (text : Text) (len m : ℕ) → NameRun text len (drop len text) → m ≡ name_len (chars (drop len text)) → len + m ≡ name_len (chars text)
-name_rest text len m run e = ap (λ n. len + n) e ∙ run.counted
 
 pub name_end : (text : Text) (len : ℕ) (rest : Text) → NameRun text len rest → length rest ≡ 0 → len ≡ name_len (chars text)
 name_end text len [] run h = let none : name_len (chars []) ≡ 0 = ap name_len chars-nil in omega (arith, run.counted, none)

@@ -58,11 +58,6 @@ token_holds s text k o c at h n =
     (over_closes s text k o c at l (λ _. n)))
     (cases_lt p (length text))
 
-ClosesAt : Syntax → Text → Tag → ℕ → Close → Type 0
-ClosesAt s text k at (Closed start stop after) = IsClosedAt s text k at start stop after
-ClosesAt s text k at Broken = ⊥
-ClosesAt s text k at (Refused f start place) = ⊥
-
 delimiter_holds : (s : Syntax) (text : Text) (m : StartMarker) (at p : ℕ) (e : Option (Control × ℕ)) (close : Close) → p ≡ past_space text at → end_at (end_of s m) text p ≡ e → delimited_close s text m p e ≡ Some close →
     (start : ℕ) × (stop : ℕ) × (after : ℕ) × (close ≡ Closed start stop after) × IsDelimiterClose s text m at start stop after
 delimiter_holds s text m at p None close q h e = cc
