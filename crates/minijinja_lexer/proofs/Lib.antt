@@ -23,4 +23,5 @@ pub mod Order
 pub mod Examples
 mod Occurrences
 mod Stretches
+mod Plain
 mod RawTexts

@@ -20,7 +20,7 @@ take_plus (suc at) n [] = take_none (suc at + n) ∙ sym (take_none n)
 take_plus (suc at) n (b ∷ bs) = let e : suc at + n ≡ suc (at + n) = omega arith in ap (λ k. take k (b ∷ bs)) e ∙ ap (λ t. b ∷ t) (take_plus at n bs)
 
 -- what stands from a place to another
-abbrev between : (at to : ℕ) → Text → Text
+abbrev pub between : (at to : ℕ) → Text → Text
 between at to text = take (to - at) (drop at text)
 
 take_to : (at to : ℕ) (text : Text) → at ≤ to → take to text ≡ take at text ++ between at to text

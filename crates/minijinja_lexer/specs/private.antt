@@ -1,5 +1,6 @@
 -- What specifies private functions alone, and need not be believed.
 pub mod Place
+pub mod Plain
 pub mod AtCursor
 pub mod AsciiEnds
 pub mod Views

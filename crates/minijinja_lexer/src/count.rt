@@ -3,11 +3,15 @@ ghost use Rattle.std.specs.Prelude.{◌≡◌, ◌+◌, ◌<◌, ◌≤◌, ◌^
 ghost use Rattle.minijinja_syntax.specs.Positions.{is_lead, line_after, column_after};
 ghost use Rattle.minijinja_syntax.specs.Texts.{Text};
 ghost use Rattle.minijinja_lexer.specs.private.Place.{next_line, next_column};
+ghost use Rattle.minijinja_lexer.specs.private.Plain.{IsPlain};
 
-use memchr::{memchr_iter, memrchr};
+use memchr::{memchr, memchr_iter, memrchr};
 
 /// From so many bytes on a stretch is searched for its line ends, and not counted byte by byte.
 const FAR: usize = 32;
+
+/// So many bytes ahead it is looked how far plain text goes.
+const AHEAD: usize = 64;
 
 /// The line and the column after one more byte; what they stop at is left to the caller.
 #[inline(always)]
@@ -77,7 +81,8 @@ fn far_after(text: &[u8], at: usize, to: usize, line: u16, column: u16) -> (u16,
 }
 
 /// A line or a column so much further on.
-fn moved(count: u16, more: usize) -> u16
+#[inline(always)]
+pub(crate) fn moved(count: u16, more: usize) -> u16
     ensures { result ≡ min 65535 (count + more) }
 {
     stopped(usize::from(count).saturating_add(more))
@@ -99,5 +104,30 @@ fn char_count(bytes: &[u8]) -> usize
         bytes.len()
     } else {
         bytes.iter().filter(|byte| is_lead(**byte)).count()
+    }
+}
+
+/// A place up to which, from this one on, plain text stands: ASCII characters other than newlines.
+pub(crate) fn plain_end(text: &str, at: usize) -> usize
+    requires { at ≤ length text.now }
+    ensures { IsPlain text.now at result }
+{
+    let rest = &text.as_bytes()[at..];
+    at + plain_len(&rest[..rest.len().min(AHEAD)])
+}
+
+/// How many bytes at the front are plain text.
+fn plain_len(bytes: &[u8]) -> usize
+    ensures within { result ≤ length bytes.now }
+    ensures plain { IsPlain bytes.now 0 result }
+{
+    let line = match memchr(b'\n', bytes) {
+        Some(end) => &bytes[..end],
+        None => bytes,
+    };
+    if line.is_ascii() {
+        line.len()
+    } else {
+        line.iter().take_while(|byte| byte.is_ascii()).count()
     }
 }

@@ -1,7 +1,7 @@
 //! A place in a text, whose line and column are kept as it moves.
 ghost use Rattle.std.specs.Prelude.{◌≡◌, ℕ, ◌+◌, ◌<◌, ◌≤◌, length};
 
-use crate::count::after;
+use crate::count::{after, moved, plain_end};
 use crate::fault::Fault;
 use minijinja_syntax::tokens::Span;
 use std::marker::Model;
@@ -11,6 +11,8 @@ use std::marker::Model;
 pub(crate) struct Cursor<'s> {
     text: &'s str,
     at: usize,
+    /// Up to here, from `at` on, only ASCII characters other than newlines stand, which move the column alone.
+    plain: usize,
     line: u16,
     column: u16,
 }
@@ -43,6 +45,7 @@ impl<'s> Cursor<'s> {
         Cursor {
             text,
             at: 0,
+            plain: 0,
             line: 1,
             column: 0,
         }
@@ -80,10 +83,26 @@ impl<'s> Cursor<'s> {
         requires boundary { IsCharBoundary self.old.text to }
         ensures { self.new ≡ record { text = self.old.text; at = to } }
     {
+        if to <= self.plain {
+            self.column = moved(self.column, to - self.at);
+            self.at = to;
+        } else {
+            self.count_to(to);
+        }
+    }
+
+    /// Moves on to a place by the bytes up to it.
+    #[inline(never)]
+    fn count_to(&mut self, to: usize)
+        requires onwards { self.old.at ≤ to }
+        requires boundary { IsCharBoundary self.old.text to }
+        ensures { self.new ≡ record { text = self.old.text; at = to } }
+    {
         let (line, column) = after(self.text, self.at, to, self.line, self.column);
         self.line = line;
         self.column = column;
         self.at = to;
+        self.plain = plain_end(self.text, to);
     }
 
     /// Moves over a stretch, and answers its span.

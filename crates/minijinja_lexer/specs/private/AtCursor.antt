@@ -4,6 +4,7 @@ use Rattle.std.specs.Str.{IsCharBoundary}
 use Rattle.minijinja_syntax.specs.Positions.{line_after, column_after}
 use Rattle.minijinja_lexer.specs.declared.cursor.Cursor.TheInside.{Inside}
 use Rattle.minijinja_lexer.specs.private.Place.{Place}
+use Rattle.minijinja_lexer.specs.private.Plain.{IsPlain}
 
 -- its text, and where it is
 abbrev pub cursor_view : Inside → Place
@@ -15,3 +16,4 @@ pub record IsCursor (a : Inside) : Type 0 where
   pub boundary : IsCharBoundary a.text.now a.at
   pub line : a.line ≡ line_after (take a.at a.text.now)
   pub column : a.column ≡ column_after (take a.at a.text.now)
+  pub plain : IsPlain a.text.now a.at a.plain
