@@ -2,7 +2,7 @@
 use Rattle.std.proofs.Common.{◌≡◌, ℕ, zero, suc, get_or-drop, length-drop, ◌+◌, ◌-◌, ◌<◌, ◌≤◌, Bool, true, false, cond, List, [], ◌∷◌, ◌++◌, length, drop, get_or, refl, ap, sym, ◌∙◌, arith, subst, length-append, ⊎_elim}
 use Rattle.std.specs.List.{prefix_len}
 use Rattle.std.specs.Str.{IsUtf8, IsCharBoundary, chars}
-use Rattle.std.specs.Char.{len_utf8, encode_utf8, is_ascii_alphanumeric, is_ascii_whitespace}
+use Rattle.std.specs.Char.{len_utf8, encode_utf8, is_ascii_alphanumeric, is_ascii_lowercase, is_ascii_whitespace}
 use Rattle.std.proofs.lemmas.List.{get_or_past}
 use Rattle.std.proofs.lemmas.Bool.{cases_lt, lt-ltb, le-ltb}
 use Rattle.std.proofs.Math.Seq.{drop-cons}
@@ -49,6 +49,9 @@ pub record NameRun (text : Text) (len : ℕ) (rest : Text) : Type 0 where
   pub lens : len + length rest ≡ length text
   pub utf8 : IsUtf8 rest
 
+small_letter : (b : ℕ) → is_ascii_lowercase b ≡ true → (is_ascii_alphanumeric b || (b == 95)) ≡ true
+small_letter b h = grind (arith, nat_tests, h)
+
 -- an ASCII byte that a name goes on with
 pub ascii_continues : (b : ℕ) → (is_ascii_alphanumeric b || (b == 95)) ≡ (nat_lt b 128 && continues_name b)
 ascii_continues b = ⊎_elim
@@ -60,6 +63,9 @@ ascii_continues b = ⊎_elim
     twice true y = refl
     twice false true = refl
     twice false false = refl
+
+pub small_letter_continues : (b : ℕ) → is_ascii_lowercase b ≡ true → (nat_lt b 128 && continues_name b) ≡ true
+small_letter_continues b h = sym (ascii_continues b) ∙ small_letter b h
 
 name_cons : (c : ℕ) (cs : List ℕ) → continues_name c ≡ true → name_len (c ∷ cs) ≡ len_utf8 c + name_len cs
 name_cons c cs h = ap (λ t. cond t (len_utf8 c + name_len cs) 0) h

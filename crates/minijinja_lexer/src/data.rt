@@ -11,6 +11,7 @@ ghost use Rattle.minijinja_lexer.specs.private.Views.{control_view};
 use crate::whitespace::{Control, control_behind, is_line_end};
 use minijinja_syntax::syntax::{StartMarker, SyntaxConfig};
 
+#[inline(never)]
 pub(crate) fn trimmed_len(text: &str) -> usize
     ensures value { result ≡ spec.trimmed_len text.now }
     ensures boundary { IsCharBoundary text.now result }
@@ -45,6 +46,7 @@ fn begins_line(text: &[u8], at: usize) -> bool
 
 /// How much is kept by the line rule.
 #[tactic(auto, unfolding(crate::specs::Whitespace::line_kept_len))]
+#[inline(never)]
 pub(crate) fn line_kept_len(text: &str) -> usize
     ensures value { result ≡ spec.line_kept_len text.now }
     ensures boundary { IsCharBoundary text.now result }

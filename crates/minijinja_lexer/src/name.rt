@@ -24,6 +24,10 @@ pub(crate) fn begins_name(text: &str) -> bool
 fn continues_ascii(byte: u8) -> bool
     ensures { result ≡ (nat_lt byte 128 && spec.continues_name byte) }
 {
+    // Most bytes of names are small letters.
+    if byte.is_ascii_lowercase() {
+        return true;
+    }
     byte.is_ascii_alphanumeric() | (byte == b'_')
 }
 
