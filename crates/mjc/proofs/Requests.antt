@@ -7,11 +7,11 @@ use Rattle.std.proofs.lemmas.List.{drop-map, drop-drop}
 use Rattle.std.proofs.lemmas.Slice.Eq.{bytes_eq-Decides}
 use Rattle.minijinja_syntax.specs.Texts.{Text}
 use Rattle.minijinja_syntax.specs.Syntax.{Syntax}
-use Rattle.mjc.specs.Settings.{Setting, block, variable, comment, line_statement, line_comment, trim_blocks, lstrip_blocks, keep_newline, words_of, with_setting, option_named, setting_of, first_setting, Takes, texts}
-use Rattle.mjc.specs.Usage.{IsFile, option_words, command_word, Asks, AsksExpr}
+use Rattle.mjc.specs.Settings.{Setting, block, variable, comment, line_statement, line_comment, trim_blocks, lstrip_blocks, keep_newline, words_of, with_setting, texts}
+use Rattle.mjc.specs.Usage.{IsFile, Task, option_words, command_word, Asks, AsksExpr}
+use Rattle.mjc.specs.private.AtOptions.{option_named, setting_of, first_setting, Takes}
 use Rattle.mjc.specs.declared.options.OptionName.{OptionName}
 use Rattle.mjc.specs.declared.options.OptionName.TheVariants.{Block, Variable, Comment, LineStatement, LineComment, TrimBlocks, LstripBlocks, KeepNewline}
-use Rattle.mjc.specs.declared.usage.Action.{Action}
 
 some_injective : (p q : Setting × List Text) → Some p ≡ Some q → p ≡ q
 some_injective p q e = cc
@@ -158,9 +158,9 @@ goes_over words here last start initial old new e f takes onward settings file i
     (ap texts f ∙ over.0, none.1 ∙ sym over.1)
 
 -- the words of a command, of options and of a file are asked for
-pub asks : (args : List (Bor Text)) (word : Bor Text) (rest : List (Bor Text)) (action : Action) (settings : List Setting) (file : Text) → args ≡ word ∷ rest → word.now ≡ command_word action → texts rest ≡ option_words settings file → IsFile file → Asks args (record { action = action; settings = settings; file = file })
-asks args word rest action settings file e named said is_file = record {
-  words = ap texts e ∙ (ap (λ w. w ∷ texts rest) named ∙ ap (λ ws. command_word action ∷ ws) said);
+pub asks : (args : List (Bor Text)) (word : Bor Text) (rest : List (Bor Text)) (task : Task) (settings : List Setting) (file : Text) → args ≡ word ∷ rest → word.now ≡ command_word task → texts rest ≡ option_words settings file → IsFile file → Asks args (record { task = task; settings = settings; file = file })
+asks args word rest task settings file e named said is_file = record {
+  words = ap texts e ∙ (ap (λ w. w ∷ texts rest) named ∙ ap (λ ws. command_word task ∷ ws) said);
   file = is_file;
 }
 

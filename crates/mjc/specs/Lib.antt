@@ -2,3 +2,4 @@ pub mod Settings
 pub mod Usage
 pub mod Fault
 pub mod Reading
+pub mod private

@@ -4,21 +4,20 @@ use Rattle.std.specs.List.{starts_with, flat_map}
 use Rattle.std.specs.Borrow.{Bor}
 use Rattle.minijinja_syntax.specs.Texts.{Text}
 use Rattle.minijinja_syntax.specs.Syntax.{IsBuildable}
-use Rattle.mjc.specs.Settings.{Setting, texts, words_of, syntax_of, syntax_with}
-use Rattle.mjc.specs.declared.usage.Action.{Action}
-use Rattle.mjc.specs.declared.usage.Action.TheVariants.{Tokens, Code}
-use Rattle.mjc.specs.declared.usage.Command.{Command}
-use Rattle.mjc.specs.declared.usage.Command.TheVariants.{File, Expr}
-use Rattle.mjc.specs.declared.usage.FileCommand.{FileCommand}
+use Rattle.mjc.specs.Settings.{Setting, texts, words_of, syntax_with}
 
 -- a word that may name a file: one that begins with `--` is an option
 abbrev pub IsFile : Text → Type 0
 IsFile word = starts_with nat_eq word (codes "--") ≡ false
 
+-- what is done with a file: its tokens are shown, or its code
+pub data Task : Type 0 where
+  tokens code : Task
+
 -- the word of a command
-abbrev pub command_word : Action → Text
-command_word Tokens = codes "tokens"
-command_word Code = codes "code"
+abbrev pub command_word : Task → Text
+command_word tokens = codes "tokens"
+command_word code = codes "code"
 
 -- options and, behind them, one file
 abbrev pub option_words : List Setting → Text → List Text
@@ -26,13 +25,13 @@ option_words settings file = flat_map words_of settings ++ file ∷ []
 
 -- what the program may be asked for
 pub record Request : Type 0 where
-  pub action : Action
+  pub task : Task
   pub settings : List Setting
   pub file : Text
 
 -- the words behind the program's name are the command, its options and one file
 pub record Asks (args : List (Bor Text)) (request : Request) : Type 0 where
-  pub words : texts args ≡ command_word request.action ∷ option_words request.settings request.file
+  pub words : texts args ≡ command_word request.task ∷ option_words request.settings request.file
   pub file : IsFile request.file
 
 -- the words ask for something of a file
@@ -58,19 +57,3 @@ pub record IsUnbuildable (args : List (Bor Text)) : Type 0 where
   pub request : Request
   pub asks : Asks args request
   pub unbuildable : ¬ IsBuildable (syntax_with request.settings)
-
--- the command does what is asked for
-pub record IsCommandFor (request : Request) (command : FileCommand) : Type 0 where
-  pub action : command.action ≡ request.action
-  pub syntax : syntax_of command.options ≡ syntax_with request.settings
-  pub file : command.file.now ≡ request.file
-
--- the command does what is asked for of a file
-abbrev pub IsFileCommandFor : Request → Command → Type 0
-IsFileCommandFor request (File command) = IsCommandFor request command
-IsFileCommandFor request (Expr text) = ⊥
-
--- the command is for the code of this text
-abbrev pub IsExprCommandFor : Text → Command → Type 0
-IsExprCommandFor text (File command) = ⊥
-IsExprCommandFor text (Expr t) = t.now ≡ text

@@ -18,9 +18,9 @@ enum OptionName {
 
 impl OptionName {
     ghost use Rattle.std.specs.Prelude.{◌≡◌};
-    ghost use Rattle.mjc.specs.Settings.{option_named};
+    ghost use Rattle.mjc.specs.private.AtOptions.{option_named};
 
-    #[tactic(auto, unfolding(crate::specs::Settings::option_named))]
+    #[tactic(auto, unfolding(crate::specs::private::AtOptions::option_named))]
     fn of_word(word: &str) -> Option<Self>
         ensures { result ≡ option_named word.now }
     {
@@ -55,7 +55,8 @@ impl<'a> Options<'a> {
     ghost use Rattle.std.specs.Prelude.{◌≡◌, ◌⊎◌, ◌<◌, length, ◌≤◌, Some, IfOk, IfErr, IfSome, IsErrAnd};
     ghost use Rattle.minijinja_syntax.specs.Syntax.{IsBuildable, default_syntax};
     ghost use Rattle.minijinja_syntax.specs.Errors.{IsOutOfMemory, IsInvalidDelimiter};
-    ghost use Rattle.mjc.specs.Settings.{texts, syntax_of, Takes, first_setting, setting_of};
+    ghost use Rattle.mjc.specs.Settings.{texts};
+    ghost use Rattle.mjc.specs.private.AtOptions.{syntax_of, Takes, first_setting, setting_of};
 
     /// Those of no option: the syntax of Jinja2.
     pub fn none() -> Self

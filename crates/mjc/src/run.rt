@@ -3,7 +3,8 @@ ghost use Rattle.std.specs.Prelude.{◌≡◌, ◌≤◌, IfOk, IfSome, IsErr, I
 ghost use Rattle.std.specs.Io.KnownBytes.{IsAtEnd};
 ghost use Rattle.mjc.specs.Settings.{syntax_with};
 ghost use Rattle.minijinja_syntax.specs.Syntax.{IsBuildable};
-ghost use Rattle.mjc.specs.Usage.{IsUsage, IsFileUsage, IsExprUsage, IsUnbuildable, IsCommandFor, Request, Asks};
+ghost use Rattle.mjc.specs.Usage.{IsUsage, IsFileUsage, IsExprUsage, IsUnbuildable, Request, Asks};
+ghost use Rattle.mjc.specs.private.AtUsage.{IsCommandFor};
 ghost use Rattle.mjc.specs.Reading.{IsNoText};
 ghost use Rattle.mjc.specs.Fault.{status_of};
 

@@ -2,8 +2,10 @@
 ghost use Rattle.std.specs.Prelude.{◌≡◌, ◌≤◌, ◌↔◌, length, drop, List, [], ◌∷◌, IsSome, IfSome, IsSomeAnd, IsNone};
 ghost use Rattle.std.specs.List.{fold};
 ghost use Rattle.minijinja_syntax.specs.Texts.{Text};
-ghost use Rattle.mjc.specs.Settings.{Setting, texts, syntax_of, with_setting};
-ghost use Rattle.mjc.specs.Usage.{IsUsage, IsFileUsage, IsExprUsage, Request, Asks, AsksExpr, IsCommandFor, IsFileCommandFor, IsExprCommandFor, IsFile, option_words};
+ghost use Rattle.mjc.specs.Settings.{Setting, texts, with_setting};
+ghost use Rattle.mjc.specs.Usage.{IsUsage, IsFileUsage, IsExprUsage, Request, Asks, AsksExpr, IsFile, option_words};
+ghost use Rattle.mjc.specs.private.AtOptions.{syntax_of};
+ghost use Rattle.mjc.specs.private.AtUsage.{IsCommandFor, IsFileCommandFor, IsExprCommandFor};
 
 use crate::options::Options;
 
@@ -18,12 +20,12 @@ pub enum Action {
 
 impl Action {
     ghost use Rattle.std.specs.Prelude.{◌≡◌, IfSome, IsNone};
-    ghost use Rattle.mjc.specs.Usage.{command_word};
-    ghost use Rattle.mjc.specs.declared.usage.Action as declared;
+    ghost use Rattle.mjc.specs.Usage.{Task, command_word};
+    ghost use Rattle.mjc.specs.private.AtUsage.{task_of};
 
     fn of_word(word: &str) -> Option<Self>
-        ensures found { IfSome result (λ action. word.now ≡ command_word action) }
-        ensures none { IsNone result → (action : declared.Action) → ¬ (word.now ≡ command_word action) }
+        ensures found { IfSome result (λ action. word.now ≡ command_word (task_of action)) }
+        ensures none { IsNone result → (task : Task) → ¬ (word.now ≡ command_word task) }
     {
         match word {
             "tokens" => Some(Action::Tokens),

@@ -1,8 +1,7 @@
 -- The first word is `expr`, and the second is the text.
-use Rattle.std.proofs.Common.{◌≡◌, refl, sym, ◌∙◌, [], slice_index_or}
+use Rattle.std.proofs.Common.{refl, sym, ◌∙◌, [], slice_index_or}
 use Rattle.std.specs.Borrow.{Bor}
 use Rattle.minijinja_syntax.specs.Texts.{Text}
-use Rattle.mjc.specs.Usage.{AsksExpr}
 use Rattle.mjc.proofs.Requests.{asks_expr}
 use Rattle.mjc.proofs.usage.parse_expr_command.Goals as goal
 

@@ -1,6 +1,7 @@
 -- Each turn reads one option further, and the last one leaves the file.
 use Rattle.std.proofs.Common.{arith, ap, subst, sym, ◌∙◌, length, length-drop}
-use Rattle.mjc.specs.Settings.{texts, syntax_of}
+use Rattle.mjc.specs.Settings.{texts}
+use Rattle.mjc.specs.private.AtOptions.{syntax_of}
 use Rattle.mjc.proofs.Requests.{Reads, over, goes_on, goes_over, read_words}
 use Rattle.mjc.proofs.usage.read_options.Goals as goal
 

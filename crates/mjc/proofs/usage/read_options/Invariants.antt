@@ -2,7 +2,8 @@
 use Rattle.std.proofs.Common.{◌-◌, ◌≤◌, length, drop}
 use Rattle.minijinja_syntax.specs.Texts.{Text}
 use Rattle.minijinja_syntax.specs.Syntax.{Syntax}
-use Rattle.mjc.specs.Settings.{texts, syntax_of}
+use Rattle.mjc.specs.Settings.{texts}
+use Rattle.mjc.specs.private.AtOptions.{syntax_of}
 use Rattle.mjc.proofs.Requests.{Reads}
 use Rattle.mjc.proofs.usage.read_options.Given as goal
 
