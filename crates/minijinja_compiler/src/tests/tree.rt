@@ -1,19 +1,12 @@
 //! The trees of expressions: their values, what they are called, and whether they are well formed.
-use crate::ast::{
-    Call, CallArg, CallType, Compare, CompareOp, CompareOpKind, EmitExpr, Expr, Filter, List, Map,
-    Set, Spanned, Stmt, Template,
-};
-use crate::error::Error;
+use crate::ast::{CallType, Expr};
 use crate::parser::{parse, parse_expr};
 use crate::syntax::SyntaxConfig;
-use crate::tokens::Span;
 use crate::value::Value;
 use minijinja_tree::constants::constant_kwargs;
 use std::alloc::Global;
 use std::process::Abort;
 use std::test::Fail;
-
-type Tree = Expr<'static, Value>;
 
 /// The value is printed as these words, and no value is `unknown`.
 fn is_shown(rt: &impl Abort, alloc: Global, value: Option<Value>, words: &str) -> Result<(), Fail> {
@@ -164,124 +157,10 @@ fn what_is_called_is_told_by_its_form(rt: HostRuntime) -> Result<(), Fail> {
     Ok(())
 }
 
-fn spanned<T: Drop>(alloc: Global, node: T) -> Result<Spanned<T>, Error<'static>> {
-    Spanned::new(alloc, node, Span::default())
-}
-
-/// A call with so many arguments.
-fn called(alloc: Global, count: u32) -> Result<Tree, Error<'static>> {
-    let mut args = Vec::new(alloc);
-    for _ in 0..count {
-        args.push(CallArg::Pos(parse_expr(alloc, "x")?))?;
-    }
-    let expr = parse_expr(alloc, "f")?;
-    Ok(Expr::Call(spanned(alloc, Call { expr, args })?))
-}
-
-/// A filter without an operand.
-fn filter_of_nothing(alloc: Global) -> Result<Tree, Error<'static>> {
-    let filter = Filter {
-        name: "f",
-        expr: None,
-        args: Vec::new(alloc),
-    };
-    Ok(Expr::Filter(spanned(alloc, filter)?))
-}
-
-/// A chain of so many comparisons.
-fn chained(alloc: Global, count: u32) -> Result<Tree, Error<'static>> {
-    let expr = parse_expr(alloc, "x")?;
-    let mut ops = Vec::new(alloc);
-    for _ in 0..count {
-        let expr = parse_expr(alloc, "x")?;
-        ops.push(CompareOp {
-            op: CompareOpKind::Lt,
-            expr,
-        })?;
-    }
-    Ok(Expr::Compare(spanned(alloc, Compare { expr, ops })?))
-}
-
-/// A map of one key, and so many values.
-fn mapped(alloc: Global, count: u32) -> Result<Tree, Error<'static>> {
-    let keys = vec![in alloc; parse_expr(alloc, "x")?]?;
-    let mut values = Vec::new(alloc);
-    for _ in 0..count {
-        values.push(parse_expr(alloc, "x")?)?;
-    }
-    Ok(Expr::Map(spanned(alloc, Map { keys, values })?))
-}
-
-/// No text gives such trees.
 #[test]
-fn what_no_text_gives_is_not_well_formed(rt: HostRuntime) -> Result<(), Fail> {
-    let alloc = rt.alloc();
-    for (count, holds) in [(2000, true), (2001, false)] {
-        assert_eq!(rt;
-            called(alloc, count)?.is_well_formed(),
-            holds,
-            "call of {count}"
-        );
-    }
-    for (count, holds) in [(1, false), (2, true)] {
-        assert_eq!(rt;
-            chained(alloc, count)?.is_well_formed(),
-            holds,
-            "chain of {count}"
-        );
-    }
-    for (count, holds) in [(0, false), (1, true), (2, false)] {
-        assert_eq!(rt;
-            mapped(alloc, count)?.is_well_formed(),
-            holds,
-            "map of {count}"
-        );
-    }
-    assert!(rt; !filter_of_nothing(alloc)?.is_well_formed());
-    let items = vec![in alloc; filter_of_nothing(alloc)?]?;
-    let list = Expr::List(spanned(alloc, List { items })?);
-    assert!(rt; !list.is_well_formed());
-    Ok(())
-}
-
-fn template_of(
-    alloc: Global,
-    stmt: Stmt<'static, Value>,
-) -> Result<Stmt<'static, Value>, Error<'static>> {
-    let children = vec![in alloc; stmt]?;
-    Ok(Stmt::Template(spanned(alloc, Template { children })?))
-}
-
-fn assignment(
-    alloc: Global,
-    target: &'static str,
-    expr: Tree,
-) -> Result<Stmt<'static, Value>, Error<'static>> {
-    let target = parse_expr(alloc, target)?;
-    Ok(Stmt::Set(spanned(alloc, Set { target, expr })?))
-}
-
-#[test]
-fn statements_that_no_text_gives_are_not_well_formed(rt: HostRuntime) -> Result<(), Fail> {
-    let alloc = rt.alloc();
+fn trees_of_texts_are_well_formed(rt: HostRuntime) -> Result<(), Fail> {
     let text = "a{% set x = 1 %}{{ x }}";
-    let tree = parse::<Value>(alloc, text, "page", &SyntaxConfig::default())?;
+    let tree = parse::<Value>(rt.alloc(), text, "page", &SyntaxConfig::default())?;
     assert!(rt; tree.is_well_formed());
-    for (target, holds) in [("x", true), ("1", false)] {
-        let stmt = assignment(alloc, target, parse_expr(alloc, "1")?)?;
-        assert_eq!(rt;
-            template_of(alloc, stmt)?.is_well_formed(),
-            holds,
-            "{target}"
-        );
-    }
-    let stmt = assignment(alloc, "x", filter_of_nothing(alloc)?)?;
-    assert!(rt; !template_of(alloc, stmt)?.is_well_formed());
-    let expr = filter_of_nothing(alloc)?;
-    let stmt = Stmt::EmitExpr(spanned(alloc, EmitExpr { expr })?);
-    assert!(rt; !stmt.is_well_formed());
-    let stmt = assignment(alloc, "x", parse_expr(alloc, "1")?)?;
-    let inner = template_of(alloc, stmt)?;
-    assert!(rt; !template_of(alloc, inner)?.is_well_formed());
     Ok(())
 }
