@@ -81,8 +81,7 @@ fn far_after(text: &[u8], at: usize, to: usize, line: u16, column: u16) -> (u16,
 }
 
 /// A line or a column so much further on.
-#[inline(always)]
-pub(crate) fn moved(count: u16, more: usize) -> u16
+fn moved(count: u16, more: usize) -> u16
     ensures { result ≡ min 65535 (count + more) }
 {
     stopped(usize::from(count).saturating_add(more))
@@ -90,7 +89,7 @@ pub(crate) fn moved(count: u16, more: usize) -> u16
 
 /// A line or a column as a span has it.
 #[inline(always)]
-fn stopped(count: usize) -> u16
+pub(crate) fn stopped(count: usize) -> u16
     ensures { result ≡ min 65535 count }
 {
     count.min(65535) as u16

@@ -1,7 +1,7 @@
 //! A place in a text, whose line and column are kept as it moves.
 ghost use Rattle.std.specs.Prelude.{◌≡◌, ℕ, ◌+◌, ◌<◌, ◌≤◌, length};
 
-use crate::count::{after, moved, plain_end};
+use crate::count::{after, plain_end, stopped};
 use crate::fault::Fault;
 use minijinja_syntax::tokens::Span;
 use std::marker::Model;
@@ -84,7 +84,7 @@ impl<'s> Cursor<'s> {
         ensures { self.new ≡ record { text = self.old.text; at = to } }
     {
         if to <= self.plain {
-            self.column = moved(self.column, to - self.at);
+            self.column = stopped(usize::from(self.column) + (to - self.at));
             self.at = to;
         } else {
             self.count_to(to);

@@ -1,4 +1,4 @@
-use Rattle.std.proofs.Common.{◌≤◌, arith, subst, sym}
+use Rattle.std.proofs.Common.{◌≤◌, ◌+◌, ◌-◌, ap, arith, min, subst, sym, ◌∙◌}
 use Rattle.std.specs.Str.{IsCharBoundary}
 use Rattle.minijinja_lexer.specs.private.Place.{Place}
 use Rattle.minijinja_lexer.proofs.Plain.{plain_line, plain_column}
@@ -14,6 +14,6 @@ invariant_of-self c =
       short = was.short;
       boundary = boundary;
       line = plain_line cursor.text.now cursor.at c.args.to cursor.plain cursor.line onwards c.if-to-self.true boundary.0 was.plain was.line;
-      column = plain_column cursor.text.now cursor.at c.args.to cursor.plain cursor.column c.moved-self-inside.result onwards c.if-to-self.true boundary.0 was.plain was.column c.moved-self-inside.ensures;
+      column = plain_column cursor.text.now cursor.at c.args.to cursor.plain cursor.column c.stopped-self-inside.result onwards c.if-to-self.true boundary.0 was.plain was.column (c.stopped-self-inside.ensures ∙ ap (λ n. min 65535 (n + (c.args.to - cursor.at))) c.from.ensures);
       plain = λ k low high. was.plain k (omega (arith, onwards, low)) high;
     }
