@@ -8,7 +8,7 @@ use Rattle.minijinja_syntax.specs.Errors.{IsOutOfMemory}
 use Rattle.minijinja_syntax.specs.declared.error.Error.{Error}
 use Rattle.minijinja_code.specs.Code.{Instr}
 use Rattle.minijinja_code.specs.Pieces.{Here, behind, Piece, nothing, one, ◌▸◌, skipping}
-use Rattle.minijinja_code.specs.Making.{Made, here_of, followed, hole, Adds, Refuses}
+use Rattle.minijinja_code.specs.private.Making.{Made, here_of, followed, hole, Adds, Refuses}
 use Rattle.minijinja_code.proofs.Runs.{append_nil}
 use Rattle.minijinja_code.proofs.Lengths.{Exact, grows}
 

@@ -8,7 +8,7 @@ use Rattle.minijinja_code.specs.Code.{Apply}
 use Rattle.minijinja_code.specs.Events.{PerformTest, ApplyFilter}
 use Rattle.minijinja_code.specs.Pieces.{Here, behind, one, ◌▸◌, id_of, noted}
 use Rattle.minijinja_code.specs.Layout.{apply_filter, perform_test, argument_count, expr, operand}
-use Rattle.minijinja_code.specs.Making.{Made, here_of, given, Adds, Refuses}
+use Rattle.minijinja_code.specs.private.Making.{Made, here_of, given, Adds, Refuses}
 use Rattle.minijinja_code.proofs.Adding.{adds_then, refuses_first, refuses_then, refuses_later}
 use Rattle.minijinja_code.proofs.Lengths.{Exact, then_exact, arguments_exact, positional_exact, keyword_exact, filter_exact, test_exact}
 

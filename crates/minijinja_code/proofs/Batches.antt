@@ -5,7 +5,7 @@ use Rattle.minijinja_code.specs.Code.{Do}
 use Rattle.minijinja_code.specs.Events.{MergeKwargs, UnpackLists}
 use Rattle.minijinja_code.specs.Pieces.{Here, behind, Piece, one, ◌▸◌}
 use Rattle.minijinja_code.specs.Layout.{batch_count, list_batch, map_batch, merged, map_count, spreading, counted}
-use Rattle.minijinja_code.specs.Making.{Made, here_of, Adds, Refuses}
+use Rattle.minijinja_code.specs.private.Making.{Made, here_of, Adds, Refuses}
 use Rattle.minijinja_code.proofs.Lengths.{one_exact}
 use Rattle.minijinja_code.proofs.Adding.{refuses_first, refuses_then, adds_then, adds_as, adds_nothing}
 

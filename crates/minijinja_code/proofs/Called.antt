@@ -17,7 +17,7 @@ use Rattle.minijinja_code.specs.Events.{CallFunction, CallMethod, CallObject}
 use Rattle.minijinja_code.specs.Layout as layout
 use Rattle.minijinja_code.specs.Layout.{captured, argument_count}
 use Rattle.minijinja_code.specs.Pieces.{Here, behind, Piece, one, ◌▸◌}
-use Rattle.minijinja_code.specs.Making.{Made, here_of, given, Adds, Refuses}
+use Rattle.minijinja_code.specs.private.Making.{Made, here_of, given, Adds, Refuses}
 use Rattle.minijinja_code.proofs.Adding.{adds_as, adds_then, refuses_first, refuses_then}
 use Rattle.minijinja_code.proofs.Applied.{given_exact}
 use Rattle.minijinja_code.proofs.Lengths.{one_exact, then_exact}

@@ -6,7 +6,7 @@ use Rattle.minijinja_tree.specs.CompareOps.{CompareOp}
 use Rattle.minijinja_code.specs.Code.{Instr, CompareAndPreserve, Jump, JumpIfFalseOrPop, Swap, DiscardTop}
 use Rattle.minijinja_code.specs.Pieces.{Here, behind, Piece, one, ◌▸◌}
 use Rattle.minijinja_code.specs.Layout.{Failing, last, and_then, chained}
-use Rattle.minijinja_code.specs.Making.{Made, here_of, followed, hole, Adds}
+use Rattle.minijinja_code.specs.private.Making.{Made, here_of, followed, hole, Adds}
 use Rattle.minijinja_code.specs.private.Comparing.{with_jumps, jumping, operand_then, Leads, leaving, Closes}
 use Rattle.minijinja_code.proofs.Adding.{set_between, here_behind, adds_length, adds_filled, adds_kept, one_small}
 

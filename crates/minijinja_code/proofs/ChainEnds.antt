@@ -19,7 +19,7 @@ use Rattle.minijinja_tree.specs.declared.ast.CompareOp.{CompareOp as Comparison}
 use Rattle.minijinja_code.specs.Code.{Instr}
 use Rattle.minijinja_code.specs.Pieces.{Here, ◌▸◌}
 use Rattle.minijinja_code.specs.Layout.{Failing, last, comparison, expr, chain, comparisons}
-use Rattle.minijinja_code.specs.Making.{Made, here_of, Adds, AddsUnless, Refuses, RefusesUnfolded, IsPart}
+use Rattle.minijinja_code.specs.private.Making.{Made, here_of, Adds, AddsUnless, Refuses, RefusesUnfolded, IsPart}
 use Rattle.minijinja_code.specs.private.Comparing.{operand_then, behind_one, behind_two, ahead, Leads, leaving, Closes, Holds}
 use Rattle.minijinja_code.proofs.Lengths.{grows, expr_exact, failing_grows, comparisons_exact}
 use Rattle.minijinja_code.proofs.Adding.{adds_as, cut_back}

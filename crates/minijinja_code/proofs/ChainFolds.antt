@@ -14,7 +14,7 @@ use Rattle.minijinja_tree.specs.declared.ast.CompareOp.{CompareOp as Comparison}
 use Rattle.minijinja_tree.proofs.Chains.{chain-holds, chain-fails, chain-faults, chain-unknown}
 use Rattle.minijinja_code.specs.Code.{Instr, Load, CompareAndPreserve, JumpIfFalseOrPop}
 use Rattle.minijinja_code.specs.Layout.{Failing, and_then, expr, comparisons}
-use Rattle.minijinja_code.specs.Making.{Made, followed, AddsUnless}
+use Rattle.minijinja_code.specs.private.Making.{Made, followed, AddsUnless}
 use Rattle.minijinja_code.specs.private.Comparing.{AreBelow, operand_then, behind_one, behind_two, ahead, Leads, Holds, loaded, known}
 use Rattle.minijinja_code.proofs.FoldedCode.{folded_code}
 use Rattle.minijinja_code.proofs.ChainCode.{Puts, puts_added, puts_kept, leads_comparison}

@@ -12,7 +12,7 @@ use Rattle.minijinja_tree.specs.declared.ast.CompareOp.{CompareOp as Comparison}
 use Rattle.minijinja_code.specs.Code.{Instr, Load}
 use Rattle.minijinja_code.specs.Pieces.{Piece}
 use Rattle.minijinja_code.specs.Layout.{Failing, expr, comparisons}
-use Rattle.minijinja_code.specs.Making.{Made, here_of, followed, AddsUnless}
+use Rattle.minijinja_code.specs.private.Making.{Made, here_of, followed, AddsUnless}
 use Rattle.minijinja_code.specs.private.Comparing.{AreBelow, operand_then, behind_one, behind_two, ahead, Leads, Holds, loaded, known}
 use Rattle.minijinja_code.proofs.Runs.{append_nil}
 use Rattle.minijinja_code.proofs.Lengths.{grows, expr_exact}

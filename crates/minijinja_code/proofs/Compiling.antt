@@ -15,7 +15,7 @@ use Rattle.minijinja_tree.specs.Tree.{UnaryOp, Expr, variable, constant, slice, 
 use Rattle.minijinja_code.specs.Code.{Load, Jump, JumpIfFalse}
 use Rattle.minijinja_code.specs.Pieces.{Here, behind, Piece, one, ◌▸◌, branches}
 use Rattle.minijinja_code.specs.Layout.{folded, operation, expr}
-use Rattle.minijinja_code.specs.Making.{Made, here_of, followed, hole, Adds, AddsUnless, Refuses, RefusesUnfolded, IsAdded, IsPart, Gives, IsExprPart}
+use Rattle.minijinja_code.specs.private.Making.{Made, here_of, followed, hole, Adds, AddsUnless, Refuses, RefusesUnfolded, IsAdded, IsPart, Gives, IsExprPart}
 use Rattle.minijinja_code.proofs.Adding.{adds_then, adds_as, adds_filled, here_behind, refuses_memory}
 use Rattle.minijinja_code.proofs.Exits.{part_err, unfolded_memory, unfolded_none}
 use Rattle.minijinja_code.proofs.FoldedCode.{folded_none, folded_code}

@@ -13,7 +13,7 @@ use Rattle.minijinja_code.specs.Events.{ApplyFilter, PerformTest}
 use Rattle.minijinja_code.proofs.Adding.{refuses_later}
 use Rattle.minijinja_code.specs.Pieces.{Here, Piece, behind, one, id_of, noted}
 use Rattle.minijinja_code.specs.Layout.{optional, items, item_count, operation, apply_filter, perform_test}
-use Rattle.minijinja_code.specs.Making.{Made, here_of, Adds, Refuses, RefusesUnfolded, is_lazy}
+use Rattle.minijinja_code.specs.private.Making.{Made, here_of, Adds, Refuses, RefusesUnfolded, is_lazy}
 
 pub optional_as : {C F : Type 0} (f : Functions C F) {a b : Made C} {d d' : C} (o : Optional C) → d ≡ d' → Adds a b (optional f d o) → Adds a b (optional f d' o)
 optional_as f {a} {b} o e s = subst (λ x. Adds a b (optional f x o)) e s

@@ -4,7 +4,7 @@ use Rattle.std.specs.Result.{IsErrAnd}
 use Rattle.minijinja_syntax.specs.Errors.{IsOutOfMemory}
 use Rattle.minijinja_syntax.specs.declared.error.Error.{Error}
 use Rattle.minijinja_code.specs.Pieces.{Here, Piece}
-use Rattle.minijinja_code.specs.Making.{Made, here_of, Adds, Refuses, RefusesUnfolded, IsAdded, IsPart}
+use Rattle.minijinja_code.specs.private.Making.{Made, here_of, Adds, Refuses, RefusesUnfolded, IsAdded, IsPart}
 use Rattle.minijinja_code.proofs.Adding.{refuses_memory}
 
 module _ {C X : Type 0} where

@@ -8,7 +8,7 @@ use Rattle.minijinja_tree.specs.Tree.{Expr, variable, constant, slice, unary, bi
 use Rattle.minijinja_code.specs.Code.{Load}
 use Rattle.minijinja_code.specs.Pieces.{Piece, one, ◌▸◌, skipping}
 use Rattle.minijinja_code.specs.Layout.{folded, operation, expr}
-use Rattle.minijinja_code.specs.Making.{is_lazy, jump_of, operator_of}
+use Rattle.minijinja_code.specs.private.Making.{is_lazy, jump_of, operator_of}
 
 module _ {C : Type 0} where
   pub folded_some : {r : Option C} {c : C} (p : Piece C) → r ≡ Some c → folded r p ≡ one (Load c)

@@ -12,7 +12,7 @@ use Rattle.minijinja_tree.specs.Folding.{constant_keywords, fold_keywords}
 use Rattle.minijinja_code.specs.Code.{Load}
 use Rattle.minijinja_code.specs.Pieces.{Here, behind, Piece, one, ◌▸◌}
 use Rattle.minijinja_code.specs.Layout.{Count, count_positional, count_keyword, merged, map_count, spreading, positional, keyword}
-use Rattle.minijinja_code.specs.Making.{Made, here_of, operands, given, keyword_map, Adds, Refuses, IsAdded}
+use Rattle.minijinja_code.specs.private.Making.{Made, here_of, operands, given, keyword_map, Adds, Refuses, IsAdded}
 use Rattle.minijinja_code.proofs.Adding.{adds_as, adds_then, refuses_first, refuses_then, refuses_memory}
 use Rattle.minijinja_code.proofs.ArgumentCode.{size, count_positional_few, count_keyword_few}
 use Rattle.minijinja_code.proofs.Arguments.{AllCounted, all_counted, one_map, none_counted}

@@ -9,7 +9,7 @@ use Rattle.minijinja_tree.specs.declared.ast.Expr.{Expr}
 use Rattle.minijinja_code.specs.Layout as layout
 use Rattle.minijinja_code.specs.Layout.{items, each, paired, pair_count}
 use Rattle.minijinja_code.specs.Pieces.{Piece, nothing, ◌▸◌}
-use Rattle.minijinja_code.specs.Making.{Made, here_of, Refuses}
+use Rattle.minijinja_code.specs.private.Making.{Made, here_of, Refuses}
 use Rattle.minijinja_code.proofs.Lengths.{Exact, then_exact, expr_exact, paired_exact, each_exact}
 use Rattle.minijinja_code.proofs.OneByOne.{Going, going_refused}
 

@@ -10,7 +10,7 @@ use Rattle.minijinja_code.specs.Calls.{is_self}
 use Rattle.minijinja_code.specs.Code.{Instr}
 use Rattle.minijinja_code.specs.Pieces.{Here, behind, Piece, one, ◌▸◌}
 use Rattle.minijinja_code.specs.Layout.{folded, operation, arguments, apply_filter, expr, optional, operand, each, positional, keyword}
-use Rattle.minijinja_code.specs.Making.{Made, here_of, Adds}
+use Rattle.minijinja_code.specs.private.Making.{Made, here_of, Adds}
 use Rattle.minijinja_code.proofs.Lengths.{Exact, grows, nothing_exact, one_exact, then_exact, test_exact, branches_exact, operation_exact, paired_exact, arguments_exact, expr_exact, optional_exact, items_exact, each_exact, chain_exact, positional_exact, keyword_exact}
 use Rattle.minijinja_code.proofs.Adding.{adds_length}
 

@@ -4,7 +4,7 @@ use Rattle.std.proofs.lemmas.Bool.{cases_lt}
 use Rattle.minijinja_syntax.specs.declared.error.Error.{Error}
 use Rattle.minijinja_code.specs.Code.{Instr}
 use Rattle.minijinja_code.specs.Pieces.{Here, Piece, nothing, ◌▸◌}
-use Rattle.minijinja_code.specs.Making.{Made, here_of, Adds, Refuses}
+use Rattle.minijinja_code.specs.private.Making.{Made, here_of, Adds, Refuses}
 use Rattle.minijinja_code.proofs.Runs.{append_nil}
 use Rattle.minijinja_code.proofs.Lengths.{Exact, grows}
 use Rattle.minijinja_code.proofs.Adding.{refuses_later}

@@ -11,7 +11,7 @@ use Rattle.minijinja_tree.specs.Tree.{UnaryOp, Expr, unary, binary}
 use Rattle.minijinja_code.specs.Code.{Load}
 use Rattle.minijinja_code.specs.Pieces.{Piece, one, ◌▸◌}
 use Rattle.minijinja_code.specs.Layout.{operation, unary_instr, expr}
-use Rattle.minijinja_code.specs.Making.{Made, here_of, AddsUnless, RefusesUnfolded, IsPart, Gives}
+use Rattle.minijinja_code.specs.private.Making.{Made, here_of, AddsUnless, RefusesUnfolded, IsPart, Gives}
 use Rattle.minijinja_code.proofs.FoldedCode.{folded_code}
 use Rattle.minijinja_code.proofs.Compiling.{node_result, given_some, given_folds, unary_folds, binary_folds}
 

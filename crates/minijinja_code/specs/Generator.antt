@@ -1,43 +1,9 @@
--- What a generator shows of itself.
-use Rattle.std.specs.Prelude.{◌≡◌, ℕ, ◌≤◌, ◌^◌, List, Option, length}
-use Rattle.std.specs.Borrow.{Bor}
-use Rattle.std.specs.BTreeMap.{BTreeMap}
-use Rattle.minijinja_syntax.specs.Texts.{Text}
+-- What a generator's refusal says.
+use Rattle.std.specs.Prelude.{◌≡◌, ◌≤◌, ◌^◌, List, length}
 use Rattle.minijinja_syntax.specs.Errors.{kind_of}
 use Rattle.minijinja_syntax.specs.declared.error.Error.{Error}
 use Rattle.minijinja_syntax.specs.declared.error.ErrorKind.TheVariants.{TooManyInstructions}
 use Rattle.minijinja_code.specs.Code.{Instr}
-use Rattle.minijinja_code.specs.Making.{made_of, here_of}
-use Rattle.minijinja_code.specs.Pieces.{Here}
-use Rattle.minijinja_code.specs.declared.codegen.CodeGenerator.{CodeGenerator}
-use Rattle.minijinja_code.specs.declared.instructions.Instructions.{Instructions}
-
--- the instructions so far, over what values hold
-abbrev pub generated : {V F C : Type 0} → (V → C) → CodeGenerator V F → List (Instr C)
-generated c g = (made_of c g.code).code
-
--- the place behind them, and the names of filters and tests that have an id
-abbrev pub here_so_far : {V F C : Type 0} → (V → C) → CodeGenerator V F → Here
-here_so_far c g = here_of (made_of c g.code)
-
--- the name and the text of the source
-abbrev pub file_of : {V F : Type 0} → CodeGenerator V F → Text
-file_of g = g.file.now
-
-abbrev pub text_of : {V F : Type 0} → CodeGenerator V F → Text
-text_of g = g.source.now
-
--- the blocks' lists, by name
-abbrev pub blocks_of : {V F : Type 0} → CodeGenerator V F → BTreeMap (Bor Text) (Instructions V F)
-blocks_of g = g.blocks
-
--- the bytes of the data nodes so far, where they number under 2 ^ 64
-abbrev pub counted_bytes : {V F : Type 0} → CodeGenerator V F → ℕ
-counted_bytes g = g.raw_template_bytes
-
--- the refusal that it answers from now on
-abbrev pub refusal_of : {V F : Type 0} → CodeGenerator V F → Option Error
-refusal_of g = g.refusal
 
 -- a refusal for want of room comes only where the list would have 2 ^ 32 instructions or more
 abbrev pub OnlyWhereTooLong : {C : Type 0} → Error → List (Instr C) → Type 0

@@ -7,7 +7,6 @@ pub mod Meaning
 pub mod Code
 pub mod Instructions
 pub mod Pieces
-pub mod Making
 pub mod Layout
 pub mod Machine
 pub mod Brackets

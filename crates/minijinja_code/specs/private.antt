@@ -1,3 +1,5 @@
--- What specifies private functions alone, and need not be believed.
+-- What specifies private functions alone, and need not be believed; and what public types show of their private fields.
+pub mod Making
+pub mod AtGenerator
 pub mod Comparing
 pub mod Outputs

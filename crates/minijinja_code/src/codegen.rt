@@ -6,13 +6,14 @@ ghost use Rattle.minijinja_tree.specs.Tree.{stmts_of};
 ghost use Rattle.minijinja_tree.specs.WellFormed.{IsTarget, IsWhole, IsInner, AreInner, IsWellFormed};
 ghost use Rattle.minijinja_code.specs.Instructions.{code_of};
 ghost use Rattle.minijinja_code.specs.Correct.{Does, DoesExpr};
-ghost use Rattle.minijinja_code.specs.Generator.{generated, here_so_far, counted_bytes, blocks_of, file_of, text_of, refusal_of, OnlyWhereTooLong};
+ghost use Rattle.minijinja_code.specs.Generator.{OnlyWhereTooLong};
 ghost use Rattle.minijinja_code.specs.Calls.{written};
 ghost use Rattle.minijinja_code.specs.Hint.{IsHint, data_bytes, all_data_bytes};
 ghost use Rattle.minijinja_code.specs.InstructionLists.{IsAddError, name_of, source_of};
 ghost use Rattle.minijinja_code.specs.Layout.{expr_code, past_expr, target_code, past_target, stmt_code, past_stmt};
 ghost use Rattle.minijinja_code.specs.Layout as layout;
-ghost use Rattle.minijinja_code.specs.Making.{made_of, IsAdded};
+ghost use Rattle.minijinja_code.specs.private.AtGenerator.{generated, here_so_far, counted_bytes, blocks_of, file_of, text_of, refusal_of};
+ghost use Rattle.minijinja_code.specs.private.Making.{made_of, IsAdded};
 ghost use Rattle.minijinja_code.specs.Pieces.{start};
 
 mod arguments;

@@ -10,7 +10,7 @@ use Rattle.minijinja_tree.specs.declared.ast.CompareOp.{CompareOp as Comparison}
 use Rattle.minijinja_code.specs.Code.{Instr, Load, Jump, JumpIfFalseOrPop, Swap, DiscardTop}
 use Rattle.minijinja_code.specs.Pieces.{behind, Piece, nothing}
 use Rattle.minijinja_code.specs.Layout.{Failing, last, expr, comparisons}
-use Rattle.minijinja_code.specs.Making.{Made, here_of, followed}
+use Rattle.minijinja_code.specs.private.Making.{Made, here_of, followed}
 
 -- the instructions with a jump to a target at each of these places
 abbrev pub with_jumps : {C : Type 0} → List ℕ → (target : ℕ) → List (Instr C) → List (Instr C)

@@ -9,7 +9,7 @@ ghost use Rattle.minijinja_code.specs.Code.{Instr, CompareAndPreserve, JumpIfFal
 ghost use Rattle.minijinja_code.specs.private.Comparing.{jumping, AreBelow, ahead, behind_one, Leads, leaving, Closes, Holds, loaded, known};
 ghost use Rattle.minijinja_code.specs.Layout as layout;
 ghost use Rattle.minijinja_code.specs.Layout.{comparison};
-ghost use Rattle.minijinja_code.specs.Making.{made_of, here_of, followed, Adds, Refuses};
+ghost use Rattle.minijinja_code.specs.private.Making.{made_of, here_of, followed, Adds, Refuses};
 ghost use Rattle.minijinja_code.specs.Pieces.{behind};
 
 use super::constants::{comparison_operator, last_comparison};

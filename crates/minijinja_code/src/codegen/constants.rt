@@ -7,8 +7,8 @@ ghost use Rattle.minijinja_tree.specs.Operators.{working};
 ghost use Rattle.minijinja_code.specs.Code.{Load};
 ghost use Rattle.minijinja_code.specs.Instructions.{instr_of, compared_by};
 ghost use Rattle.minijinja_code.specs.Layout.{unary_instr, operation, comparison};
-ghost use Rattle.minijinja_code.specs.Making as spec;
-ghost use Rattle.minijinja_code.specs.Making.{made_of, here_of, jump_of, operator_of, Adds, AddsUnless, Refuses, RefusesUnfolded};
+ghost use Rattle.minijinja_code.specs.private.Making as spec;
+ghost use Rattle.minijinja_code.specs.private.Making.{made_of, here_of, jump_of, operator_of, Adds, AddsUnless, Refuses, RefusesUnfolded};
 ghost use Rattle.minijinja_code.specs.Pieces.{behind, one, ◌▸◌};
 
 use super::emit::Emitter;

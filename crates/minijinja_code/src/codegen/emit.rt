@@ -3,7 +3,7 @@ ghost use Rattle.std.specs.Prelude.{◌≡◌, ◌+◌, ◌≤◌, ◌<◌, map,
 ghost use Rattle.minijinja_syntax.specs.Errors.{IsOutOfMemory};
 ghost use Rattle.minijinja_code.specs.Code.{Load};
 ghost use Rattle.minijinja_code.specs.Instructions.{instr_of};
-ghost use Rattle.minijinja_code.specs.Making.{made_of, here_of, texts_of, followed, hole, Adds, Refuses};
+ghost use Rattle.minijinja_code.specs.private.Making.{made_of, here_of, texts_of, followed, hole, Adds, Refuses};
 ghost use Rattle.minijinja_code.specs.Pieces.{start, behind, one, id_of, noted};
 
 use super::names::Names;

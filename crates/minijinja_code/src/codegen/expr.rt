@@ -8,7 +8,7 @@ ghost use Rattle.minijinja_tree.specs.WellFormed.{IsWhole, IsWholeIfAny, AreWhol
 ghost use Rattle.minijinja_code.specs.Layout as layout;
 ghost use Rattle.minijinja_code.specs.Calls.{is_self};
 ghost use Rattle.minijinja_code.specs.Layout.{operation, captured};
-ghost use Rattle.minijinja_code.specs.Making.{made_of, IsAdded, IsPart, IsExpr, IsExprPart};
+ghost use Rattle.minijinja_code.specs.private.Making.{made_of, IsAdded, IsPart, IsExpr, IsExprPart};
 
 use super::arguments::arguments;
 use super::chain::{add_comparison_before, begin, close, keep_constant, keep_operand};

@@ -18,7 +18,7 @@ const NO_ID: LocalId = 255;
 impl<'s> Names<'s> {
     ghost use Rattle.std.specs.Prelude.{[], IfErr};
     ghost use Rattle.minijinja_syntax.specs.Errors.{IsOutOfMemory};
-    ghost use Rattle.minijinja_code.specs.Making.{texts_of};
+    ghost use Rattle.minijinja_code.specs.private.Making.{texts_of};
     ghost use Rattle.minijinja_code.specs.Pieces.{id_of, noted};
 
     /// No name. It takes no memory yet.

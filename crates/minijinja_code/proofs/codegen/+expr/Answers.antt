@@ -14,12 +14,12 @@ use Rattle.minijinja_code.specs.Code.{Do, Instr}
 use Rattle.minijinja_code.specs.Events.{Slice, GetAttr, GetItem, CallMethod, CallObject}
 use Rattle.minijinja_code.specs.Layout as layout
 use Rattle.minijinja_code.specs.Layout.{operation, unary_instr, expr, last, comparison, argument_count, operand}
-use Rattle.minijinja_code.specs.Making.{made_of, here_of, IsAdded, Refuses, hole, jump_of, operator_of, AddsUnless, RefusesUnfolded, count_of, operands, given, Adds, IsExpr}
+use Rattle.minijinja_code.specs.private.Making.{made_of, here_of, IsAdded, Refuses, hole, jump_of, operator_of, AddsUnless, RefusesUnfolded, count_of, operands, given, Adds, IsExpr}
 use Rattle.minijinja_code.specs.Pieces.{one, ◌▸◌, branches}
 use Rattle.minijinja_code.proofs.Lengths.{one_exact, then_exact, expr_exact, operation_exact, optional_exact, items_exact, branches_exact, paired_exact, each_exact}
 use Rattle.minijinja_code.proofs.Adding.{adds_then, adds_as, refuses_first, refuses_then, refuses_memory, refuses_behind, adds_skipping, cut_back}
 use Rattle.minijinja_code.proofs.Longer.{longer_small, expr_longer, operation_longer, optional_longer, expr_small}
-use Rattle.minijinja_code.specs.Making as Making
+use Rattle.minijinja_code.specs.private.Making as Making
 use Rattle.std.specs.Prelude.{slice_set}
 use Rattle.minijinja_code.proofs.FoldedCode.{strict_operation, lazy_operation}
 use Rattle.minijinja_code.proofs.Results.{unary_result, binary_result}

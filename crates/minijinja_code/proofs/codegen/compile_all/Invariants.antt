@@ -4,7 +4,7 @@ use Rattle.minijinja_tree.specs.Tree.{stmts_of}
 use Rattle.minijinja_tree.specs.WellFormed.{AreInner}
 use Rattle.minijinja_code.specs.Hint.{all_data_bytes}
 use Rattle.minijinja_code.specs.Layout as layout
-use Rattle.minijinja_code.specs.Making.{made_of}
+use Rattle.minijinja_code.specs.private.Making.{made_of}
 use Rattle.minijinja_code.proofs.Generators.{most}
 use Rattle.minijinja_code.proofs.OneByOne.{Going}
 use Rattle.minijinja_code.proofs.codegen.compile_all.Given as goal

@@ -3,7 +3,7 @@ use Rattle.minijinja_tree.specs.Erasure.{stmt_tree}
 use Rattle.minijinja_code.specs.Instructions.{code_of}
 use Rattle.minijinja_code.specs.Layout.{stmt_code}
 use Rattle.minijinja_code.specs.Correct.{Does}
-use Rattle.minijinja_code.specs.Generator.{generated, here_so_far}
+use Rattle.minijinja_code.specs.private.AtGenerator.{generated, here_so_far}
 use Rattle.minijinja_code.specs.Hint.{data_bytes}
 use Rattle.minijinja_compiler.proofs.Parts.{whole_code, whole_does, never_refusal, never_another, hint_of_all}
 use Rattle.minijinja_compiler.proofs.compile.compile.Goals as goal

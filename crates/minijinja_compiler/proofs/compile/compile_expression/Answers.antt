@@ -3,7 +3,7 @@ use Rattle.minijinja_tree.specs.Erasure.{expr_tree}
 use Rattle.minijinja_code.specs.Instructions.{code_of}
 use Rattle.minijinja_code.specs.Layout.{expr_code}
 use Rattle.minijinja_code.specs.Correct.{DoesExpr}
-use Rattle.minijinja_code.specs.Generator.{generated, here_so_far}
+use Rattle.minijinja_code.specs.private.AtGenerator.{generated, here_so_far}
 use Rattle.minijinja_compiler.proofs.Parts.{whole_code, whole_does, never_refusal, never_another}
 use Rattle.minijinja_compiler.proofs.compile.compile_expression.Goals as goal
 

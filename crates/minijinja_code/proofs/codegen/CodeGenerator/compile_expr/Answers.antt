@@ -4,7 +4,7 @@ use Rattle.minijinja_code.specs.Code.{Instr}
 use Rattle.minijinja_code.specs.Correct.{DoesExpr}
 use Rattle.minijinja_code.specs.Laws.{Laws}
 use Rattle.minijinja_code.specs.Layout as layout
-use Rattle.minijinja_code.specs.Making.{made_of, here_of}
+use Rattle.minijinja_code.specs.private.Making.{made_of, here_of}
 use Rattle.minijinja_code.proofs.Generators.{if_none, too_long}
 use Rattle.minijinja_code.proofs.Lengths.{expr_exact}
 use Rattle.minijinja_code.proofs.Whole.{expression_does}

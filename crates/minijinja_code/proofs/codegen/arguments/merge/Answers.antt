@@ -1,6 +1,6 @@
 use Rattle.std.proofs.Common.{sym, arith}
 use Rattle.std.proofs.lemmas.Result.{err_from_is_err_and}
-use Rattle.minijinja_code.specs.Making.{made_of, here_of}
+use Rattle.minijinja_code.specs.private.Making.{made_of, here_of}
 use Rattle.minijinja_code.proofs.Adding.{adds_as}
 use Rattle.minijinja_code.proofs.Batches.{merged_one, merged_adds, merged_refuses, merged_refuses_last, map_count_one, map_count_more}
 use Rattle.minijinja_code.proofs.codegen.arguments.merge.Goals as goal

@@ -1,6 +1,6 @@
 use Rattle.std.proofs.Common.{◌+◌, sym, arith}
 use Rattle.std.proofs.lemmas.Result.{err_from_is_err_and}
-use Rattle.minijinja_code.specs.Making.{made_of, here_of}
+use Rattle.minijinja_code.specs.private.Making.{made_of, here_of}
 use Rattle.minijinja_code.proofs.Batches.{spreading_adds, spreading_skipped, spreading_refuses, spreading_refuses_last, counted_none, counted_more}
 use Rattle.minijinja_code.proofs.codegen.arguments.spread.Goals as goal
 

@@ -1,7 +1,7 @@
 use Rattle.std.proofs.Common.{◌≡◌, ◌+◌, ◌-◌, ◌∷◌, [], drop, get_or, arith, refl, ◌∙◌, subst}
 use Rattle.minijinja_tree.specs.Erasure.{compare_op, comparisons_of}
 use Rattle.minijinja_code.specs.Code.{CompareAndPreserve, JumpIfFalseOrPop}
-use Rattle.minijinja_code.specs.Making.{made_of}
+use Rattle.minijinja_code.specs.private.Making.{made_of}
 use Rattle.minijinja_code.specs.private.Comparing.{ahead, behind_one, Leads}
 use Rattle.minijinja_code.proofs.ChainFolds.{leads_before, followed_twice}
 use Rattle.minijinja_code.proofs.codegen.chain.add_comparison_before.Goals as goal

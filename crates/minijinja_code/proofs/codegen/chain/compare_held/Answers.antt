@@ -1,6 +1,6 @@
 use Rattle.std.proofs.Common.{Some, subst}
 use Rattle.minijinja_tree.specs.Erasure.{compare_op}
-use Rattle.minijinja_code.specs.Making.{made_of}
+use Rattle.minijinja_code.specs.private.Making.{made_of}
 use Rattle.minijinja_code.specs.private.Comparing.{Holds}
 use Rattle.minijinja_code.proofs.ChainFolds.{known_held, unknown_held, has_constant}
 use Rattle.minijinja_code.proofs.codegen.chain.compare_held.Goals as goal

@@ -1,5 +1,5 @@
 use Rattle.std.proofs.Common.{◌≡◌, length, drop}
-use Rattle.minijinja_code.specs.Making.{made_of}
+use Rattle.minijinja_code.specs.private.Making.{made_of}
 use Rattle.minijinja_code.specs.private.Comparing.{jumping}
 use Rattle.minijinja_code.proofs.codegen.chain.fill_jumps.Given as goal
 
