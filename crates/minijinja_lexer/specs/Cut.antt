@@ -16,9 +16,6 @@ use Rattle.minijinja_lexer.specs.Faults.{Fault}
 use Rattle.minijinja_lexer.specs.Tags.{Tag, Variable, Block, Line}
 use Rattle.minijinja_lexer.specs.Turns.{Lexeme, Close, Closed, Broken, Refused, Turn, Token, End}
 
--- How a tag ends: with its end and what is skipped behind that, by the end of the text, or where a token is refused.
--- what stands at a place in a tag, after whitespace: a token or an end
-
 -- what begins the tag
 abbrev pub marker_of : Tag → StartMarker
 marker_of Variable = marker.Variable

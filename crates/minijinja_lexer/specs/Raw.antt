@@ -7,7 +7,6 @@ use Rattle.minijinja_syntax.specs.Markers.{stands}
 use Rattle.minijinja_syntax.specs.declared.syntax.StartMarker.TheVariants.{Block}
 use Rattle.minijinja_lexer.specs.Whitespace.{control_at, control_len, past_space, tail_len, trimmed_len, line_kept_len}
 use Rattle.minijinja_lexer.specs.Controls.{Control, Absent, Remove, Preserve}
--- The text from `begin` to `end` stands between the tags, what is kept of it from `start` to `stop`; `after` is behind the block.
 use Rattle.minijinja_lexer.specs.RawBlocks.{RawBlock}
 
 -- The control at the end of a tag of one word, and where it ends. It is read from behind the tag's marker on: ASCII
