@@ -48,11 +48,11 @@ module _ {C : Type 0} where
   pub adds_as : {a b : Made C} {p q : Piece C} → p ≡ q → Adds a b p → Adds a b q
   adds_as {a} {b} e s = subst (λ r. Adds a b r) e s
 
-  -- behind a hole
+  -- after a hole
   pub here_behind : (a : Made C) {b : Made C} (i : Instr C) → b ≡ followed a (i ∷ []) → here_of b ≡ behind 1 (here_of a)
   here_behind a i e = ap here_of e ∙ ap (λ n. record { place = n; filters = a.filters; tests = a.tests }) (length-append a.code (i ∷ []))
 
-  -- an instruction in the place of a hole, and what was added behind it
+  -- an instruction in the place of a hole, and what was added after it
   pub adds_filled : {a b c d : Made C} {q : Piece C} (i : Instr C) (place : ℕ) → b ≡ followed a (hole ∷ []) → Adds b c q → place ≡ length a.code → length c.code < 2 ^ 32 → d ≡ record c { code = slice_set c.code place i } → Adds a d (one i ▸ q)
   adds_filled {a} {b} {c} {d} {q} i place eb s ep small ed =
       let h : Here = here_of a in
@@ -69,7 +69,7 @@ module _ {C : Type 0} where
         fits = λ longer. omega arith;
       }
 
-  -- a jump past what was added behind it
+  -- a jump past what was added after it
   pub adds_skipping : {a b c d : Made C} {q : Piece C} (jump : ℕ → Instr C) (place : ℕ) → b ≡ followed a (hole ∷ []) → Adds b c q → place ≡ length a.code → length c.code < 2 ^ 32 → d ≡ record c { code = slice_set c.code place (jump (length c.code)) } → Adds a d (skipping jump q)
   adds_skipping {a} {b} {c} {d} {q} jump place eb s ep small ed =
       let h : Here = here_of a in
@@ -96,7 +96,7 @@ module _ {C : Type 0} where
   pub one_small : {a b : Made C} {i : Instr C} → Adds a b (one i) → length b.code < 2 ^ 32
   one_small {a} {b} {i} s = s.fits (omega (arith, adds_length s))
 
-  -- an instruction that was kept, and what was added behind it
+  -- an instruction that was kept, and what was added after it
   pub adds_kept : {a b c : Made C} {q : Piece C} (i : Instr C) → b ≡ followed a (i ∷ []) → Adds b c q → length c.code < 2 ^ 32 → Adds a c (one i ▸ q)
   adds_kept {a} {b} {c} {q} i eb s small =
       let h : Here = here_of a in

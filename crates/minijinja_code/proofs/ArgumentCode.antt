@@ -31,7 +31,7 @@ module _ {C : Type 0} where
   pub leads_end : {a now : Made C} {whole : Piece C} → Leads a now nothing whole → Adds a now whole
   leads_end {a} {now} l = l.adds now (adds_nothing now)
 
-  -- a piece behind which nothing stands
+  -- a piece after which nothing stands
   adds_last : {a b : Made C} (p : Piece C) → Adds a b (p ▸ nothing) → Adds a b p
   adds_last {a} {b} p s = record { code = s.code ∙ ap (λ l. a.code ++ l) (append_nil (p.code (here_of a))); past = s.past; fits = s.fits }
 
@@ -41,11 +41,11 @@ module _ {C : Type 0} where
       let k : Here = p.past h in
       record { code = s.code ∙ ap (λ l. a.code ++ l) (append_assoc (p.code h) (q.code k) (r.code (q.past k))); past = s.past; fits = s.fits }
 
-  -- one piece, and what stands behind it
+  -- one piece, and what stands after it
   adds_one : {a b c : Made C} (p r : Piece C) → Adds a b (p ▸ nothing) → Adds b c r → Adds a c (p ▸ r)
   adds_one p r s t = adds_then (adds_last p s) t
 
-  -- two pieces, and what stands behind them
+  -- two pieces, and what stands after them
   adds_two : {a b c : Made C} (p q r : Piece C) → Adds a b (p ▸ q ▸ nothing) → Adds b c r → Adds a c (p ▸ q ▸ r)
   adds_two {a} {b} {c} p q r s t =
       let h : Here = here_of a in
@@ -99,7 +99,7 @@ module _ {V K C : Type 0} (v : V → C) where
   args_length [] = refl
   args_length (x ∷ xs) = one_argument x (args_of v xs) ∙ ap suc (args_length xs)
 
-  -- the argument at a place, and those behind it
+  -- the argument at a place, and those after it
   pub args_next : (xs : List (CallArg V K)) (i : ℕ) (x : CallArg V K) → i < length xs → x ≡ get_or xs i x → args_of v (drop i xs) ≡ arg_tree v x (args_of v (drop (i + 1) xs))
   args_next xs i x within h = at_drop_more (args_of v) xs i x within ∙ ap (λ y. arg_tree v y (args_of v (drop (i + 1) xs))) (sym h)
 
@@ -125,7 +125,7 @@ module _ {V K C : Type 0} (v : V → C) where
         }
 
     module _ {a now : Made C} {i : ℕ} {k : Count} (t : Taken piece count xs front a now i k) where
-      -- behind the last one
+      -- after the last one
       pub taken_all : length xs ≤ i → Adds a now (piece (args_of v xs) front) × (k ≡ count (args_of v xs) (record { batches = 0; waiting = front }))
       taken_all past =
           let none = args_end xs i past in (

@@ -200,7 +200,7 @@ module _ {C F : Type 0} {f : Functions C F} {code : List (Instr C)} {end : ℕ} 
       sim_same (λ w. ap (λ d. next d (λ k. keyword_map f k.batches k.waiting)) (sym (keywords_fold f args (c ∷ cs) same w)))
       (sim_plain (f.kwargs (c ∷ cs) ∷ []) (λ q ls w. refl) one)
 
-  -- All the arguments of a call, behind the operands that stand before them: they are ready.
+  -- All the arguments of a call, after the operands that stand before them: they are ready.
   pub arguments_sim : (args : Args C) (before : List C) (n : ℕ) (ops : List C) (p q : Piece C) → Exact p → Exact q → Simulates f code end p (pushed before ops) (Matches (count_positional args (record { batches = 0; waiting = n }))) (λ t. laid t ops) (positional_meaning f args (record { batches = []; waiting = before })) → ((ops : List C) → Simulates f code end q ops (Matches (count_keyword args none_counted)) (λ k. laid_pairs k ops) (keyword_meaning f args nothing_yet)) → Simulates f code end (arguments f args n p q) (pushed before ops) (IsReady (count_all args n).batches (count_all args n).waiting) (λ us. ready f (count_all args n).batches us ops) (arguments_meaning f (positional_meaning f args (record { batches = []; waiting = before })) (keyword_meaning f args nothing_yet))
   arguments_sim args before n ops p q e e' s s' =
       let c : Count = count_positional args (record { batches = 0; waiting = n }) in

@@ -46,7 +46,7 @@ module _ {V K C : Type 0} (c : V → C) where
   pub whole_parts : (q : Compare V K) → IsWhole (compare_tree c q) → IsWhole (compare (expr_tree c (out-Compare V K q).expr) (comparisons_of c (out-Compare V K q).ops.items))
   whole_parts q h = subst IsWhole (compare_is c q) h
 
-  -- the comparisons behind one
+  -- the comparisons after one
   pub more_compared : (xs : List (Comparison V K)) (i : ℕ) → i < length xs → AreCompared (comparisons_of c (drop i xs)) → AreCompared (comparisons_of c (drop (i + 1) xs))
   more_compared [] i within h = absurd (omega (arith, within))
   more_compared (y ∷ xs) i within h = (subst AreCompared (at_drop_more (λ ys. comparisons_of c ys) (y ∷ xs) i y within) h).1
@@ -97,7 +97,7 @@ module _ {V K C F : Type 0} (f : Functions C F) (c : V → C) where
       let most = failing_grows (comparisons_exact f (comparisons_of c xs) (compare_op x.op)) ((expr f (expr_tree c x.expr)).past h) in
       omega (arith, operand, most)
 
-  -- behind all comparisons but the last
+  -- after all comparisons but the last
   last_ahead : (xs : List (Comparison V K)) (x : Comparison V K) → 0 < length xs → ahead f c xs (length xs) ≡ last (comparison (compare_op (get_or xs (length xs - 1) x).op))
   last_ahead xs x some =
       let j : ℕ = length xs - 1 in

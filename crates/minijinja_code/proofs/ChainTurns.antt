@@ -25,7 +25,7 @@ module _ {C : Type 0} where
   followed_after a m {n} xs ys em en =
       en ∙ ap (λ (k : Made C). followed k ys) em ∙ ap (λ l. record { code = l; filters = a.filters; tests = a.tests }) (append_assoc a.code xs ys)
 
-  -- what is added stands behind
+  -- what is added stands after
   part_code : {V : Type 0} (a b : Made C) (p : Piece C) (r : Option V) → AddsUnless r a b p → (more : List (Instr C)) × (b.code ≡ a.code ++ more)
   part_code a b p None s = (p.code (here_of a), s.code)
   part_code a b p (Some v) s = ([], ap (λ (m : Made C). m.code) s ∙ sym (append_nil a.code))
@@ -60,7 +60,7 @@ back_first c a b n p None s k v same = absurd (cc)
 back_first c a b n p (Some w) s k v same = (Load (c w) ∷ [], k ∙ ap (λ m. followed m (Load (c w) ∷ [])) s)
 
 module _ {V K C F : Type 0} (f : Functions C F) (c : V → C) where
-  -- behind the first operand
+  -- after the first operand
   pub underway_first : (a b n : Made C) (e : Expr C) (xs : List (Comparison V K)) (r : Option V) (held : Option ℕ) → option_map c r ≡ fold f e → AddsUnless r a b (expr f e) → n ≡ loaded b (option_map c r) → Holds n.code held (option_map c r) → Underway f c a e xs 0 n [] held
   unfolding fold if_some
   underway_first a b n e xs r held h s k holds = record {

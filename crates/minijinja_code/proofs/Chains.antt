@@ -75,7 +75,7 @@ module _ {C F : Type 0} {f : Functions C F} (laws : Laws f) {code : List (Instr 
         then_jumps f code end (omega arith) (λ v w'. step_comes f code end (v ∷ ops) ls w' (At to (v ∷ ops) ls w') to (omega arith) (first code leave) refl (omega arith)) (s.gives h ls w few (omega arith) stand);
   }
 
-  -- behind a comparison: where it holds the code goes on, else the kept operand is dropped
+  -- after a comparison: where it holds the code goes on, else the kept operand is dropped
   holding : (holds : Bool) (b : C) (at q : ℕ) (ops : List C) (ls : List Bool) (w : World C) (m : Act C F C) → AreFew w.answers → at + 1 ≤ q → q + 1 + 1 + 1 ≤ end → slice_get code at ≡ Some (JumpIfFalseOrPop (q + 1)) → Stands code q (Jump (q + 1 + 1 + 1) ∷ Swap ∷ DiscardTop ∷ []) → Gives f code end (At (at + 1) (b ∷ ops) ls w) (q + 1 + 1 + 1) ls Any (λ v. v ∷ ops) (m w) → Gives f code end (At at (f.of_bool holds ∷ b ∷ ops) ls w) (q + 1 + 1 + 1) ls Any (λ v. v ∷ ops) (on_holding f m holds w)
   unfolding choose
   holding true b at q ops ls w m few le le' jump leave g =

@@ -173,7 +173,7 @@ module _ {C F : Type 0} (f : Functions C F) where
         let same : (expr f e).past (here_of old) ≡ behind 1 (here_of mid) = ap (λ (p : Piece C). p.past (here_of old)) (folded_code f e (c v) (given_folds x g is)) ∙ ap (λ m. behind 1 (here_of m)) (sym (given_some x g is)) in
         subst (λ k. Refuses d k) (sym same) n
 
-    -- behind a left side that folded, and whose place is held
+    -- after a left side that folded, and whose place is held
     pub right_refused : (a : Expr C) (q : Piece C) {d : Error} {old mid mid2 : Made C} {v : X} (x : Option X) → Gives c (fold f a) old mid (expr f a) x → x ≡ Some v → mid2 ≡ followed mid (hole ∷ []) → Refuses d (q.past (here_of mid2)) → Refuses d (q.past ((expr f a).past (here_of old)))
     right_refused a q {d} {old} {mid} {mid2} {v} x g is kept n =
         let here : here_of mid2 ≡ (expr f a).past (here_of old) =
@@ -187,7 +187,7 @@ module _ {C F : Type 0} (f : Functions C F) where
         let u : Adds old new (one (Load (c v)) ▸ q) = subst (λ m. Adds m new (one (Load (c v)) ▸ q)) (given_some x g is) t in
         adds_as (ap (λ (p : Piece C). p ▸ q) (sym (folded_code f a (c v) (given_folds x g is)))) u
 
-    -- a right side that folded, with its operator behind it
+    -- a right side that folded, with its operator after it
     pub right_set : (k : Working) (b : Expr C) {mid mid2 new : Made C} {v : X} (x : Option X) → Gives c (fold f b) mid mid2 (operation k (expr f b)) x → x ≡ Some v → Adds mid2 new (operation k (one (Load (c v)))) → Adds mid new (operation k (expr f b))
     right_set k b {mid} {mid2} {new} {v} x g is s =
         adds_as (ap (operation k) (sym (folded_code f b (c v) (given_folds x g is)))) (subst (λ m. Adds m new (operation k (one (Load (c v))))) (given_some x g is) s)

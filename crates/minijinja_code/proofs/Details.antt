@@ -45,11 +45,11 @@ adds_filter {C} {m} {m1} {m2} {x} {n} {id} ei e1 s = record {
   fits = λ longer. s.fits (subst (λ (k : Made C). length k.code < length m2.code) (sym e1) longer);
 }
 
--- what an instruction behind noted names refuses
+-- what an instruction after noted names refuses
 pub refuses_noted : {C : Type 0} {e : Error} (m : Made C) {m1 : Made C} (h : Here) → m1.code ≡ m.code → suc (length m.code) ≡ h.place → Refuses e (behind 1 (here_of m1)) → Refuses e h
 refuses_noted m {m1} h same at r = refuses_later (omega (arith, ap length same)) r
 
--- operators behind a right side
+-- operators after a right side
 pub op_refused : {C : Type 0} {e : Error} {r : Option C} (k : Working) (p : Piece C) (h : Here) → is_lazy k ≡ false → RefusesUnfolded e r (p.past h) → RefusesUnfolded e r ((operation k p).past h)
 op_refused (Makes o) p h is n = record { refuses = refuses_later (omega arith) n.refuses; unfolded = n.unfolded }
 op_refused Divides p h is n = record { refuses = refuses_later (omega arith) n.refuses; unfolded = n.unfolded }

@@ -146,7 +146,7 @@ module _ {C F : Type 0} (f : Functions C F) where
   pub folded_means : (e : Expr C) (c : C) → fold f e ≡ Some c → (w : World C) → expr f e w ≡ Gave w c
   folded_means e c same = subst (λ r. Agrees r (expr f e)) same (expr_folds e).agrees
 
-  -- the keyword arguments that were taken, behind others
+  -- the keyword arguments that were taken, after others
   abbrev taken_behind : List (C × C) → Taken C (C × C) → Taken C (C × C)
   taken_behind cs t = record t { waiting = t.waiting ++ cs }
 

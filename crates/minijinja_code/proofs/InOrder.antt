@@ -18,7 +18,7 @@ count_length c [] = refl
 count_length c (x ∷ xs) = ap suc (count_length c xs)
 
 module _ {V K C : Type 0} (c : V → C) where
-  -- an expression in its place is whole, and so are those behind it
+  -- an expression in its place is whole, and so are those after it
   pub whole_here : (xs : List (Expr V K)) (i : ℕ) (x : Expr V K) → i < length xs → x ≡ get_or xs i x → AreWhole (exprs_of c (drop i xs)) → IsWhole (expr_tree c x)
   whole_here xs i x within at w =
       let more = subst AreWhole (at_drop_more (λ ys. exprs_of c ys) xs i x within) w in

@@ -1,4 +1,4 @@
--- The place behind a piece is where its instructions end.
+-- The place after a piece is where its instructions end.
 use Rattle.std.proofs.Common.{◌≡◌, ℕ, zero, suc, ◌+◌, ◌≤◌, List, [], ◌∷◌, ◌++◌, length, Option, Some, None, arith, length-append}
 use Rattle.std.specs.Prelude.{Bool, true, false, if◌then◌else◌}
 use Rattle.minijinja_syntax.specs.Texts.{Text}
@@ -12,7 +12,7 @@ use Rattle.minijinja_code.specs.Code.{Instr, JumpIfFalseOrPop, JumpIfTrueOrPop, 
 use Rattle.minijinja_code.specs.Pieces.{Here, behind, Piece, nothing, one, ◌▸◌, skipping, branches}
 use Rattle.minijinja_code.specs.Layout.{folded, operation, comparison, Failing, last, and_then, chained, paired, batch, merged, spreading, arguments, Count, count_keyword, apply_filter, perform_test, expr, optional, operand, items, each, chain, comparisons, positional, keyword, target, write, stmt, stmts}
 
--- what stands behind a piece begins where its instructions end
+-- what stands after a piece begins where its instructions end
 pub record Exact {C : Type 0} (p : Piece C) : Type 0 where
   pub ends : (h : Here) → h.place + length (p.code h) ≡ (p.past h).place
 

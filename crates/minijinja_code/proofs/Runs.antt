@@ -193,7 +193,7 @@ module _ {C F : Type 0} (f : Functions C F) (code : List (Instr C)) (end : ℕ) 
   pub here : {X : Type 0} {q : ℕ} {ls : List Bool} {P : X → Type 0} {put : X → List C} (x : X) (w : World C) → P x → AreFew w.answers → Gives (At q (put x) ls w) q ls P put (Gave w x)
   here {q = q} x w p few = record { comes = stays (At q _ _ w) q (omega arith); holds = (p, few) }
 
-  -- a jump forward behind what was given
+  -- a jump forward after what was given
   pub then_jumps : {X : Type 0} {s : State C F} {q q' : ℕ} {ls : List Bool} {P : X → Type 0} {put : X → List C} {m : Did C F X} → q ≤ q' → ((x : X) (w : World C) → Comes (At q (put x) ls w) (At q' (put x) ls w) q') → Gives s q ls P put m → Gives s q' ls P put m
   then_jumps {m = Gave w x} le jump g = record { comes = comes_then (omega arith) g.comes (jump x w); holds = g.holds }
   then_jumps {m = Ended w e} le jump g = record { comes = raise le g.comes; holds = tt }
@@ -252,6 +252,6 @@ has_all (i ∷ is) pre =
     let rest' = subst (λ l. HasAt l (length (pre ++ i ∷ [])) is) (append_assoc pre (i ∷ []) is) rest in
     (here, subst (λ m. HasAt (pre ++ i ∷ is) m is) n rest')
 
--- what is added to a list stands behind it
+-- what is added to a list stands after it
 pub stands_behind : {C : Type 0} (pre is : List (Instr C)) → Stands (pre ++ is) (length pre) is
 stands_behind pre is = record { has = has_all is pre }

@@ -58,7 +58,7 @@ module _ {C F : Type 0} (f : Functions C F) (laws : Laws f) (code : List (Instr 
   test_sim : (x : Text) (b n : ℕ) (vs ops : List C) → IsReady b n vs → Simulates f code end (perform_test x (counted b n)) (ready f b vs ops) Any (λ v. v ∷ ops) (get PerformTest x vs)
   test_sim x b n vs ops is = record { gives = λ h ls w few le stand. gets_one f code end PerformTest x vs (ready f b vs ops) ops ls w (omega arith) (first code stand) (ap (λ a. asked f PerformTest x h.place a ls w) (ready_pops f laws b n vs ops is)) refl few }
 
-  -- the code of positional arguments takes them, behind what was taken
+  -- the code of positional arguments takes them, after what was taken
   abbrev Positional : Args C → Type 0
   Positional args = (t : Taken C C) (c : Count) (ops : List C) → Matches c t → Simulates f code end (positional f args c.waiting) (laid t ops) (Matches (count_positional args c)) (λ u. laid u ops) (positional_meaning f args t)
 
@@ -95,7 +95,7 @@ module _ {C F : Type 0} (f : Functions C F) (laws : Laws f) (code : List (Instr 
       sim_before (batch_exact BuildKwargs c.waiting) (then_exact e e') (map_batch_sim t.waiting c.waiting (pushed t.batches ops) is.waiting)
       (sim_then e e' (s _) (λ v _. sim_from (laid_map f.kwargs v t ops) (k (with_batch f.kwargs v t) (matches_batch f.kwargs v is))))
 
-  -- Behind an operand that is there.
+  -- After an operand that is there.
   on_operand : (args : Args C) (ops : List C) {p q : Piece C} {m : Act C F C} {n : List C → Act C F C} → Exact p → Exact q → GivesValue p m → Positional args → Keyword args → ((vs : List C) → IsReady (count_all args 1).batches (count_all args 1).waiting vs → Simulates f code end q (ready f (count_all args 1).batches vs ops) Any (λ v. v ∷ ops) (n vs)) → Simulates f code end (p ▸ arguments f args 1 (positional f args 1) (keyword f args 0) ▸ q) ops Any (λ v. v ∷ ops) (λ w. next (m w) (λ v w. next (arguments_meaning f (positional_meaning f args (with_one v nothing_yet)) (keyword_meaning f args nothing_yet) w) n))
   on_operand args ops e e' s s' s'' k =
       sim_then e (then_exact (arguments_exact f args 1 (positional_exact f args 1) (keyword_exact f args 0)) e') (s ops) λ v _.

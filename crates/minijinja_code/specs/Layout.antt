@@ -21,7 +21,7 @@ abbrev pub unary_instr : {C : Type 0} → UnaryOp → Instr C
 unary_instr logical_not = Not
 unary_instr negation = Neg
 
--- an operator of two sides, behind its left one
+-- an operator of two sides, after its left one
 abbrev pub operation : {C : Type 0} → Working → Piece C → Piece C
 operation (Makes o) right = right ▸ one (Operate o)
 operation Divides right = right ▸ one (Do Div [] 2)
@@ -39,7 +39,7 @@ comparison gte = one (Operate Gte)
 comparison is_in = one (Operate In)
 comparison not_in = one (Operate In) ▸ one Not
 
--- comparisons behind their two first operands, which lead to a place where one is false
+-- comparisons after their two first operands, which lead to a place where one is false
 pub record Failing (C : Type 0) : Type 0 where
   pub past : Here → Here
   pub code : (failed : ℕ) → Here → List (Instr C)
@@ -95,11 +95,11 @@ batch_count (suc n) = 1
 abbrev pub count_one : Count → Count
 count_one c = record c { waiting = suc c.waiting }
 
--- those that wait are a batch, where there are any, and one more batch stands behind it
+-- those that wait are a batch, where there are any, and one more batch stands after it
 abbrev pub count_batch : Count → Count
 count_batch c = record { batches = suc (c.batches + batch_count c.waiting); waiting = 0 }
 
--- what the positional arguments leave, behind what was counted
+-- what the positional arguments leave, after what was counted
 abbrev pub count_positional : {C : Type 0} → Args C → Count → Count
 count_positional no_args c = c
 count_positional (pos e args) c = count_positional args (count_one c)
@@ -157,14 +157,14 @@ count_all args front =
     let k = count_keyword args (record { batches = 0; waiting = 0 }) in
     record { batches = c.batches; waiting = c.waiting + map_count k.batches k.waiting }
 
--- the arguments of a call behind so many operands, of the pieces of the positional ones and of those with a keyword
+-- the arguments of a call after so many operands, of the pieces of the positional ones and of those with a keyword
 abbrev pub arguments : {C F : Type 0} → Functions C F → Args C → (front : ℕ) → Piece C → Piece C → Piece C
 arguments f args front positional_ones keyword_ones =
     let k = count_keyword args (record { batches = 0; waiting = 0 }) in
     let c = count_all args front in
     positional_ones ▸ folded (fold_keywords f (constant_keywords f args)) (keyword_ones ▸ merged k.batches k.waiting) ▸ spreading c.batches c.waiting
 
--- how many arguments a call has behind so many operands, or none where their count is on top of them
+-- how many arguments a call has after so many operands, or none where their count is on top of them
 abbrev pub argument_count : {C : Type 0} → Args C → (front : ℕ) → Option ℕ
 argument_count args front = let c = count_all args front in counted c.batches c.waiting
 
@@ -239,12 +239,12 @@ abbrev mutual
   each f no_more = []
   each f (more e es) = expr f e ∷ each f es
 
-  -- comparisons behind the first operand
+  -- comparisons after the first operand
   pub chain : {C F : Type 0} → Functions C F → Comparisons C → Piece C
   chain f compared = nothing
   chain f (against o e cs) = chained (expr f e) (comparisons f o cs)
 
-  -- a comparison whose operands are there, and those behind it
+  -- a comparison whose operands are there, and those after it
   pub comparisons : {C F : Type 0} → Functions C F → CompareOp → Comparisons C → Failing C
   comparisons f o compared = last (comparison o)
   comparisons f o (against o' e cs) = and_then o (expr f e) (comparisons f o' cs)
@@ -290,7 +290,7 @@ abbrev mutual
   stmts f done = nothing
   stmts f (also s rest) = stmt f s ▸ stmts f rest
 
--- what stands behind the code of an expression
+-- what stands after the code of an expression
 abbrev pub past_expr : {C F : Type 0} → Functions C F → Expr C → Here → Here
 past_expr f e = (expr f e).past
 
@@ -298,7 +298,7 @@ past_expr f e = (expr f e).past
 abbrev pub expr_code : {C F : Type 0} → Functions C F → Expr C → Here → List (Instr C)
 expr_code f e = (expr f e).code
 
--- what stands behind the code of a statement
+-- what stands after the code of a statement
 abbrev pub past_stmt : {C F : Type 0} → Functions C F → Stmt C → Here → Here
 past_stmt f s = (stmt f s).past
 
@@ -306,7 +306,7 @@ past_stmt f s = (stmt f s).past
 abbrev pub stmt_code : {C F : Type 0} → Functions C F → Stmt C → Here → List (Instr C)
 stmt_code f s = (stmt f s).code
 
--- what stands behind the code of an assignment to a target
+-- what stands after the code of an assignment to a target
 abbrev pub past_target : {C : Type 0} → Expr C → Here → Here
 past_target e = (target e).past
 

@@ -52,7 +52,7 @@ abbrev pub completed : {C X : Type 0} → (List X → C) → List X → List C
 completed make [] = []
 completed make (x ∷ xs) = make (x ∷ xs) ∷ []
 
--- a value that is a batch by itself, behind those that wait
+-- a value that is a batch by itself, after those that wait
 abbrev pub with_batch : {C X : Type 0} → (List X → C) → C → Taken C X → Taken C X
 with_batch make v t = record { batches = t.batches ++ completed make t.waiting ++ v ∷ []; waiting = [] }
 
@@ -164,7 +164,7 @@ abbrev mutual
   each f no_more = []
   each f (more e es) = expr f e ∷ each f es
 
-  -- Comparisons of a value, each with the operand behind it: they stop at the first that is false.
+  -- Comparisons of a value, each with the operand after it: they stop at the first that is false.
   pub chain : {C F : Type 0} → Functions C F → C → Comparisons C → Act C F C
   chain f v compared = give (f.of_bool true)
   chain f v (against o e cs) = do
@@ -172,7 +172,7 @@ abbrev mutual
     holds ← operated (compares f o v u)
     choose holds (chain f u cs) (give (f.of_bool false))
 
-  -- the positional arguments and the `*` ones, behind what was taken
+  -- the positional arguments and the `*` ones, after what was taken
   pub positional : {C F : Type 0} → Functions C F → Args C → Taken C C → Act C F (Taken C C)
   positional f no_args t = give t
   positional f (pos e args) t = do
@@ -184,7 +184,7 @@ abbrev mutual
   positional f (kwarg x e args) t = positional f args t
   positional f (kwarg_splat e args) t = positional f args t
 
-  -- the keyword arguments and the `**` ones, behind what was taken
+  -- the keyword arguments and the `**` ones, after what was taken
   pub keyword : {C F : Type 0} → Functions C F → Args C → Taken C (C × C) → Act C F (Taken C (C × C))
   keyword f no_args t = give t
   keyword f (pos e args) t = keyword f args t

@@ -1,4 +1,4 @@
--- Pieces of code: what stands behind a piece that begins here, and its instructions.
+-- Pieces of code: what stands after a piece that begins here, and its instructions.
 use Rattle.std.specs.Prelude.{ℕ, suc, ◌+◌, List, [], ◌∷◌, ◌++◌, if◌then◌else◌, bytes_eq, nat_lt}
 use Rattle.minijinja_syntax.specs.Texts.{Text}
 use Rattle.minijinja_code.specs.Code.{Instr, Jump, JumpIfFalse}
@@ -52,7 +52,7 @@ branches p q = record {
 abbrev pub most_ids : ℕ
 most_ids = 50
 
--- the id of a name, behind n others: its place among the names, the next one for a new name, and 255 where the ids are all taken
+-- the id of a name, after n others: its place among the names, the next one for a new name, and 255 where the ids are all taken
 abbrev pub id_behind : ℕ → Text → List Text → ℕ
 id_behind n x [] = if nat_lt n most_ids then n else 255
 id_behind n x (y ∷ names) = if bytes_eq x y then n else id_behind (suc n) x names
@@ -61,7 +61,7 @@ id_behind n x (y ∷ names) = if bytes_eq x y then n else id_behind (suc n) x na
 abbrev pub id_of : Text → List Text → ℕ
 id_of = id_behind 0
 
--- the names that have an id, once this one is used behind n others
+-- the names that have an id, once this one is used after n others
 abbrev pub noted_behind : ℕ → Text → List Text → List Text
 noted_behind n x [] = if nat_lt n most_ids then x ∷ [] else []
 noted_behind n x (y ∷ names) = if bytes_eq x y then y ∷ names else y ∷ noted_behind (suc n) x names

@@ -29,14 +29,14 @@ use crate::codegen::expr::expression;
 use crate::codegen::output::{Output, output_of};
 use crate::instructions::{Instruction, Instructions, listed};
 use minijinja_base::error::Error;
-use minijinja_base::value::TemplateValue;
+use minijinja_base::value::{TemplateValue, Value};
 use minijinja_tree::ast::{Expr, Stmt};
 use std::alloc::Global;
 use std::collections::BTreeMap;
 
 /// Makes the instructions of trees. After a refusal it answers that refusal from then on.
 #[derive(Drop)]
-pub struct CodeGenerator<'s, V: TemplateValue> {
+pub struct CodeGenerator<'s, V: TemplateValue = Value> {
     code: Emitter<'s, V>,
     file: &'s str,
     source: &'s str,
@@ -70,19 +70,23 @@ impl<'s, V: TemplateValue> CodeGenerator<'s, V> {
     /// comes again from then on.
     pub fn compile_stmt(&mut self, stmt: &Stmt<'s, V>) -> Result<(), Error<'s>>
         requires { IsWellFormed (stmt_tree V.contents stmt.now) }
-        ensures added { OnOk result (generated V.contents self.new
-            ≡ generated V.contents self.old ++ stmt_code V.functions (stmt_tree V.contents stmt.now) (here_so_far V.contents self.old)) }
-        ensures past { OnOk result (here_so_far V.contents self.new ≡ past_stmt V.functions (stmt_tree V.contents stmt.now) (here_so_far V.contents self.old)) }
+        ensures added { OnOk result (generated V.contents self.new ≡ generated V.contents self.old
+            ++ stmt_code V.functions (stmt_tree V.contents stmt.now)
+            (here_so_far V.contents self.old)) }
+        ensures past { OnOk result (here_so_far V.contents self.new ≡ past_stmt V.functions
+            (stmt_tree V.contents stmt.now) (here_so_far V.contents self.old)) }
         // Entered where they begin, they do what the statement means.
         ensures does { OnOk result (Does V.functions (generated V.contents self.new)
-            (length (generated V.contents self.old)) (length (generated V.contents self.new)) (stmt_tree V.contents stmt.now)) }
+            (length (generated V.contents self.old)) (length (generated V.contents self.new))
+            (stmt_tree V.contents stmt.now)) }
         ensures counted { OnOk result (counted_bytes self.new
             ≡ min usize.MAX (counted_bytes self.old + data_bytes (stmt_tree V.contents stmt.now))) }
 
         // Refused are memory, and a list that would have 2 ^ 32 instructions; a refusal comes again from then on.
         ensures causes { IfNone (refusal_of self.old) (IfErr result IsAddError) }
-        ensures too_many { IfNone (refusal_of self.old) (IfErr result (λ e. OnlyWhereTooLong e
-            (generated V.contents self.old ++ stmt_code V.functions (stmt_tree V.contents stmt.now) (here_so_far V.contents self.old)))) }
+        ensures too_many { IfNone (refusal_of self.old) (IfErr result
+            (λ e. OnlyWhereTooLong e (generated V.contents self.old ++ stmt_code V.functions
+            (stmt_tree V.contents stmt.now) (here_so_far V.contents self.old)))) }
         ensures kept { IfErr result (λ e. refusal_of self.new ≡ Some e) }
         ensures again { IfSome (refusal_of self.old) (λ e. result ≡ Err e) }
         ensures ready { OnOk result (refusal_of self.new ≡ None) }
@@ -109,15 +113,19 @@ impl<'s, V: TemplateValue> CodeGenerator<'s, V> {
     /// Adds the instructions of an expression, which leave its value on top. The refusals are those of `compile_stmt`.
     pub fn compile_expr(&mut self, expr: &Expr<'s, V>) -> Result<(), Error<'s>>
         requires { IsWhole (expr_tree V.contents expr.now) }
-        ensures added { OnOk result (generated V.contents self.new
-            ≡ generated V.contents self.old ++ expr_code V.functions (expr_tree V.contents expr.now) (here_so_far V.contents self.old)) }
-        ensures past { OnOk result (here_so_far V.contents self.new ≡ past_expr V.functions (expr_tree V.contents expr.now) (here_so_far V.contents self.old)) }
+        ensures added { OnOk result (generated V.contents self.new ≡ generated V.contents self.old
+            ++ expr_code V.functions (expr_tree V.contents expr.now)
+            (here_so_far V.contents self.old)) }
+        ensures past { OnOk result (here_so_far V.contents self.new ≡ past_expr V.functions
+            (expr_tree V.contents expr.now) (here_so_far V.contents self.old)) }
         // Entered where they begin, they leave the value that the expression means.
         ensures does { OnOk result (DoesExpr V.functions (generated V.contents self.new)
-            (length (generated V.contents self.old)) (length (generated V.contents self.new)) (expr_tree V.contents expr.now)) }
+            (length (generated V.contents self.old)) (length (generated V.contents self.new))
+            (expr_tree V.contents expr.now)) }
         ensures causes { IfNone (refusal_of self.old) (IfErr result IsAddError) }
-        ensures too_many { IfNone (refusal_of self.old) (IfErr result (λ e. OnlyWhereTooLong e
-            (generated V.contents self.old ++ expr_code V.functions (expr_tree V.contents expr.now) (here_so_far V.contents self.old)))) }
+        ensures too_many { IfNone (refusal_of self.old) (IfErr result
+            (λ e. OnlyWhereTooLong e (generated V.contents self.old ++ expr_code V.functions
+            (expr_tree V.contents expr.now) (here_so_far V.contents self.old)))) }
         ensures kept { IfErr result (λ e. refusal_of self.new ≡ Some e) }
         ensures again { IfSome (refusal_of self.old) (λ e. result ≡ Err e) }
         ensures ready { OnOk result (refusal_of self.new ≡ None) }
@@ -141,12 +149,15 @@ impl<'s, V: TemplateValue> CodeGenerator<'s, V> {
     /// Adds the instructions that assign the value on top to a target. The refusals are those of `compile_stmt`.
     pub fn compile_assignment(&mut self, target: &Expr<'s, V>) -> Result<(), Error<'s>>
         requires { IsTarget (expr_tree V.contents target.now) }
-        ensures added { OnOk result (generated V.contents self.new
-            ≡ generated V.contents self.old ++ target_code (expr_tree V.contents target.now) (here_so_far V.contents self.old)) }
-        ensures past { OnOk result (here_so_far V.contents self.new ≡ past_target (expr_tree V.contents target.now) (here_so_far V.contents self.old)) }
+        ensures added { OnOk result (generated V.contents self.new ≡ generated V.contents self.old
+            ++ target_code (expr_tree V.contents target.now)
+            (here_so_far V.contents self.old)) }
+        ensures past { OnOk result (here_so_far V.contents self.new ≡ past_target
+            (expr_tree V.contents target.now) (here_so_far V.contents self.old)) }
         ensures causes { IfNone (refusal_of self.old) (IfErr result IsAddError) }
-        ensures too_many { IfNone (refusal_of self.old) (IfErr result (λ e. OnlyWhereTooLong e
-            (generated V.contents self.old ++ target_code (expr_tree V.contents target.now) (here_so_far V.contents self.old)))) }
+        ensures too_many { IfNone (refusal_of self.old) (IfErr result
+            (λ e. OnlyWhereTooLong e (generated V.contents self.old ++ target_code
+            (expr_tree V.contents target.now) (here_so_far V.contents self.old)))) }
         ensures kept { IfErr result (λ e. refusal_of self.new ≡ Some e) }
         ensures again { IfSome (refusal_of self.old) (λ e. result ≡ Err e) }
         ensures ready { OnOk result (refusal_of self.new ≡ None) }
@@ -201,8 +212,11 @@ fn compile_stmt<'s, V: TemplateValue>(
     stmt: &Stmt<'s, V>,
 ) -> Result<usize, Error<'static>>
     requires { IsWellFormed (stmt_tree V.contents stmt.now) }
-    ensures added { IsAdded (made_of V.contents code.old) (layout.stmt V.functions (stmt_tree V.contents stmt.now)) result (made_of V.contents code.new) }
-    ensures counted { IfOk result (λ n. n ≡ min usize.MAX (data_bytes (stmt_tree V.contents stmt.now))) }
+    ensures added { IsAdded (made_of V.contents code.old)
+        (layout.stmt V.functions (stmt_tree V.contents stmt.now)) result
+        (made_of V.contents code.new) }
+    ensures counted { IfOk result
+        (λ n. n ≡ min usize.MAX (data_bytes (stmt_tree V.contents stmt.now))) }
 {
     match stmt {
         Stmt::Template(template) => compile_all(code, &template.node().children),
@@ -216,8 +230,11 @@ fn compile_all<'s, V: TemplateValue>(
     stmts: &[Stmt<'s, V>],
 ) -> Result<usize, Error<'static>>
     requires { AreInner (stmts_of (map (stmt_tree V.contents) stmts.now)) }
-    ensures added { IsAdded (made_of V.contents code.old) (layout.stmts V.functions (stmts_of (map (stmt_tree V.contents) stmts.now))) result (made_of V.contents code.new) }
-    ensures counted { IfOk result (λ n. n ≡ min usize.MAX (all_data_bytes (stmts_of (map (stmt_tree V.contents) stmts.now)))) }
+    ensures added { IsAdded (made_of V.contents code.old)
+        (layout.stmts V.functions (stmts_of (map (stmt_tree V.contents) stmts.now))) result
+        (made_of V.contents code.new) }
+    ensures counted { IfOk result (λ n. n ≡ min usize.MAX
+        (all_data_bytes (stmts_of (map (stmt_tree V.contents) stmts.now)))) }
 {
     let mut data_bytes = 0usize;
     for stmt in stmts {
@@ -232,7 +249,9 @@ fn compile_inner<'s, V: TemplateValue>(
     stmt: &Stmt<'s, V>,
 ) -> Result<usize, Error<'static>>
     requires { IsInner (stmt_tree V.contents stmt.now) }
-    ensures added { IsAdded (made_of V.contents code.old) (layout.stmt V.functions (stmt_tree V.contents stmt.now)) result (made_of V.contents code.new) }
+    ensures added { IsAdded (made_of V.contents code.old)
+        (layout.stmt V.functions (stmt_tree V.contents stmt.now)) result
+        (made_of V.contents code.new) }
     ensures counted { IfOk result (λ n. n ≡ data_bytes (stmt_tree V.contents stmt.now)) }
 {
     match stmt {
@@ -262,8 +281,10 @@ fn emit_expr<'s, V: TemplateValue>(
     expr: &Expr<'s, V>,
 ) -> Result<(), Error<'static>>
     requires { IsWhole (expr_tree V.contents expr.now) }
-    ensures { IsAdded (made_of V.contents code.old) (layout.write V.functions (written (expr_tree V.contents expr.now)) (layout.expr V.functions (expr_tree V.contents expr.now)))
-        result (made_of V.contents code.new) }
+    ensures { IsAdded (made_of V.contents code.old) (layout.write V.functions
+        (written (expr_tree V.contents expr.now))
+        (layout.expr V.functions (expr_tree V.contents expr.now))) result
+        (made_of V.contents code.new) }
 {
     match output_of(expr) {
         Output::Super => {
@@ -292,7 +313,8 @@ fn assign<'s, V: TemplateValue>(
     target: &Expr<'s, V>,
 ) -> Result<(), Error<'static>>
     requires { IsTarget (expr_tree V.contents target.now) }
-    ensures { IsAdded (made_of V.contents code.old) (layout.target (expr_tree V.contents target.now)) result (made_of V.contents code.new) }
+    ensures { IsAdded (made_of V.contents code.old)
+        (layout.target (expr_tree V.contents target.now)) result (made_of V.contents code.new) }
 {
     match target {
         Expr::Var(var) => {

@@ -6,7 +6,7 @@ ghost use Rattle.minijinja_syntax.specs.declared.error.ErrorKind.TheVariants.{Ou
 ghost use Rattle.minijinja_code.specs.InstructionLists.{instructions_of, name_of, source_of, IsAddError};
 
 use minijinja_base::error::{Detail, Error, ErrorKind};
-use minijinja_base::value::TemplateValue;
+use minijinja_base::value::{TemplateValue, Value};
 use std::alloc::Global;
 
 /// The number of a filter's or test's name among those of its list.
@@ -39,7 +39,7 @@ pub enum CaptureMode {
 
 /// An instruction of a rendering machine. Its texts are slices of the source, and its jumps lead to indexes of its list.
 #[derive(Drop)]
-pub enum Instruction<'s, V: TemplateValue> {
+pub enum Instruction<'s, V: TemplateValue = Value> {
     /// Writes text that stands outside of tags.
     EmitRaw(&'s str),
     /// Pops a value and stores it under a name.
@@ -147,7 +147,7 @@ const LIMIT: usize = 1 << 32;
 
 /// A list of instructions, with the name and the text of the source that they come from. It has fewer than 2^32.
 #[derive(Drop)]
-pub struct Instructions<'s, V: TemplateValue> {
+pub struct Instructions<'s, V: TemplateValue = Value> {
     instructions: Vec<Instruction<'s, V>>,
     name: &'s str,
     source: &'s str,
@@ -205,12 +205,15 @@ impl<'s, V: TemplateValue> Instructions<'s, V> {
     /// Adds an instruction and answers its index. Refused are memory, and the instruction with which the list would reach
     /// 2^32; the list is unchanged then.
     pub fn add(&mut self, instruction: Instruction<'s, V>) -> Result<u32, Error<'s>>
-        ensures added { IfOk result (λ _. instructions_of self.new ≡ instructions_of self.old ++ instruction.entry ∷ []) }
+        ensures added { IfOk result
+            (λ _. instructions_of self.new ≡ instructions_of self.old ++ instruction.entry ∷ []) }
         ensures index { IfOk result (λ i. i ≡ length (instructions_of self.old)) }
         ensures unchanged { OnErr result (instructions_of self.new ≡ instructions_of self.old) }
         ensures causes { IfErr result IsAddError }
-        ensures too_many { IfErr result (λ e. kind_of e ≡ TooManyInstructions → 2 ^ 32 ≤ length (instructions_of self.old) + 1) }
-        ensures full { 2 ^ 32 ≤ length (instructions_of self.old) + 1 → IfErr result (λ e. kind_of e ≡ TooManyInstructions) × IsErr result }
+        ensures too_many { IfErr result (λ e. kind_of e ≡ TooManyInstructions → 2 ^ 32 ≤ length
+            (instructions_of self.old) + 1) }
+        ensures full { 2 ^ 32 ≤ length (instructions_of self.old) + 1 → IfErr result
+            (λ e. kind_of e ≡ TooManyInstructions) × IsErr result }
         ensures name { name_of self.new ≡ name_of self.old }
         ensures source { source_of self.new ≡ source_of self.old }
     {
@@ -229,8 +232,10 @@ pub(crate) fn push_within<'s, V: TemplateValue>(
     ensures unchanged { OnErr result (list.new.items ≡ list.old.items) }
     ensures fits { OnOk result (length list.new.items < 2 ^ 32) }
     ensures causes { IfErr result IsAddError }
-    ensures too_many { IfErr result (λ e. kind_of e ≡ TooManyInstructions → 2 ^ 32 ≤ length list.old.items + 1) }
-    ensures full { 2 ^ 32 ≤ length list.old.items + 1 → IfErr result (λ e. kind_of e ≡ TooManyInstructions) × IsErr result }
+    ensures too_many { IfErr result
+        (λ e. kind_of e ≡ TooManyInstructions → 2 ^ 32 ≤ length list.old.items + 1) }
+    ensures full { 2 ^ 32 ≤ length list.old.items + 1 → IfErr result
+        (λ e. kind_of e ≡ TooManyInstructions) × IsErr result }
 {
     if list.len() + 1 >= LIMIT {
         return Err(Error::new(

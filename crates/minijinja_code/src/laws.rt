@@ -12,6 +12,8 @@ use minijinja_base::value::TemplateValue;
 
 /// An expression that folds means its constant, with no event and no answer read, and its code is that constant.
 pub fn folded_is_constant<V: TemplateValue>()
-    ensures means { (e : Expr V.Contents) (c : V.Contents) → fold V.functions e ≡ Some c → (w : World V.Contents) → meaning.expr V.functions e w ≡ Gave w c }
-    ensures code { (e : Expr V.Contents) (c : V.Contents) → fold V.functions e ≡ Some c → layout.expr V.functions e ≡ one (Load c) }
+    ensures means { (e : Expr V.Contents) (c : V.Contents) → fold V.functions e ≡ Some c →
+        (w : World V.Contents) → meaning.expr V.functions e w ≡ Gave w c }
+    ensures code { (e : Expr V.Contents) (c : V.Contents) → fold V.functions e ≡ Some c →
+        layout.expr V.functions e ≡ one (Load c) }
 {}

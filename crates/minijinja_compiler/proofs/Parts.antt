@@ -4,7 +4,10 @@ use Rattle.std.proofs.lemmas.Bool.{cases_lt}
 use Rattle.minijinja_syntax.specs.Errors.{kind_of}
 use Rattle.minijinja_syntax.specs.declared.error.Error.{Error}
 use Rattle.minijinja_syntax.specs.declared.error.ErrorKind.TheVariants.{OutOfMemory, TooManyInstructions}
-use Rattle.minijinja_grammar.specs.Causes.{IsRefusal}
+use Rattle.minijinja_parser.specs.Causes as parser
+use Rattle.minijinja_parser.specs.Causes.{IsRefusal}
+use Rattle.minijinja_compiler.specs.Headline.{IsLimit}
+use Rattle.minijinja_code.specs.Generator.{OnlyWhereTooLong}
 use Rattle.minijinja_code.specs.Code.{Instr}
 use Rattle.minijinja_code.specs.InstructionLists.{IsAddError}
 use Rattle.minijinja_code.specs.Pieces.{Here, start}
@@ -63,3 +66,18 @@ limit_is_known e (inr many) room few = few many
 -- so nothing is said of it where these two are set aside
 pub never_another : {A : Type 0} (P : Error → Type 0) (kept : Option Error) (e : Error) (r : Result A Error) → kept ≡ None → IfNone kept (IsAddError e) → IsErrAnd r (λ x. x ≡ e) → IfErr r (λ x. kind_of x ≢ OutOfMemory → kind_of x ≢ TooManyInstructions → P x)
 never_another P = refused_at_instruction (λ (x : Error). kind_of x ≢ OutOfMemory → kind_of x ≢ TooManyInstructions → P x) (λ x h room few. absurd (limit_is_known x h room few))
+
+-- the limits of the parser are limits
+pub limit_of_parser : (e : Error) → parser.IsLimit e → IsLimit e
+limit_of_parser e (inl memory) = inl memory
+limit_of_parser e (inr long) = inr (inl long)
+
+-- what a generator that had refused nothing says of a refusal
+pub unkept : {A : Type 0} (kept : Option Error) → kept ≡ None → IfNone kept A → A
+unkept None none h = h
+unkept (Some k) none h = cc
+
+-- where a list that was empty has no room, the code is too long
+pub too_long_list : {C : Type 0} (before : List (Instr C)) (here : Here) (p : Here → List (Instr C)) (e : Error) → before ≡ [] → here ≡ start →
+    OnlyWhereTooLong e (before ++ p here) → kind_of e ≡ TooManyInstructions → 2 ^ 32 ≤ length (p start)
+too_long_list before here p e empty at long k = subst (λ (h : Here). 2 ^ 32 ≤ length (p h)) at (subst (λ (is : List (Instr _)). 2 ^ 32 ≤ length (is ++ p here)) empty (long k))

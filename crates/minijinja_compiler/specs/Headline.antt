@@ -1,5 +1,5 @@
 -- The main theorem: what is compiled is the one tree of the text, and its code does what the tree means.
-use Rattle.std.specs.Prelude.{◌≡◌, ◌≤◌, ◌^◌, ◌⊎◌, length, codes}
+use Rattle.std.specs.Prelude.{◌≡◌, ◌≢◌, ◌≤◌, ◌^◌, ◌⊎◌, ⊤, length, codes, MatchResult, Result}
 use Rattle.std.specs.BTreeMap.{IsEmpty}
 use Rattle.minijinja_syntax.specs.Texts.{Text}
 use Rattle.minijinja_value.specs.Values.{Functions}
@@ -7,9 +7,10 @@ use Rattle.minijinja_syntax.specs.Syntax.{Syntax, default_syntax}
 use Rattle.minijinja_syntax.specs.Errors.{kind_of}
 use Rattle.minijinja_syntax.specs.declared.error.Error.{Error}
 use Rattle.minijinja_syntax.specs.declared.error.ErrorKind.TheVariants.{OutOfMemory, SourceTooLong, TooManyInstructions}
-use Rattle.minijinja_tree.specs.Tree.{Expr, Stmt}
-use Rattle.minijinja_grammar.specs.Causes.{IsRefusal}
-use Rattle.minijinja_grammar.specs.Derived.{IsDerived, IsExprDerived}
+use Rattle.minijinja_lexer.specs.Stream.{IsNamed}
+use Rattle.minijinja_tree.specs.SpannedTrees.{Expr, Stmt, bare_expr, bare_stmt}
+use Rattle.minijinja_parser.specs.Causes.{IsRefusal}
+use Rattle.minijinja_parser.specs.Derived.{IsDerived, IsExprDerived}
 use Rattle.minijinja_code.specs.Instructions.{code_of}
 use Rattle.minijinja_code.specs.Pieces.{start}
 use Rattle.minijinja_code.specs.Layout.{expr_code, stmt_code}
@@ -19,15 +20,16 @@ use Rattle.minijinja_code.specs.InstructionLists.{name_of, source_of}
 use Rattle.minijinja_code.specs.declared.instructions.Instructions.{Instructions}
 use Rattle.minijinja_compiler.specs.declared.compile.Compiled.{Compiled}
 
--- There is one tree that the grammar derives of the text. The code is its layout. Entered at the template, with any operands and
--- open loops below and whatever is answered from outside, it does what the tree means, and is over at its end.
+-- There is one tree that the grammar derives of the text. The code is its layout, whatever the spans of its nodes. Entered at
+-- the template, with any operands and open loops below and whatever is answered from outside, it does what the tree means, and is
+-- over at its end.
 pub record IsCompiled {V E C F : Type 0} (f : Functions C F) (contents : V → C) (syntax : Syntax) (source filename : Text) (c : Compiled V E) : Type 0 where
   pub tree : Stmt C
   pub derived : IsDerived f syntax source tree
   pub only : (t : Stmt C) → IsDerived f syntax source t → t ≡ tree
-  pub code : code_of contents c.instructions ≡ stmt_code f tree start
-  pub does : Does f (code_of contents c.instructions) 0 (length (code_of contents c.instructions)) tree
-  pub hint : IsHint (data_bytes tree) c.buffer_size_hint
+  pub code : code_of contents c.instructions ≡ stmt_code f (bare_stmt tree) start
+  pub does : Does f (code_of contents c.instructions) 0 (length (code_of contents c.instructions)) (bare_stmt tree)
+  pub hint : IsHint (data_bytes (bare_stmt tree)) c.buffer_size_hint
   pub no_blocks : IsEmpty c.blocks
   pub name : name_of c.instructions ≡ filename
   pub text : source_of c.instructions ≡ source
@@ -37,8 +39,8 @@ pub record IsCompiledExpr {V E C F : Type 0} (f : Functions C F) (contents : V �
   pub tree : Expr C
   pub derived : IsExprDerived f default_syntax source tree
   pub only : (t : Expr C) → IsExprDerived f default_syntax source t → t ≡ tree
-  pub code : code_of contents c ≡ expr_code f tree start
-  pub does : DoesExpr f (code_of contents c) 0 (length (code_of contents c)) tree
+  pub code : code_of contents c ≡ expr_code f (bare_expr tree) start
+  pub does : DoesExpr f (code_of contents c) 0 (length (code_of contents c)) (bare_expr tree)
   pub name : name_of c ≡ codes "<expression>"
   pub text : source_of c ≡ source
 
@@ -46,17 +48,29 @@ pub record IsCompiledExpr {V E C F : Type 0} (f : Functions C F) (contents : V �
 pub record HasTooLongCode {C F : Type 0} (f : Functions C F) (syntax : Syntax) (source : Text) : Type 0 where
   pub tree : Stmt C
   pub derived : IsDerived f syntax source tree
-  pub long : 2 ^ 32 ≤ length (stmt_code f tree start)
+  pub long : 2 ^ 32 ≤ length (stmt_code f (bare_stmt tree) start)
 
 -- the tree of an expression has too much code
 pub record HasTooLongExprCode {C F : Type 0} (f : Functions C F) (source : Text) : Type 0 where
   pub tree : Expr C
   pub derived : IsExprDerived f default_syntax source tree
-  pub long : 2 ^ 32 ≤ length (expr_code f tree start)
+  pub long : 2 ^ 32 ≤ length (expr_code f (bare_expr tree) start)
 
 -- a limit stands against a text that the grammar derives: memory, its length or that of its code
 abbrev pub IsLimit : Error → Type 0
 IsLimit e = (kind_of e ≡ OutOfMemory) ⊎ (kind_of e ≡ SourceTooLong) ⊎ (kind_of e ≡ TooManyInstructions)
+
+-- the code came, or a limit was met
+abbrev pub Succeeds : {A : Type 0} → Result A Error → Type 0
+Succeeds r = MatchResult r (λ _. ⊤) IsLimit
+
+-- the list would have 2^32 instructions or more
+abbrev pub IsTooMany : Error → Type 0
+IsTooMany e = kind_of e ≡ TooManyInstructions
+
+-- what is refused but for want of memory or the length of the code has the source's name
+abbrev pub IsRefusedUnder : Text → Error → Type 0
+IsRefusedUnder filename e = kind_of e ≢ OutOfMemory → kind_of e ≢ TooManyInstructions → IsNamed filename e
 
 abbrev pub IsCause : Error → Type 0
 IsCause e = IsRefusal e ⊎ IsLimit e

@@ -1,18 +1,13 @@
 //! From a source text to its instructions.
-ghost use Rattle.std.specs.Prelude.{◌≡◌, ◌≢◌, ◌≤◌, ◌^◌, codes, length, IfErr, IfOk, IsErrAnd, MatchResult, ⊤};
-ghost use Rattle.minijinja_syntax.specs.Errors.{kind_of, span_of};
-ghost use Rattle.minijinja_syntax.specs.declared.error.ErrorKind.TheVariants.{BadEscape, OutOfMemory, SourceTooLong, TooManyInstructions};
-ghost use Rattle.minijinja_lexer.specs.Stream as ending;
-ghost use Rattle.minijinja_lexer.specs.Stream.{IsNamed};
-ghost use Rattle.minijinja_lexer.specs.TextTokens.{tokens_of_template, tokens_of_expression};
-ghost use Rattle.minijinja_grammar.specs.Causes.{IsRefusal};
+ghost use Rattle.std.specs.Prelude.{◌<◌, ◌≤◌, ◌^◌, codes, length, IfErr, IfOk, IsErrAnd};
+ghost use Rattle.minijinja_parser.specs.Answers.{AnswersExprTokenizer, AnswersTokenizer, EscapesIn, IsNoExpr, IsNoTemplate, IsShort, IsTooLong};
 ghost use Rattle.minijinja_syntax.specs.Syntax.{default_syntax};
-ghost use Rattle.minijinja_grammar.specs.Derived.{IsDerived, IsExprDerived};
-ghost use Rattle.minijinja_compiler.specs.Headline.{IsCompiled, IsCompiledExpr, HasTooLongCode, HasTooLongExprCode, IsLimit, IsCause};
+ghost use Rattle.minijinja_parser.specs.Derived.{IsDerived, IsExprDerived, expr_place, template_place};
+ghost use Rattle.minijinja_compiler.specs.Headline.{IsCompiled, IsCompiledExpr, HasTooLongCode, HasTooLongExprCode, IsCause, IsRefusedUnder, IsTooMany, Succeeds};
 
 use minijinja_base::error::Error;
 use minijinja_base::syntax::SyntaxConfig;
-use minijinja_base::value::TemplateValue;
+use minijinja_base::value::{TemplateValue, Value};
 use minijinja_code::codegen::CodeGenerator;
 use minijinja_code::instructions::Instructions;
 use minijinja_parser::parser::{EXPRESSION_NAME, parse, parse_expr};
@@ -21,7 +16,7 @@ use std::collections::BTreeMap;
 
 /// The code of a template. It borrows the source alone.
 #[derive(Drop)]
-pub struct Compiled<'s, V: TemplateValue> {
+pub struct Compiled<'s, V: TemplateValue = Value> {
     /// The template's own instructions.
     pub instructions: Instructions<'s, V>,
     /// The instructions of each block, by its name.
@@ -32,8 +27,8 @@ pub struct Compiled<'s, V: TemplateValue> {
 
 /// Compiles a template, whose source has this name.
 ///
-/// A text that the grammar does not derive is a syntax error, or a bad escape where its tokens end with one, with its place. Other refusals are those of memory, of a source
-/// of 2^32 bytes or more and of a list of 2^32 instructions or more.
+/// A text that the grammar does not derive is a syntax error, or a bad escape where its tokens end with one, with its place.
+/// Other refusals are those of memory, of a source of 2^32 bytes or more and of a list of 2^32 instructions or more.
 pub fn compile<'s, V: TemplateValue>(
     alloc: Global,
     source: &'s str,
@@ -44,19 +39,22 @@ pub fn compile<'s, V: TemplateValue>(
     ensures compiled { IfOk result (IsCompiled V.functions V.contents syntax.now source.now filename.now) }
 
     // A text is refused, as a syntax error or for a bad escape, exactly where the grammar derives no tree of it.
-    ensures refused { IfErr result (λ e. IsRefusal e → (t : _) → IsDerived V.functions syntax.now source.now t → ⊥) }
-    ensures accepted { (t : _) → IsDerived V.functions syntax.now source.now t → MatchResult result (λ _. ⊤) IsLimit }
+    ensures refused { IfErr result (IsNoTemplate V.functions syntax.now source.now) }
+    ensures accepted { (t : _) → IsDerived V.functions syntax.now source.now t → Succeeds result }
 
     // A bad escape is the one that the tokens end with.
-    ensures bad_escape { IfErr result (λ e. kind_of e ≡ BadEscape → (tokens_of_template syntax.now source.now).ending ≡ ending.refused BadEscape (span_of e)) }
+    ensures bad_escape { IfErr result (EscapesIn (template_place syntax.now source.now)) }
+
+    // The tokenizer's refusal is answered where all tokens before it fit.
+    ensures first { IsShort source.now → AnswersTokenizer V.functions syntax.now source.now result }
 
     // A text is refused under its name, and so is one that is too long.
-    ensures named { IfErr result (λ e. kind_of e ≢ OutOfMemory → kind_of e ≢ TooManyInstructions → IsNamed filename.now e) }
+    ensures named { IfErr result (IsRefusedUnder filename.now) }
 
     // A source is too long exactly from 2^32 bytes on, and code only where the tree's has 2^32 instructions or more.
-    ensures too_long { 2 ^ 32 ≤ length source.now → IsErrAnd result (λ e. kind_of e ≡ SourceTooLong) }
-    ensures too_long_only { IfErr result (λ e. kind_of e ≡ SourceTooLong → 2 ^ 32 ≤ length source.now) }
-    ensures too_many_only { IfErr result (λ e. kind_of e ≡ TooManyInstructions → HasTooLongCode V.functions syntax.now source.now) }
+    ensures too_long { 2 ^ 32 ≤ length source.now → IsErrAnd result IsTooLong }
+    ensures too_long_only { IfErr result (λ e. IsTooLong e → 2 ^ 32 ≤ length source.now) }
+    ensures too_many_only { IfErr result (λ e. IsTooMany e → HasTooLongCode V.functions syntax.now source.now) }
     ensures causes { IfErr result IsCause }
 {
     let template = parse(alloc, source, filename, syntax)?;
@@ -82,19 +80,22 @@ pub fn compile_expression<'s, V: TemplateValue>(
     ensures compiled { IfOk result (IsCompiledExpr V.functions V.contents source.now) }
 
     // A text is refused, as a syntax error or for a bad escape, exactly where the grammar derives no tree of it.
-    ensures refused { IfErr result (λ e. IsRefusal e → (t : _) → IsExprDerived V.functions default_syntax source.now t → ⊥) }
-    ensures accepted { (t : _) → IsExprDerived V.functions default_syntax source.now t → MatchResult result (λ _. ⊤) IsLimit }
+    ensures refused { IfErr result (IsNoExpr V.functions default_syntax source.now) }
+    ensures accepted { (t : _) → IsExprDerived V.functions default_syntax source.now t → Succeeds result }
 
     // A bad escape is the one that the tokens end with.
-    ensures bad_escape { IfErr result (λ e. kind_of e ≡ BadEscape → (tokens_of_expression default_syntax source.now).ending ≡ ending.refused BadEscape (span_of e)) }
+    ensures bad_escape { IfErr result (EscapesIn (expr_place default_syntax source.now)) }
+
+    // The tokenizer's refusal is answered where all tokens before it fit.
+    ensures first { IsShort source.now → AnswersExprTokenizer V.functions source.now result }
 
     // A text is refused under its name, and so is one that is too long.
-    ensures named { IfErr result (λ e. kind_of e ≢ OutOfMemory → kind_of e ≢ TooManyInstructions → IsNamed (codes "<expression>") e) }
+    ensures named { IfErr result (IsRefusedUnder (codes "<expression>")) }
 
     // A source is too long exactly from 2^32 bytes on, and code only where the tree's has 2^32 instructions or more.
-    ensures too_long { 2 ^ 32 ≤ length source.now → IsErrAnd result (λ e. kind_of e ≡ SourceTooLong) }
-    ensures too_long_only { IfErr result (λ e. kind_of e ≡ SourceTooLong → 2 ^ 32 ≤ length source.now) }
-    ensures too_many_only { IfErr result (λ e. kind_of e ≡ TooManyInstructions → HasTooLongExprCode V.functions source.now) }
+    ensures too_long { 2 ^ 32 ≤ length source.now → IsErrAnd result IsTooLong }
+    ensures too_long_only { IfErr result (λ e. IsTooLong e → 2 ^ 32 ≤ length source.now) }
+    ensures too_many_only { IfErr result (λ e. IsTooMany e → HasTooLongExprCode V.functions source.now) }
     ensures causes { IfErr result IsCause }
 {
     let expr = parse_expr(alloc, source)?;

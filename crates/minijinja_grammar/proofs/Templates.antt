@@ -1,124 +1,102 @@
--- Templates are read exactly, so a text has one tree at most.
-use Rattle.std.proofs.Common.{◌≡◌, ◌<◌, List, [], ◌∷◌, ◌++◌, Bool, true, false, Option, Some, None, refl, ap, subst, arith}
-use Rattle.std.specs.Prelude.{not}
+-- Templates of the grammar stand at tokens, and are well formed.
+use Rattle.std.proofs.Common.{◌≡◌, ℕ, zero, suc, List, [], ◌∷◌, ◌++◌, Bool, true, false, if◌then◌else◌, Option, Some, None, ap, subst}
+use Rattle.std.specs.Prelude.{◌||◌, codes}
+use Rattle.std.specs.Str.{bytes_eq}
 use Rattle.minijinja_syntax.specs.Texts.{Text}
 use Rattle.minijinja_value.specs.Values.{Functions}
+use Rattle.minijinja_syntax.specs.Tokens.{Tok, ident, template_data, variable_start, variable_end, block_start, block_end, assign}
 use Rattle.minijinja_syntax.specs.declared.tokens.Span.{Span}
-use Rattle.minijinja_syntax.specs.Tokens.{Tok, template_data, variable_start, variable_end, block_start, block_end, assign}
-use Rattle.minijinja_tree.specs.Tree.{Expr, variable, Stmt, template, data_text, output, assignment, stmts_of}
-use Rattle.minijinja_grammar.specs.Rules.{Rule, Also}
-use Rattle.minijinja_grammar.specs.Words.{is_reserved, set_word, data_of}
-use Rattle.minijinja_grammar.specs.Grammar.{Tokens, at, Next, next, one, Ident, ExprAt, max_depth}
-use Rattle.minijinja_grammar.specs.Templates.{StmtOf, set, PartOf, raw, shown, tag, StmtAt, TemplateAt, whole, at_token, IsTemplateOf}
-use Rattle.minijinja_grammar.specs.Readers.{Reader, and_then, read_map, when, also}
-use Rattle.minijinja_grammar.specs.Reading as e
-use Rattle.minijinja_grammar.specs.Reading.{count, rest, token, closed, expr_at}
-use Rattle.minijinja_grammar.specs.TemplateReading as r
-use Rattle.minijinja_grammar.proofs.Loops.{Exact, Turns, same_read, and_then_some, read_map_some, when_some, recast, also-turns, loop-sound, loop-complete, loop-more, loop-done}
-use Rattle.minijinja_grammar.proofs.Atoms.{if_next, closed_some, closed-complete, next-at, next-rest, next-shorter, ident-exact}
-use Rattle.minijinja_grammar.proofs.Whole as exprs
+use Rattle.minijinja_tree.specs.SpannedTrees.{Expr, variable, Stmt, template, data_text, output, assignment, Stmts, done, also, stmts_of, bare_expr, bare_stmt, bare_stmts}
+use Rattle.minijinja_tree.specs.WellFormed.{IsWhole, IsTarget, IsInner, AreInner, IsWellFormed}
+use Rattle.minijinja_grammar.specs.Words.{is_reserved, set_word}
+use Rattle.minijinja_syntax.specs.Streams.{SpannedTok}
+use Rattle.minijinja_grammar.specs.Forms.{Form, Turn, go_on, over, pure, nothing, one, ◌>>=◌, ◌>>◌}
+use Rattle.minijinja_grammar.specs.Grammar as g
+use Rattle.minijinja_grammar.specs.Grammar.{expanded, expr_at}
+use Rattle.minijinja_grammar.specs.Templates as form
+use Rattle.minijinja_grammar.specs.Standing.{Stands, StmtStands, StmtsStand}
+use Rattle.minijinja_grammar.specs.private.Sound.{IsSound}
+use Rattle.minijinja_grammar.specs.private.Ensured.{Holds, Kept, Ensured}
+use Rattle.minijinja_grammar.proofs.Ensured.{weaker}
+use Rattle.minijinja_grammar.proofs.Sound.{alone, mark_span, of_kind_is, spanned, expr_sound}
+use Rattle.minijinja_grammar.proofs.Standing.{stands, is_whole}
 
-module _ {C : Type 0} (R : Rule Tokens (Expr C)) (p : Reader Tokens (Expr C)) (h : Exact count R p) where
-  pub stmt-exact : Exact count (StmtOf R) (r.stmt_of p)
-  unfolding r.stmt_of r.set_of r.target_of
-  stmt-exact = record { sound = λ a b x k. sound a b x k; complete = λ a b x d. complete a b x d; shorter = λ a b x d. shorter a b x d }
+module _ {C F : Type 0} (T : SpannedTok → Type 0) (S : Span → Type 0) (spans : (t : SpannedTok) → T t → S t.1)
+    (joins : (s to : Span) → S s → S to → S (expanded s to)) (f : Functions C F) where
+  abbrev IsOne : Expr C → Type 1
+  IsOne e = Holds (IsSound T S e)
+
+  -- a statement stands at tokens, and may stand in a template
+  pub record IsPart (s : Stmt C) : Type 0 where
+    pub stands : StmtStands T S s
+    pub inner : IsInner (bare_stmt s)
+
+  pub record AreParts (ss : List (Stmt C)) : Type 0 where
+    pub stand : StmtsStand T S (stmts_of ss)
+    pub inner : AreInner (bare_stmts (stmts_of ss))
+
+  no_parts : AreParts []
+  no_parts = record { stand = tt; inner = tt }
+
+  append : (ss : List (Stmt C)) (s : Stmt C) → AreParts ss → IsPart s → AreParts (ss ++ s ∷ [])
+  append [] s h k = record { stand = (k.stands, tt); inner = (k.inner, tt) }
+  append (x ∷ ss) s h k =
+      let i = append ss s (record { stand = h.stand.1; inner = h.inner.1 }) k in
+      record { stand = (h.stand.0, i.stand); inner = (h.inner.0, i.inner) }
+
+  target_is : (t : SpannedTok) (x : Text × Span) → T t → form.target_word t ≡ Some x → T (ident x.0, x.1)
+  target_is (ident y, s) x i e = go (bytes_eq y (codes "in") || is_reserved y) e
     where
-      not_false : (b : Bool) → not b ≡ true → b ≡ false
-      not_false true k = cc
-      not_false false k = refl
+      go : (b : Bool) → (if b then None else Some (y, s)) ≡ Some x → T (ident x.0, x.1)
+      go true k = cc
+      go false k = subst (λ (z : Text × Span). T (ident z.0, z.1)) (same (y, s) x k) i
+        where
+          same : (z x : Text × Span) → Some z ≡ Some x → z ≡ x
+          same z x k = cc
+  target_is _ x i e = cc
 
-      sound : (a g : Tokens) (s : Stmt C) → r.stmt_of p a ≡ Some (s, g) → StmtOf R a g s
-      sound a g s k = if_next set_word a _ _ _ k (StmtOf R a g s)
-          (λ w k.
-          let i : (y : Expr C) × (c : Tokens) × (r.target_of (rest a) ≡ Some (y, c)) × (and_then (token assign c) (λ _ d. read_map (assignment y) (p d)) ≡ Some (s, g)) = and_then_some _ _ _ k in
-          let j : (x : Text × Span) × (b : Tokens) × (e.ident_at (rest a) ≡ Some (x, b)) × (when (not (is_reserved x.0)) (Some (variable x.0, b)) ≡ Some (i.0, i.1)) = and_then_some _ _ _ i.2 in
-          let l : (not (is_reserved j.0.0) ≡ true) × (Some (variable j.0.0, j.1) ≡ Some (i.0, i.1)) = when_some _ _ _ j.3 in
-          let m : (variable j.0.0 ≡ i.0) × (j.1 ≡ i.1) = same_read _ _ _ _ l.1 in
-          let n : (u : Unit {0}) × (d : Tokens) × (token assign i.1 ≡ Some (u, d)) × (read_map (assignment i.0) (p d) ≡ Some (s, g)) = and_then_some _ _ _ i.3 in
-          let q : (v : Expr C) × (p n.1 ≡ Some (v, g)) × (assignment i.0 v ≡ s) = read_map_some _ _ _ _ n.3 in
-          recast (StmtOf R)
-          (set w (subst (λ t. Ident (rest a) t j.0) m.1 (ident-exact.sound (rest a) j.1 j.0 j.2)) (not_false (is_reserved j.0.0) l.0) (closed_some assign tt n.0 i.1 n.1 n.2).0 (h.sound n.1 g q.0 q.1))
-          (rw m.0 q.2) refl)
-          (λ w k. cc)
+  module _ (expr : Form (Expr C)) (he : Ensured T S expr IsOne) where
+    assigned : (from : Span) (x : Text × Span) → S from → T (ident x.0, x.1) →
+        Ensured T S (g.next assign >>= (λ _. expr >>= (λ e. g.spanned from (assignment (variable x.0 x.1) e)))) (λ s. Holds (IsPart s))
+    assigned from x i j = λ t s k l. weaker T S expr IsOne _
+        (λ e m. spanned T S spans joins from (assignment (variable x.0 x.1) e) (λ s. Holds (IsPart s)) i
+        (λ s n. alone (record { stands = (n, j, stands T S e m.it); inner = (tt, is_whole T S e m.it) }))) he
 
-      complete : (a g : Tokens) (s : Stmt C) → StmtOf R a g s → r.stmt_of p a ≡ Some (s, g)
-      complete a g s (set {x = x} {e = v} {b = b} {c = c} {d = d} w i n t k) =
-          rw (next-at set_word a b w, next-rest set_word a b w, ident-exact.complete b c x i, n, closed-complete {A = Unit {0}} assign tt c d t, h.complete d g v k) refl
+    stmt : Ensured T S (form.stmt expr) (λ s. Holds (IsPart s))
+    unfolding form.stmt form.target
+    stmt = λ t from i j. λ u x k l. assigned from x (mark_span T S spans joins set_word t from i j) (target_is u x k l)
 
-      shorter : (a g : Tokens) (s : Stmt C) → StmtOf R a g s → count g < count a
-      shorter a g s (set {x = x} {e = v} {b = b} {c = c} {d = d} w i n t k) =
-          omega (arith, next-shorter set_word a b w, ident-exact.shorter b c x i, next-shorter assign c d t, h.shorter d g v k)
+    shown : (from : Span) → S from → Ensured T S (form.shown expr from) (λ s. Holds (IsPart s))
+    unfolding form.shown
+    shown from i = weaker T S expr IsOne _
+        (λ e h. λ to j. λ t s k l. alone (record { stands = (joins from to i j, stands T S e h.it); inner = is_whole T S e h.it })) he
 
-  pub part-exact : (S : Rule Tokens (Stmt C)) (q : Reader Tokens (Stmt C)) → Exact count S q → Exact count (PartOf R S) (r.part_of p q)
-  unfolding r.part_of r.output_of r.tag_of
-  part-exact S q g = record { sound = λ a b x k. sound a b x k; complete = λ a b x d. complete a b x d; shorter = λ a b x d. shorter a b x d }
-    where
-      sound : (a d : Tokens) (s : Stmt C) → r.part_of p q a ≡ Some (s, d) → PartOf R S a d s
-      sound ((template_data t, at) ∷ a) d s k = let i : (data_text t ≡ s) × (a ≡ d) = same_read _ _ _ _ k in recast (PartOf R S) (raw (one refl)) i.0 i.1
-      sound ((variable_start, at) ∷ a) d s k =
-          let i : (e : Expr C) × (c : Tokens) × (p a ≡ Some (e, c)) × (closed variable_end (output e) c ≡ Some (s, d)) = and_then_some _ _ _ k in
-          let j : Next variable_end i.1 d × (output i.0 ≡ s) = closed_some _ _ _ _ _ i.3 in
-          recast (PartOf R S) (shown next (h.sound a i.1 i.0 i.2) j.0) j.1 refl
-      sound ((block_start, at) ∷ a) d s k =
-          let i : (t : Stmt C) × (c : Tokens) × (q a ≡ Some (t, c)) × (closed block_end t c ≡ Some (s, d)) = and_then_some _ _ _ k in
-          let j : Next block_end i.1 d × (i.0 ≡ s) = closed_some _ _ _ _ _ i.3 in
-          recast (PartOf R S) (tag next (g.sound a i.1 i.0 i.2) j.0) j.1 refl
-      sound _ d s k = cc
+    tag : (s : Form (Stmt C)) → Ensured T S s (λ x. Holds (IsPart x)) → Ensured T S (form.tag s) (λ x. Holds (IsPart x))
+    unfolding form.tag
+    tag s h = weaker T S s (λ x. Holds (IsPart x)) _ (λ x i. λ t u j k. i) h
 
-      held : (t : Tok) (at : Span) (a : Tokens) (x : Text) → data_of t ≡ Some x → r.part_of p q ((t, at) ∷ a) ≡ Some (data_text x, a)
-      held (template_data t) at a x w = let i : t ≡ x = cc in rw i refl
-      held _ at a x w = cc
+    part : (s : Form (Stmt C)) → Ensured T S s (λ x. Holds (IsPart x)) → (t : SpannedTok) → T t → Ensured T S (form.part expr s t) (λ x. Holds (IsPart x))
+    part s h (template_data t, u) i = alone (record { stands = i; inner = tt })
+    part s h (variable_start, u) i = shown u (spans (variable_start, u) i)
+    part s h (block_start, u) i = tag s h
+    part s h _ i = alone tt
 
-      complete : (a d : Tokens) (s : Stmt C) → PartOf R S a d s → r.part_of p q a ≡ Some (s, d)
-      complete a d s (raw (one {t = t} {s = at} {x = x} w)) = held t at d x w
-      complete a d s (shown {e = e} {b = b} {c = c} next k n) = rw (h.complete b c e k, closed-complete variable_end (output e) c d n) refl
-      complete a d s (tag {s = t} {b = b} {c = c} next k n) = rw (g.complete b c t k, closed-complete block_end t c d n) refl
+  stmt_at : (d : ℕ) → Ensured T S (form.stmt_at f d) (λ s. Holds (IsPart s))
+  unfolding form.stmt_at
+  stmt_at zero = alone tt
+  stmt_at (suc d) = stmt (expr_at f d) (expr_sound T S spans joins f d)
 
-      shorter : (a d : Tokens) (s : Stmt C) → PartOf R S a d s → count d < count a
-      shorter a d s (raw (one w)) = omega arith
-      shorter a d s (shown {e = e} {b = b} {c = c} m k n) = omega (arith, next-shorter variable_start a b m, h.shorter b c e k, next-shorter variable_end c d n)
-      shorter a d s (tag {s = t} {b = b} {c = c} m k n) = omega (arith, next-shorter block_start a b m, g.shorter b c t k, next-shorter block_end c d n)
+  -- a template stands at tokens, and is well formed
+  pub record IsTemplate (s : Stmt C) : Type 0 where
+    pub stands : StmtStands T S s
+    pub formed : IsWellFormed (bare_stmt s)
 
-module _ {C F : Type 0} (f : Functions C F) (source : Text) where
-  stmt-exact_at : Exact count (StmtAt f source max_depth) (r.stmt f source)
-  unfolding StmtAt
-  stmt-exact_at = stmt-exact (ExprAt f source 149) (expr_at f source 149) (exprs.at f source 149).exprs
-
-  abbrev Part : Rule Tokens (Stmt C)
-  Part = PartOf (ExprAt f source max_depth) (StmtAt f source max_depth)
-
-  pub part-exact_at : Exact count (PartOf (ExprAt f source max_depth) (StmtAt f source max_depth)) (r.part f source)
-  part-exact_at = part-exact (ExprAt f source max_depth) (expr_at f source max_depth) (exprs.at f source max_depth).exprs (StmtAt f source max_depth) (r.stmt f source) stmt-exact_at
-
-  parts : Turns count (Also Part) (also (r.part f source))
-  parts = also-turns count Part (r.part f source) part-exact_at
-
-  -- ---- the loop of the code
-
-  pub parts-more : (ss : List (Stmt C)) (a : Tokens) → at_token a ≡ true → r.parts_from f source ss a ≡ and_then (read_map (λ s. ss ++ s ∷ []) (r.part f source a)) (r.parts_from f source)
-  unfolding r.parts_from also
-  parts-more ss a t = loop-more count at_token (Also Part) (also (r.part f source)) parts ss a t
-
-  pub parts-done : (ss : List (Stmt C)) (a : Tokens) → at_token a ≡ false → r.parts_from f source ss a ≡ Some (ss, a)
-  unfolding r.parts_from
-  parts-done ss a t = loop-done count at_token (Also Part) (also (r.part f source)) parts ss a t
-
-  -- ---- the tree
-
-  whole_some : (o : Option (List (Stmt C) × Tokens)) (t : Stmt C) → r.whole_template o ≡ Some t → (ss : List (Stmt C)) × (o ≡ Some (ss, [])) × (template (stmts_of ss) ≡ t)
-  whole_some None t e = cc
-  whole_some (Some (ss, [])) t e = (ss, refl, cc)
-  whole_some (Some (ss, x ∷ a)) t e = cc
-
-  -- what is read is derived
-  pub tree_of-sound : (a : Tokens) (t : Stmt C) → r.tree_of f source a ≡ Some t → IsTemplateOf f source a t
-  unfolding r.tree_of r.parts_from
-  tree_of-sound a t e =
-      let h : (ss : List (Stmt C)) × (r.parts_from f source [] a ≡ Some (ss, [])) × (template (stmts_of ss) ≡ t) = whole_some (r.parts_from f source [] a) t e in
-      subst (λ u. TemplateAt f source max_depth a u) h.2 (whole (loop-sound count at_token (Also Part) (also (r.part f source)) parts [] a [] h.0 h.1))
-
-  -- what is derived is read
-  pub tree_of-complete : (a : Tokens) (t : Stmt C) → IsTemplateOf f source a t → r.tree_of f source a ≡ Some t
-  unfolding r.tree_of r.parts_from
-  tree_of-complete a t (whole {ss = ss} d) =
-      ap r.whole_template (loop-complete count at_token (Also Part) (also (r.part f source)) parts [] a [] ss d)
+  pub template_sound : (d : ℕ) → Ensured T S (form.template_at f d) (λ s. Holds (IsTemplate s))
+  unfolding form.template_at
+  template_sound d = λ from i. (
+    AreParts,
+    alone no_parts,
+    (λ ss t u h k l. weaker T S (form.part (expr_at f d) (form.stmt_at f d) u) (λ s. Holds (IsPart s)) _ (λ s m. alone (append ss s h m.it))
+        (part (expr_at f d) (expr_sound T S spans joins f d) (form.stmt_at f d) (stmt_at d) u (of_kind_is T S spans joins form.begins_part t u k l))),
+    λ ss h. spanned T S spans joins from (template (stmts_of ss)) (λ s. Holds (IsTemplate s)) i (λ s j. alone (record { stands = (j, h.stand); formed = h.inner })),
+  )

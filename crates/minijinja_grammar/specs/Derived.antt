@@ -1,28 +1,33 @@
--- Which trees a text has.
-use Rattle.std.specs.Prelude.{◌≡◌}
-use Rattle.minijinja_syntax.specs.Texts.{Text}
+-- Which trees tokens have.
+use Rattle.std.specs.Prelude.{◌≡◌, List, [], ◌++◌}
+use Rattle.minijinja_syntax.specs.Streams.{SpannedTok, finished}
 use Rattle.minijinja_value.specs.Values.{Functions}
-use Rattle.minijinja_syntax.specs.Syntax.{Syntax}
-use Rattle.minijinja_lexer.specs.Stream.{Stream, finished}
-use Rattle.minijinja_lexer.specs.TextTokens.{text_of, tokens_of_template, tokens_of_expression}
-use Rattle.minijinja_tree.specs.Tree.{Expr, Stmt}
-use Rattle.minijinja_grammar.specs.Grammar.{IsExprOf}
-use Rattle.minijinja_grammar.specs.Templates.{IsTemplateOf}
+use Rattle.minijinja_tree.specs.SpannedTrees.{Expr, Stmt}
+use Rattle.minijinja_grammar.specs.Forms.{Form, Place, Derives}
+use Rattle.minijinja_grammar.specs.Grammar.{expr_at, max_depth}
+use Rattle.minijinja_grammar.specs.Templates.{template_at}
 
--- the tokens of the text end unrefused, and all of them are a template of depth at most 150 whose tree is this one
-pub record IsTemplateTree {C F : Type 0} (f : Functions C F) (text : Text) (stream : Stream) (tree : Stmt C) : Type 0 where
-  pub unrefused : stream.ending ≡ finished
-  pub derived : IsTemplateOf f text stream.tokens tree
+-- the tokens that are left at the place end unrefused, and all of them are of the form, which gives this tree
+pub record IsWholeOf {A : Type 0} (form : Form A) (p : Place) (tree : A) : Type 0 where
+  pub unrefused : p.ending ≡ finished
+  pub stop : Place
+  pub derived : Derives form p stop tree
+  pub none_left : stop.tokens ≡ []
 
--- the same of tokens that are one expression
-pub record IsExprTree {C F : Type 0} (f : Functions C F) (text : Text) (stream : Stream) (tree : Expr C) : Type 0 where
-  pub unrefused : stream.ending ≡ finished
-  pub derived : IsExprOf f text stream.tokens tree
+-- a template of depth at most 150
+abbrev pub IsTemplateTree : {C F : Type 0} → Functions C F → Place → Stmt C → Type 0
+IsTemplateTree f p tree = IsWholeOf (template_at f max_depth) p tree
 
--- the source is a template, and this is its tree
-abbrev pub IsDerived : {C F : Type 0} → Functions C F → Syntax → Text → Stmt C → Type 0
-IsDerived f syntax source tree = IsTemplateTree f (text_of syntax source) (tokens_of_template syntax source) tree
+-- one expression of depth at most 150
+abbrev pub IsExprTree : {C F : Type 0} → Functions C F → Place → Expr C → Type 0
+IsExprTree f p tree = IsWholeOf (expr_at f max_depth) p tree
 
--- the source is one expression, and this is its tree
-abbrev pub IsExprDerived : {C F : Type 0} → Functions C F → Syntax → Text → Expr C → Type 0
-IsExprDerived f syntax source tree = IsExprTree f (text_of syntax source) (tokens_of_expression syntax source) tree
+-- as if these tokens followed those that are left, and then the end
+abbrev pub continued : List SpannedTok → Place → Place
+continued more p = record p { tokens = p.tokens ++ more; ending = finished }
+
+-- with some tokens more, those that are left are of the form
+pub record FitsSoFar {A : Type 0} (form : Form A) (p : Place) : Type 0 where
+  pub more : List SpannedTok
+  pub tree : A
+  pub whole : IsWholeOf form (continued more p) tree

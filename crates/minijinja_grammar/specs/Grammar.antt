@@ -1,125 +1,111 @@
--- The grammar of expressions. `X a b t` says that the tokens from `a` up to `b` are an X whose tree is t: `a` and `b` are the
--- tokens that are left, so `b` begins with what follows. The parts of a rule stand in their order, and each begins where the
--- one before it ends.
---
--- The tokens have their spans, and the source stands beside them, for one rule alone: the dotted name of a filter or a test is
--- the source from the start of its first part to the end of its last one, whatever stands between them. No other rule looks at
--- a span.
-use Rattle.std.specs.Prelude.{◌≡◌, ℕ, zero, suc, ◌<◌, List, [], ◌∷◌, ◌++◌, map, length, Bool, true, false, ◌&&◌, ◌||◌, Option, Some, None, is_some, codes}
+-- The grammar of expressions.
+use Rattle.std.specs.Prelude.{◌≡◌, ℕ, zero, suc, List, [], ◌∷◌, ◌++◌, map, length, Bool, true, false, ◌&&◌, ◌||◌, not, nat_lt, if◌then◌else◌, Option, Some, None, is_some}
 use Rattle.minijinja_syntax.specs.Texts.{Text}
 use Rattle.minijinja_value.specs.Values.{Functions}
 use Rattle.minijinja_syntax.specs.Positions.{slice}
 use Rattle.minijinja_syntax.specs.declared.tokens.Span.{Span}
-use Rattle.minijinja_lexer.specs.Stream.{SpannedTok}
 use Rattle.minijinja_tree.specs.BinOps as bin
 use Rattle.minijinja_tree.specs.BinOps.{BinOp}
 use Rattle.minijinja_tree.specs.CompareOps as cmp
 use Rattle.minijinja_tree.specs.CompareOps.{CompareOp}
-use Rattle.minijinja_syntax.specs.Tokens.{Tok, ident, minus, mul, pow, dot, comma, colon, assign, pipe, bracket_open, bracket_close, paren_open, paren_close, brace_open, brace_close}
-use Rattle.minijinja_tree.specs.Tree as tree
-use Rattle.minijinja_tree.specs.Tree.{logical_not, negation, Expr, variable, constant, unary, binary, compare, if_expr, filter, test, attribute, item, call, list, tuple, absent, present}
-use Rattle.minijinja_grammar.specs.Lists.{Arg, positional, starred, keyword, double_starred, optional_of, exprs_of, comparisons_of, args_of, given_args}
-use Rattle.minijinja_grammar.specs.Words.{is_constant_word, is, if_word, else_word, not_word, in_word, is_word, text_of, integer_of, large_integer_of, or_op, and_op, sum_op, cat_op, term_op, pow_op, compare_op, begins_expr, begins_arg, begins_postfix, begins_suffix, begins_comparison, begins_bare}
-use Rattle.minijinja_grammar.specs.Rules.{Rule, Many, Also, Row, Chain, Level, Maybe, Items, Nothing}
+use Rattle.minijinja_syntax.specs.Tokens.{Tok, ident, str, string, int, int128, minus, mul, pow, dot, comma, colon, assign, pipe, bracket_open, bracket_close, paren_open, paren_close, brace_open, brace_close}
+use Rattle.minijinja_tree.specs.Tree.{UnaryOp, logical_not, negation}
+use Rattle.minijinja_tree.specs.WellFormed.{most_arguments}
+use Rattle.minijinja_tree.specs.SpannedTrees as tree
+use Rattle.minijinja_tree.specs.SpannedTrees.{Expr, variable, constant, unary, binary, compare, if_expr, filter, test, attribute, item, call, list, tuple, absent, present, Arg, positional, starred, keyword, double_starred, optional_of, exprs_of, comparisons_of, args_of}
+use Rattle.minijinja_grammar.specs.Words.{is, is_true_word, is_false_word, is_none_word, if_word, else_word, not_word, in_word, is_word, text_of, or_op, and_op, sum_op, cat_op, term_op, pow_op, compare_op, begins_primary, begins_expr, begins_arg, begins_postfix, begins_suffix, begins_comparison, begins_bare}
+use Rattle.minijinja_syntax.specs.Streams.{SpannedTok}
+use Rattle.minijinja_grammar.specs.Forms.{Form, pure, nothing, one, source, start, last, and_then, either, many, Turn, go_on, over, ◌>>=◌, ◌>>◌}
 
 -- ---- tokens
 
-abbrev pub Tokens : Type 0
-Tokens = List SpannedTok
+-- a token that begins such a part, and where it stands
+abbrev pub of_kind : (Tok → Bool) → SpannedTok → Option SpannedTok
+of_kind begins t = if begins t.0 then Some t else None
 
--- whether a token of that kind comes next
-abbrev pub comes : (Tok → Bool) → Tokens → Bool
-comes kind [] = false
-comes kind (t ∷ a) = kind t.0
+-- what a token holds
+abbrev pub held : {A : Type 0} → (Tok → Option A) → SpannedTok → Option A
+held what t = what t.0
 
--- whether a token comes next that holds such a thing
-abbrev pub holds : {A : Type 0} → (Tok → Option A) → Tokens → Bool
-holds held = comes (λ t. is_some (held t))
+-- this token, and where it stands
+abbrev pub span_of_mark : Tok → SpannedTok → Option Span
+span_of_mark m t = if is m t.0 then Some t.1 else None
 
--- whether this token comes next
-abbrev pub at : Tok → Tokens → Bool
-at t = comes (is t)
+abbrev pub next : Tok → Form Span
+next m = one (span_of_mark m)
 
--- this token
-pub data Next (t : Tok) : Tokens → Tokens → Type 0 where
-  next : {s : Span} {a : Tokens} → Next t ((t, s) ∷ a) a
+abbrev pub ident_and_span : SpannedTok → Option (Text × Span)
+ident_and_span (ident x, s) = Some (x, s)
+ident_and_span _ = None
 
--- one token, and what it holds
-pub data One {A : Type 0} (held : Tok → Option A) : Tokens → Tokens → A → Type 0 where
-  one : {t : Tok} {s : Span} {a : Tokens} {x : A} → held t ≡ Some x → One held ((t, s) ∷ a) a x
+-- the form, if that holds
+abbrev pub when : {A : Type 0} → Bool → Form A → Form A
+when true f = f
+when false f = nothing
 
--- an identifier, and where it stands
-pub data Ident : Tokens → Tokens → Text × Span → Type 0 where
-  ident_at : {x : Text} {s : Span} {a : Tokens} → Ident ((ident x, s) ∷ a) a (x, s)
+-- the first after this token, where it comes next, and else the second
+abbrev pub behind : {A : Type 0} → Tok → Form A → Form A → Form A
+behind m f g = either (is m) (next m >> f) g
 
--- `[ X { , X } [,] ]`, behind what was read so far
-abbrev pub Separated : {A : Type 0} → (Tok → Bool) → (A → Rule Tokens A) → A → Rule Tokens A
-Separated begins Turn = Items (comes begins) (at comma) (Next comma) Turn
+-- the span from the start of one to the end of another
+abbrev pub expanded : Span → Span → Span
+expanded s to = record s { end_line = to.end_line; end_col = to.end_col; end_offset = to.end_offset }
 
--- ---- names of filters and tests: Name = Ident { . Ident }
+-- what is made with the span from the start of one to the end of the token taken last
+abbrev pub spanned : {A : Type 0} → Span → (Span → A) → Form A
+spanned from make = do
+  to ← last
+  pure (make (expanded from to))
 
--- . Ident, behind a part of the name
-pub data NamePart (before : Span) : Tokens → Tokens → Span → Type 0 where
-  name_part : {x : Text × Span} {a b c : Tokens} → Next dot a b → Ident b c x → NamePart before a c x.1
+-- `[ X { , X } [,] ]`, where an X takes what was read so far: a comma that no X follows is the last one
+abbrev pub items : {A : Type 0} → (Tok → Bool) → (A → Form A) → A → Form A
+items begins part x =
+    either begins (part x >>= many (span_of_mark comma) (λ y _. either begins (part y >>= (λ z. pure (go_on z))) (pure (over y)))) (pure x)
 
-pub data NameOf (source : Text) : Tokens → Tokens → Text → Type 0 where
-  one_part : {x : Text × Span} {a b : Tokens} → Ident a b x → at dot b ≡ false → NameOf source a b x.0
-  dotted : {x : Text × Span} {last : Span} {a b c : Tokens} →
-      Ident a b x → at dot b ≡ true → Many (at dot) NamePart x.1 b c last → NameOf source a c (slice source x.1.start_offset last.end_offset)
+-- the name of an expression that is a variable
+abbrev pub name_of_variable : {C : Type 0} → Expr C → Option Text
+name_of_variable (variable x s) = Some x
+name_of_variable _ = None
+
+-- ---- names of filters and tests
+
+-- . Ident
+unfoldable pub name_part : Span → Span → Form (Turn Span)
+name_part before at = do
+  x ← one ident_and_span
+  pure (go_on x.1)
+
+-- { . Ident }, after the first part: where the last one stands
+unfoldable pub name_parts : Span → Form Span
+name_parts at = many (span_of_mark dot) name_part at
+
+-- Name = Ident { . Ident }: with a dot, the source from the start of the first part to the end of the last one
+unfoldable pub name : Form Text
+name = do
+  x ← one ident_and_span
+  either (is dot)
+      (do
+        to ← name_parts x.1
+        text ← source
+        pure (slice text x.1.start_offset to.end_offset))
+      (pure x.0)
 
 -- ---- primaries
 
--- String, behind the strings so far
-pub data Neighbour (before : Text) : Tokens → Tokens → Text → Type 0 where
-  neighbour : {t : Text} {a b : Tokens} → One text_of a b t → Neighbour before a b (before ++ t)
+unfoldable pub word : {C F : Type 0} → Functions C F → Text → Span → Expr C
+word f x s =
+    if is_true_word x then constant (f.of_bool true) s
+    else if is_false_word x then constant (f.of_bool false) s
+    else if is_none_word x then constant f.none s
+    else variable x s
 
--- Expr : Expr
-pub data EntryOf {C : Type 0} (Expr' : Rule Tokens (Expr C)) : Tokens → Tokens → Expr C × Expr C → Type 0 where
-  entry : {k v : Expr C} {a b c d : Tokens} → Expr' a b k → Next colon b c → Expr' c d v → EntryOf Expr' a d (k, v)
+-- String { String }, after the first: neighbours join
+unfoldable pub texts : {C F : Type 0} → Functions C F → Span → Text → Form (Expr C)
+texts f from t = do
+  whole ← many (held text_of) (λ t u. pure (go_on (t ++ u))) t
+  spanned from (constant (f.of_str whole))
 
-pub data PrimaryOf {C F : Type 0} (f : Functions C F) (Expr' : Rule Tokens (Expr C)) : Tokens → Tokens → Expr C → Type 0 where
-  -- "true" | "True" | "false" | "False" | "none" | "None"
-  lower_true : {a b : Tokens} → Next (ident (codes "true")) a b → PrimaryOf f Expr' a b (constant (f.of_bool true))
-  upper_true : {a b : Tokens} → Next (ident (codes "True")) a b → PrimaryOf f Expr' a b (constant (f.of_bool true))
-  lower_false : {a b : Tokens} → Next (ident (codes "false")) a b → PrimaryOf f Expr' a b (constant (f.of_bool false))
-  upper_false : {a b : Tokens} → Next (ident (codes "False")) a b → PrimaryOf f Expr' a b (constant (f.of_bool false))
-  lower_none : {a b : Tokens} → Next (ident (codes "none")) a b → PrimaryOf f Expr' a b (constant f.none)
-  upper_none : {a b : Tokens} → Next (ident (codes "None")) a b → PrimaryOf f Expr' a b (constant f.none)
-  -- Ident: any other is a variable
-  name : {x : Text} {a b : Tokens} → Next (ident x) a b → is_constant_word x ≡ false → PrimaryOf f Expr' a b (variable x)
-  -- String { String }: neighbours join
-  text : {t : Text} {a b : Tokens} → Chain (One text_of) (holds text_of) Neighbour a b t → PrimaryOf f Expr' a b (constant (f.of_str t))
-  -- Int | Int128
-  integer : {n : ℕ} {a b : Tokens} → One integer_of a b n → PrimaryOf f Expr' a b (constant (f.of_u64 n))
-  large_integer : {n : ℕ} {a b : Tokens} → One large_integer_of a b n → PrimaryOf f Expr' a b (constant (f.of_u128 n))
-  -- ( )
-  unit : {a b c : Tokens} → Next paren_open a b → Next paren_close b c → PrimaryOf f Expr' a c (tuple (exprs_of []))
-  -- ( Expr )
-  group : {e : Expr C} {a b c d : Tokens} → Next paren_open a b → Expr' b c e → Next paren_close c d → PrimaryOf f Expr' a d e
-  -- ( Expr , [ Expr { , Expr } [,] ] )
-  several : {e : Expr C} {es : List (Expr C)} {a b c d g h : Tokens} →
-      Next paren_open a b → Expr' b c e → Next comma c d → Separated begins_expr (Also Expr') (e ∷ []) d g es → Next paren_close g h →
-      PrimaryOf f Expr' a h (tuple (exprs_of es))
-  -- [ [ Expr { , Expr } [,] ] ], whose outer brackets are tokens
-  in_brackets : {es : List (Expr C)} {a b c d : Tokens} →
-      Next bracket_open a b → Separated begins_expr (Also Expr') [] b c es → Next bracket_close c d → PrimaryOf f Expr' a d (list (exprs_of es))
-  -- { [ Expr : Expr { , Expr : Expr } [,] ] }, whose braces are tokens
-  in_braces : {kvs : List (Expr C × Expr C)} {a b c d : Tokens} →
-      Next brace_open a b → Separated begins_expr (Also (EntryOf Expr')) [] b c kvs → Next brace_close c d →
-      PrimaryOf f Expr' a d (tree.map (exprs_of (map (λ kv. kv.0) kvs)) (exprs_of (map (λ kv. kv.1) kvs)))
-
--- ---- arguments
-
-abbrev pub is_variable : {C : Type 0} → Expr C → Bool
-is_variable (variable x) = true
-is_variable _ = false
-
--- Arg = Expr | Expr = Expr | * Expr | ** Expr, where the Expr before a `=` is a variable
-pub data ArgOf {C : Type 0} (Expr' : Rule Tokens (Expr C)) : Tokens → Tokens → Arg C → Type 0 where
-  plain : {e : Expr C} {a b : Tokens} → Expr' a b e → is_variable e && at assign b ≡ false → ArgOf Expr' a b (positional e)
-  named : {x : Text} {e : Expr C} {a b c d : Tokens} → Expr' a b (variable x) → Next assign b c → Expr' c d e → ArgOf Expr' a d (keyword x e)
-  splat : {e : Expr C} {a b c : Tokens} → Next mul a b → Expr' b c e → ArgOf Expr' a c (starred e)
-  named_splat : {e : Expr C} {a b c : Tokens} → Next pow a b → Expr' b c e → ArgOf Expr' a c (double_starred e)
+-- ---- which arguments may stand together
 
 abbrev pub is_plain : {C : Type 0} → Arg C → Bool
 is_plain (positional e) = true
@@ -134,197 +120,349 @@ abbrev pub has_named : {C : Type 0} → List (Arg C) → Bool
 has_named [] = false
 has_named (x ∷ xs) = is_named x || has_named xs
 
-abbrev pub max_args : ℕ
-max_args = 2000
+-- no plain argument after a keyword argument or a **, and no argument after the most that a call may have
+abbrev pub is_allowed : {C : Type 0} → List (Arg C) → Arg C → Bool
+is_allowed xs x = not (is_plain x && has_named xs) && nat_lt (length xs) most_arguments
 
--- one Arg behind those so far: no plain one after a keyword argument or a `**`, and 2000 at most
-pub data AlsoArg {C : Type 0} (Arg' : Rule Tokens (Arg C)) (xs : List (Arg C)) : Tokens → Tokens → List (Arg C) → Type 0 where
-  also_arg : {x : Arg C} {a b : Tokens} →
-      Arg' a b x → is_plain x && has_named xs ≡ false → length xs < max_args → AlsoArg Arg' xs a b (xs ++ x ∷ [])
+module _ {C : Type 0} (expr : Form (Expr C)) where
+  unfoldable pub also : List (Expr C) → Form (List (Expr C))
+  also es = do
+    e ← expr
+    pure (es ++ e ∷ [])
 
--- Args = ( [ Arg { , Arg } [,] ] ), whose parentheses are tokens
-pub data ArgsOf {C : Type 0} (Expr' : Rule Tokens (Expr C)) : Tokens → Tokens → List (Arg C) → Type 0 where
-  arguments : {xs : List (Arg C)} {a b c d : Tokens} →
-      Next paren_open a b → Separated begins_arg (AlsoArg (ArgOf Expr')) [] b c xs → Next paren_close c d → ArgsOf Expr' a d xs
+  -- Expr { , Expr } [,], if one begins
+  unfoldable pub exprs : List (Expr C) → Form (List (Expr C))
+  exprs = items begins_expr also
 
--- ---- operands
+  -- after ( and an Expr: the Expr itself, or a tuple where a comma follows
+  unfoldable pub rest_of_group : Span → Expr C → Form (Expr C)
+  rest_of_group from e = behind comma
+      (do
+        es ← exprs (e ∷ [])
+        next paren_close
+        spanned from (tuple (exprs_of es)))
+      (do
+        next paren_close
+        pure e)
 
--- [ : [Expr] ], the last part of a slice
-pub data StepOf {C : Type 0} (Expr' : Rule Tokens (Expr C)) : Tokens → Tokens → Option (Expr C) → Type 0 where
-  no_step : {a : Tokens} → at colon a ≡ false → StepOf Expr' a a None
-  step : {e : Option (Expr C)} {a b c : Tokens} → Next colon a b → Maybe (comes begins_expr) Expr' b c e → StepOf Expr' a c e
+  -- after (
+  unfoldable pub group : Span → Form (Expr C)
+  group from = behind paren_close (spanned from (tuple (exprs_of []))) (expr >>= rest_of_group from)
 
--- what follows an operand
-pub data PostfixOf {C F : Type 0} (f : Functions C F) (Expr' : Rule Tokens (Expr C)) (e : Expr C) : Tokens → Tokens → Expr C → Type 0 where
-  -- . Ident
-  attribute_named : {x : Text} {a b c : Tokens} → Next dot a b → Next (ident x) b c → PostfixOf f Expr' e a c (attribute e x)
-  -- . Int | . Int128
-  item_numbered : {n : ℕ} {a b c : Tokens} → Next dot a b → One integer_of b c n → PostfixOf f Expr' e a c (item e (constant (f.of_u64 n)))
-  item_numbered_large : {n : ℕ} {a b c : Tokens} →
-      Next dot a b → One large_integer_of b c n → PostfixOf f Expr' e a c (item e (constant (f.of_u128 n)))
-  -- [ Expr ], whose brackets are tokens
-  subscript : {i : Expr C} {a b c d : Tokens} →
-      Next bracket_open a b → Expr' b c i → Next bracket_close c d → PostfixOf f Expr' e a d (item e i)
-  -- [ [Expr] : [Expr] [ : [Expr] ] ], whose outer brackets are tokens
-  range : {start stop step : Option (Expr C)} {a b c d g h i : Tokens} →
-      Next bracket_open a b → Maybe (comes begins_expr) Expr' b c start → Next colon c d → Maybe (comes begins_expr) Expr' d g stop →
-      StepOf Expr' g h step → Next bracket_close h i →
-      PostfixOf f Expr' e a i (tree.slice e (optional_of start) (optional_of stop) (optional_of step))
-  -- Args
-  called : {xs : List (Arg C)} {a b : Tokens} → ArgsOf Expr' a b xs → PostfixOf f Expr' e a b (call e (args_of xs))
+  -- after [
+  unfoldable pub in_brackets : Span → Form (Expr C)
+  in_brackets from = do
+    es ← exprs []
+    next bracket_close
+    spanned from (list (exprs_of es))
 
--- Operand = - Operand | Primary { Postfix }
-pub data OperandOf {C : Type 0} (Primary : Rule Tokens (Expr C)) (Postfix : Expr C → Rule Tokens (Expr C)) :
-    Tokens → Tokens → Expr C → Type 0 where
-  negated : {e : Expr C} {a b c : Tokens} → Next minus a b → OperandOf Primary Postfix b c e → OperandOf Primary Postfix a c (unary negation e)
-  postfixed : {e : Expr C} {a b : Tokens} → Chain Primary (comes begins_postfix) Postfix a b e → OperandOf Primary Postfix a b e
+  -- Expr : Expr, after the keys and the values so far
+  unfoldable pub entry : List (Expr C) × List (Expr C) → Form (List (Expr C) × List (Expr C))
+  entry kvs = do
+    k ← expr
+    next colon
+    v ← expr
+    pure (kvs.0 ++ k ∷ [], kvs.1 ++ v ∷ [])
 
--- ---- filters and tests
+  -- [ Expr : Expr { , Expr : Expr } [,] ], after the keys and the values so far
+  unfoldable pub entries : List (Expr C) × List (Expr C) → Form (List (Expr C) × List (Expr C))
+  entries = items begins_expr entry
 
--- [Args | Operand], behind the name of a test
-pub data TestArgsOf {C : Type 0} (Args' : Rule Tokens (List (Arg C))) (Operand : Rule Tokens (Expr C)) :
-    Tokens → Tokens → List (Arg C) → Type 0 where
-  in_parens : {xs : List (Arg C)} {a b : Tokens} → Args' a b xs → TestArgsOf Args' Operand a b xs
-  bare : {e : Expr C} {a b : Tokens} → comes begins_bare a ≡ true → Operand a b e → TestArgsOf Args' Operand a b (positional e ∷ [])
-  no_arguments : {a : Tokens} → at paren_open a ≡ false → comes begins_bare a ≡ false → TestArgsOf Args' Operand a a []
+  -- after {
+  unfoldable pub in_braces : Span → Form (Expr C)
+  in_braces from = do
+    kvs ← entries ([], [])
+    next brace_close
+    spanned from (tree.map (exprs_of kvs.0) (exprs_of kvs.1))
 
--- Name [Args | Operand], the test of e
-pub data NamedTestOf {C : Type 0} (Name : Rule Tokens Text) (Args' : Rule Tokens (List (Arg C))) (Operand : Rule Tokens (Expr C)) (e : Expr C) :
-    Tokens → Tokens → Expr C → Type 0 where
-  named_test : {x : Text} {xs : List (Arg C)} {a b c : Tokens} →
-      Name a b x → TestArgsOf Args' Operand b c xs → NamedTestOf Name Args' Operand e a c (test e x (args_of xs))
+  abbrev pub begun : {F : Type 0} → Functions C F → SpannedTok → Form (Expr C)
+  begun f (ident x, s) = pure (word f x s)
+  begun f (str t, s) = texts f s t
+  begun f (string t, s) = texts f s t
+  begun f (int n, s) = pure (constant (f.of_u64 n) s)
+  begun f (int128 n, s) = pure (constant (f.of_u128 n) s)
+  begun f (paren_open, s) = group s
+  begun f (bracket_open, s) = in_brackets s
+  begun f (brace_open, s) = in_braces s
+  begun f _ = nothing
 
-pub data SuffixOf {C : Type 0} (Name : Rule Tokens Text) (Args' : Rule Tokens (List (Arg C))) (Operand : Rule Tokens (Expr C)) (e : Expr C) :
-    Tokens → Tokens → Expr C → Type 0 where
-  -- | Name [Args]
-  filtered : {x : Text} {xs : Option (List (Arg C))} {a b c d : Tokens} →
-      Next pipe a b → Name b c x → Maybe (at paren_open) Args' c d xs → SuffixOf Name Args' Operand e a d (filter (present e) x (given_args xs))
-  -- "is" ["not"] Name [Args | Operand]
-  tested : {t : Expr C} {a b c : Tokens} →
-      Next is_word a b → at not_word b ≡ false → NamedTestOf Name Args' Operand e b c t → SuffixOf Name Args' Operand e a c t
-  tested_not : {t : Expr C} {a b c d : Tokens} →
-      Next is_word a b → Next not_word b c → NamedTestOf Name Args' Operand e c d t → SuffixOf Name Args' Operand e a d (unary logical_not t)
+  unfoldable pub primary : {F : Type 0} → Functions C F → Form (Expr C)
+  primary f = one (of_kind begins_primary) >>= begun f
 
--- Unary = Operand { | Name [Args] | "is" ["not"] Name [Args | Operand] }
-abbrev pub UnaryOf : {C : Type 0} → Rule Tokens Text → Rule Tokens (List (Arg C)) → Rule Tokens (Expr C) → Rule Tokens (Expr C)
-UnaryOf Name Args' Operand = Chain Operand (comes begins_suffix) (SuffixOf Name Args' Operand)
+  -- ---- arguments
+
+  -- after an Expr that neither a * nor a ** precedes: before a = stands a variable
+  abbrev pub rest_of_arg : Expr C → Form (Arg C)
+  rest_of_arg (variable x s) = behind assign (expr >>= (λ e. pure (keyword x e))) (pure (positional (variable x s)))
+  rest_of_arg e = pure (positional e)
+
+  -- Arg = Expr | Expr = Expr | * Expr | ** Expr
+  unfoldable pub arg : Form (Arg C)
+  arg = behind mul (expr >>= (λ e. pure (starred e))) (behind pow (expr >>= (λ e. pure (double_starred e))) (expr >>= rest_of_arg))
+
+  -- one argument more
+  unfoldable pub also_arg : List (Arg C) → Form (List (Arg C))
+  also_arg xs = do
+    x ← arg
+    when (is_allowed xs x) (pure (xs ++ x ∷ []))
+
+  -- [ Arg { , Arg } [,] ], after those so far
+  unfoldable pub arg_items : List (Arg C) → Form (List (Arg C))
+  arg_items = items begins_arg also_arg
+
+  -- the rest of Args = ( [ Arg { , Arg } [,] ] ), after its (
+  unfoldable pub args : Form (List (Arg C))
+  args = do
+    xs ← arg_items []
+    next paren_close
+    pure xs
+
+  -- [Args]
+  abbrev pub maybe_args : Form (List (Arg C))
+  maybe_args = behind paren_open args (pure [])
+
+  -- ---- operands
+
+  -- [Expr]
+  abbrev pub maybe_expr : Form (Option (Expr C))
+  maybe_expr = either begins_expr (expr >>= (λ e. pure (Some e))) (pure None)
+
+  -- [ : [Expr] ], the last part of a slice
+  abbrev pub step : Form (Option (Expr C))
+  step = behind colon maybe_expr (pure None)
+
+  -- after [ [Expr] :
+  unfoldable pub range : Expr C → Span → Option (Expr C) → Form (Expr C)
+  range e from start' = do
+    stop ← maybe_expr
+    by ← step
+    next bracket_close
+    spanned from (tree.slice e (optional_of start') (optional_of stop) (optional_of by))
+
+  -- after [ Expr: an item, or a slice
+  unfoldable pub rest_of_subscript : Expr C → Span → Expr C → Form (Expr C)
+  rest_of_subscript e from i = behind colon (range e from (Some i)) (next bracket_close >> spanned from (item e i))
+
+  -- after [
+  unfoldable pub subscript : Expr C → Span → Form (Expr C)
+  subscript e from = behind colon (range e from None) (expr >>= rest_of_subscript e from)
+
+  -- after .
+  abbrev pub begins_member : Tok → Bool
+  begins_member (ident x) = true
+  begins_member (int n) = true
+  begins_member (int128 n) = true
+  begins_member _ = false
+
+  abbrev pub member_of : {F : Type 0} → Functions C F → Expr C → Span → SpannedTok → Form (Expr C)
+  member_of f e from (ident x, s) = spanned from (attribute e x)
+  member_of f e from (int n, s) = spanned from (item e (constant (f.of_u64 n) s))
+  member_of f e from (int128 n, s) = spanned from (item e (constant (f.of_u128 n) s))
+  member_of f e from _ = nothing
+
+  unfoldable pub member : {F : Type 0} → Functions C F → Expr C → Span → Form (Expr C)
+  member f e from = one (of_kind begins_member) >>= member_of f e from
+
+  -- Postfix, after its first token
+  abbrev pub postfix : {F : Type 0} → Functions C F → Expr C → Span → Tok → Form (Expr C)
+  postfix f e from dot = member f e from
+  postfix f e from bracket_open = subscript e from
+  postfix f e from _ = args >>= (λ xs. spanned from (call e (args_of xs)))
+
+  -- an operand so far, and where the next Postfix begins the node that it makes
+  abbrev pub postfix_turn : {F : Type 0} → Functions C F → Expr C × Span → SpannedTok → Form (Turn (Expr C × Span))
+  postfix_turn f e t = postfix f e.0 e.1 t.0 >>= (λ x. pure (go_on (x, t.1)))
+
+-- wrapped in an operator for each place where it stands, the last of them first, up to the end of the token taken last
+abbrev pub wrapped : {C : Type 0} → UnaryOp → Span → List Span → Expr C → Expr C
+wrapped o to [] e = e
+wrapped o to (s ∷ ss) e = wrapped o to ss (unary o e (expanded s to))
+
+-- { op } X
+abbrev pub prefixed : {C : Type 0} → Tok → UnaryOp → Form (Expr C) → Form (Expr C)
+prefixed m o f = do
+  ss ← many (span_of_mark m) (λ ss s. pure (go_on (s ∷ ss))) []
+  e ← f
+  to ← last
+  pure (wrapped o to ss e)
+
+module _ {C F : Type 0} (f : Functions C F) (expr prim : Form (Expr C)) where
+  unfoldable pub postfixed : Form (Expr C)
+  postfixed = do
+    from ← start
+    e ← prim
+    whole ← many (of_kind begins_postfix) (postfix_turn expr f) (e, from)
+    pure whole.0
+
+  -- Operand = { - } Primary { Postfix }
+  unfoldable pub operand : Form (Expr C)
+  operand = prefixed minus negation postfixed
+
+  -- ---- filters and tests
+
+  -- [Args | Operand], after the name of a test
+  unfoldable pub test_args : Form (List (Arg C))
+  test_args = behind paren_open (args expr) (either begins_bare (operand >>= (λ e. pure (positional e ∷ []))) (pure []))
+
+  -- Name [Args | Operand], the test of e
+  unfoldable pub named_test : Expr C → Form (Expr C)
+  named_test e = do
+    from ← start
+    x ← name
+    xs ← test_args
+    spanned from (test e x (args_of xs))
+
+  -- after "is"
+  unfoldable pub any_test : Expr C → Form (Expr C)
+  any_test e = behind not_word
+      (do
+        from ← start
+        t ← named_test e
+        spanned from (unary logical_not t))
+      (named_test e)
+
+  -- after |
+  unfoldable pub filtered : Expr C → Form (Expr C)
+  filtered e = do
+    from ← start
+    x ← name
+    xs ← maybe_args expr
+    spanned from (filter (present e) x (args_of xs))
+
+  -- what follows the first token of a filter or a test
+  abbrev pub suffix : Expr C → Tok → Form (Expr C)
+  suffix e pipe = filtered e
+  suffix e _ = any_test e
+
+  abbrev pub suffix_turn : Expr C → SpannedTok → Form (Turn (Expr C))
+  suffix_turn e t = suffix e t.0 >>= (λ x. pure (go_on x))
+
+  -- Unary = Operand { | Name [Args] | "is" ["not"] Name [Args | Operand] }
+  unfoldable pub unary_level : Form (Expr C)
+  unary_level = operand >>= many (of_kind begins_suffix) suffix_turn
 
 -- ---- operators of two sides
 
 -- X { op X }, grouped to the left
-abbrev pub BinaryOf : {C : Type 0} → (Tok → Option BinOp) → Rule Tokens (Expr C) → Rule Tokens (Expr C)
-BinaryOf op X = Level (holds op) (One op) X binary
-
--- CmpOp = == | != | < | <= | > | >= | "in" | "not" "in"
-pub data CmpOp : Tokens → Tokens → CompareOp → Type 0 where
-  of_one : {o : CompareOp} {a b : Tokens} → One compare_op a b o → CmpOp a b o
-  not_in : {a b c : Tokens} → Next not_word a b → Next in_word b c → CmpOp a c cmp.not_in
-
--- CmpOp Sum
-pub data ComparisonOf {C : Type 0} (Sum : Rule Tokens (Expr C)) : Tokens → Tokens → CompareOp × Expr C → Type 0 where
-  comparison : {o : CompareOp} {e : Expr C} {a b c : Tokens} → CmpOp a b o → Sum b c e → ComparisonOf Sum a c (o, e)
+unfoldable pub level : {C : Type 0} → (Tok → Option BinOp) → Form (Expr C) → Form (Expr C)
+level op f = do
+  from ← start
+  l ← f
+  many (held op) (λ l o. f >>= (λ r. spanned from (λ s. go_on (binary o l r s)))) l
 
 -- one comparison
-abbrev pub compare_two : {C : Type 0} → CompareOp → Expr C → Expr C → Expr C
-compare_two cmp.eq l r = binary bin.eq l r
-compare_two cmp.ne l r = binary bin.ne l r
-compare_two cmp.lt l r = binary bin.lt l r
-compare_two cmp.lte l r = binary bin.lte l r
-compare_two cmp.gt l r = binary bin.gt l r
-compare_two cmp.gte l r = binary bin.gte l r
-compare_two cmp.is_in l r = binary bin.is_in l r
-compare_two cmp.not_in l r = unary logical_not (binary bin.is_in l r)
+abbrev pub compare_two : {C : Type 0} → Span → CompareOp → Expr C → Expr C → Expr C
+compare_two s cmp.eq l r = binary bin.eq l r s
+compare_two s cmp.ne l r = binary bin.ne l r s
+compare_two s cmp.lt l r = binary bin.lt l r s
+compare_two s cmp.lte l r = binary bin.lte l r s
+compare_two s cmp.gt l r = binary bin.gt l r s
+compare_two s cmp.gte l r = binary bin.gte l r s
+compare_two s cmp.is_in l r = binary bin.is_in l r s
+compare_two s cmp.not_in l r = unary logical_not (binary bin.is_in l r s) s
 
 -- none is the operand, and two or more are a chain
-abbrev pub compare_all : {C : Type 0} → Expr C → List (CompareOp × Expr C) → Expr C
-compare_all e [] = e
-compare_all e (c ∷ []) = compare_two c.0 e c.1
-compare_all e (c ∷ d ∷ cs) = compare e (comparisons_of (c ∷ d ∷ cs))
+abbrev pub compare_all : {C : Type 0} → Expr C → List (CompareOp × Expr C) → Span → Expr C
+compare_all e [] s = e
+compare_all e (c ∷ []) s = compare_two s c.0 e c.1
+compare_all e (c ∷ d ∷ cs) s = compare e (comparisons_of (c ∷ d ∷ cs)) s
+
+-- CmpOp = == | != | < | <= | > | >= | "in" | "not" "in", after its first token
+abbrev pub compare_operator : Option CompareOp → Form CompareOp
+compare_operator (Some o) = pure o
+compare_operator None = next in_word >> pure cmp.not_in
+
+unfoldable pub comparison : {C : Type 0} → Form (Expr C) → List (CompareOp × Expr C) → SpannedTok → Form (Turn (List (CompareOp × Expr C)))
+comparison sum cs t = do
+  o ← compare_operator (compare_op t.0)
+  e ← sum
+  pure (go_on (cs ++ (o, e) ∷ []))
 
 -- Cmp = Sum { CmpOp Sum }
-pub data CmpOf {C : Type 0} (Sum : Rule Tokens (Expr C)) : Tokens → Tokens → Expr C → Type 0 where
-  comparisons : {e : Expr C} {cs : List (CompareOp × Expr C)} {a b c : Tokens} →
-      Sum a b e → Row (comes begins_comparison) (ComparisonOf Sum) b c cs → CmpOf Sum a c (compare_all e cs)
-
--- Not = "not" Not | Cmp, and Cmp only where its first token isn't "not"
-pub data NotOf {C : Type 0} (Cmp : Rule Tokens (Expr C)) : Tokens → Tokens → Expr C → Type 0 where
-  denied : {e : Expr C} {a b c : Tokens} → Next not_word a b → NotOf Cmp b c e → NotOf Cmp a c (unary logical_not e)
-  affirmed : {e : Expr C} {a b : Tokens} → at not_word a ≡ false → Cmp a b e → NotOf Cmp a b e
+unfoldable pub compared_level : {C : Type 0} → Form (Expr C) → Form (Expr C)
+compared_level sum = do
+  from ← last
+  e ← sum
+  cs ← many (of_kind begins_comparison) (comparison sum) []
+  spanned from (compare_all e cs)
 
 -- ---- if expressions
 
-mutual
-  -- Cond = Or { "if" Or [ "else" Cond ] }
-  pub data CondOf {C : Type 0} (Or : Rule Tokens (Expr C)) : Tokens → Tokens → Expr C → Type 0 where
-    cond : {e t : Expr C} {a b c : Tokens} → Or a b e → IfsOf Or e b c t → CondOf Or a c t
+-- What is read of an if expression: the parts that wait for their else part, the latest first, each with where it begins, its
+-- true part and its test; the part that is being read, and where it begins.
+pub record Ifs (C : Type 0) : Type 0 where
+  pub waiting : List (Span × Expr C × Expr C)
+  pub now : Expr C
+  pub from : Span
 
-  -- { "if" Or [ "else" Cond ] }, behind the true part
-  pub data IfsOf {C : Type 0} (Or : Rule Tokens (Expr C)) : Expr C → Tokens → Tokens → Expr C → Type 0 where
-    no_if : {e : Expr C} {a : Tokens} → at if_word a ≡ false → IfsOf Or e a a e
-    if_only : {e test' t : Expr C} {a b c d : Tokens} →
-        Next if_word a b → Or b c test' → at else_word c ≡ false → IfsOf Or (if_expr test' e absent) c d t → IfsOf Or e a d t
-    if_else : {e test' other t : Expr C} {a b c d g h : Tokens} →
-        Next if_word a b → Or b c test' → Next else_word c d → CondOf Or d g other →
-        IfsOf Or (if_expr test' e (present other)) g h t → IfsOf Or e a h t
+-- the else part of each that waits is what follows it
+abbrev pub closed : {C : Type 0} → Span → List (Span × Expr C × Expr C) → Expr C → Expr C
+closed to [] e = e
+closed to (w ∷ ws) e = closed to ws (if_expr w.2 w.1 (present e) (expanded w.0 to))
 
--- ---- the levels, over the expressions and primaries that are nested in them
+-- after "if": a test, and "else" with the true part of what follows it, if it comes
+unfoldable pub if_turn : {C : Type 0} → Form (Expr C) → Ifs C → Span → Form (Turn (Ifs C))
+if_turn or c at = do
+  t ← or
+  to ← last
+  either (is else_word)
+      (do
+        s ← next else_word
+        e ← or
+        pure (go_on (record { waiting = (c.from, c.now, t) ∷ c.waiting; now = e; from = s })))
+      (pure (go_on (record { waiting = c.waiting; now = if_expr t c.now absent (expanded c.from to); from = to })))
 
-module _ {C F : Type 0} (f : Functions C F) (source : Text) (Expr' Primary : Rule Tokens (Expr C)) where
-  abbrev pub Operand : Rule Tokens (Expr C)
-  Operand = OperandOf Primary (PostfixOf f Expr')
+-- Cond = Or { "if" Or [ "else" Cond ] }: an else part takes all ifs that follow it
+unfoldable pub cond : {C : Type 0} → Form (Expr C) → Form (Expr C)
+cond or = do
+  from ← last
+  e ← or
+  c ← many (span_of_mark if_word) (if_turn or) (record { waiting = []; now = e; from = from })
+  to ← last
+  pure (closed to c.waiting c.now)
 
-  abbrev pub Unary : Rule Tokens (Expr C)
-  Unary = UnaryOf (NameOf source) (ArgsOf Expr') Operand
+-- ---- the levels
 
+module _ {C F : Type 0} (f : Functions C F) (expr prim : Form (Expr C)) where
   -- Pow = Unary { ** Unary }
-  abbrev pub Pow : Rule Tokens (Expr C)
-  Pow = BinaryOf pow_op Unary
+  abbrev pub pow_level : Form (Expr C)
+  pow_level = level pow_op (unary_level f expr prim)
 
   -- Term = Pow { (* | / | // | %) Pow }
-  abbrev pub Term : Rule Tokens (Expr C)
-  Term = BinaryOf term_op Pow
+  abbrev pub term_level : Form (Expr C)
+  term_level = level term_op pow_level
 
   -- Cat = Term { ~ Term }
-  abbrev pub Cat : Rule Tokens (Expr C)
-  Cat = BinaryOf cat_op Term
+  abbrev pub cat_level : Form (Expr C)
+  cat_level = level cat_op term_level
 
   -- Sum = Cat { (+ | -) Cat }
-  abbrev pub Sum : Rule Tokens (Expr C)
-  Sum = BinaryOf sum_op Cat
+  abbrev pub sum_level : Form (Expr C)
+  sum_level = level sum_op cat_level
 
-  abbrev pub Cmp : Rule Tokens (Expr C)
-  Cmp = CmpOf Sum
-
-  abbrev pub Not : Rule Tokens (Expr C)
-  Not = NotOf Cmp
+  -- Not = { "not" } Cmp
+  abbrev pub not_level : Form (Expr C)
+  not_level = prefixed not_word logical_not (compared_level sum_level)
 
   -- And = Not { "and" Not }
-  abbrev pub And : Rule Tokens (Expr C)
-  And = BinaryOf and_op Not
+  abbrev pub and_level : Form (Expr C)
+  and_level = level and_op not_level
 
   -- Or = And { "or" And }
-  abbrev pub Or : Rule Tokens (Expr C)
-  Or = BinaryOf or_op And
-
-  -- Expr = Cond
-  abbrev pub Cond : Rule Tokens (Expr C)
-  Cond = CondOf Or
+  abbrev pub or_level : Form (Expr C)
+  or_level = level or_op and_level
 
 -- ---- depth: each nested Expr and Primary counts 1
 
 unfoldable mutual
   -- the expressions of a depth of at most the number
-  pub ExprAt : {C F : Type 0} → Functions C F → Text → ℕ → Rule Tokens (Expr C)
-  ExprAt f source zero = Nothing
-  ExprAt f source (suc d) = Cond f source (ExprAt f source d) (PrimaryAt f source d)
+  pub expr_at : {C F : Type 0} → Functions C F → ℕ → Form (Expr C)
+  expr_at f zero = nothing
+  expr_at f (suc d) = cond (or_level f (expr_at f d) (primary_at f d))
 
-  pub PrimaryAt : {C F : Type 0} → Functions C F → Text → ℕ → Rule Tokens (Expr C)
-  PrimaryAt f source zero = Nothing
-  PrimaryAt f source (suc d) = PrimaryOf f (ExprAt f source d)
+  pub primary_at : {C F : Type 0} → Functions C F → ℕ → Form (Expr C)
+  primary_at f zero = nothing
+  primary_at f (suc d) = primary (expr_at f d) f
 
 abbrev pub max_depth : ℕ
 max_depth = 150
-
--- all of the tokens are one expression of depth at most 150, whose tree is t
-abbrev pub IsExprOf : {C F : Type 0} → Functions C F → Text → Tokens → Expr C → Type 0
-IsExprOf f source ts t = ExprAt f source max_depth ts [] t

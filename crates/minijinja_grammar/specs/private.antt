@@ -1,2 +1,4 @@
--- What specifies private functions alone, and need not be believed.
-pub mod AtTokenStream
+-- What proofs and the contracts of private functions cite.
+pub mod Ensured
+pub mod Sound
+pub mod Climbing

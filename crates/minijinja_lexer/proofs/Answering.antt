@@ -6,7 +6,8 @@ use Rattle.minijinja_syntax.specs.declared.error.Error.{Error}
 use Rattle.minijinja_syntax.specs.declared.error.ErrorKind.{ErrorKind}
 use Rattle.minijinja_syntax.specs.declared.error.ErrorKind.TheVariants.{OutOfMemory}
 use Rattle.minijinja_syntax.specs.declared.tokens.Span.{Span}
-use Rattle.minijinja_lexer.specs.Stream.{Stream, ended, refused, out_of_memory, NeedsMemory, Refuses, RunsOut}
+use Rattle.minijinja_syntax.specs.Streams.{Stream, ended, refused}
+use Rattle.minijinja_lexer.specs.Stream.{out_of_memory, NeedsMemory, Refuses, RunsOut}
 
 pub refuses : (old : Stream) (e : Error) (k : ErrorKind) (span : Option Span) → old ≡ ended (refused k span) → kind_of e ≡ k → span_of e ≡ span → Refuses old e (ended (refused k span))
 refuses old e k span is kind place = record {

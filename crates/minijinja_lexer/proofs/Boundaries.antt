@@ -39,7 +39,7 @@ trim_start_boundary bs rest u ur n e =
     (λ (h : length bs ≤ n). let k : length bs - length rest ≡ length bs = omega (arith, l) in subst IsUtf8 (e ∙ drop_all n bs h ∙ sym (drop_all (length bs) bs (omega arith)) ∙ ap (λ m. drop m bs) (sym k)) ur)
     (cases_lt n (length bs)))
 
--- behind a control, if one stands there
+-- after a control, if one stands there
 pub control_boundary : (bs : Text) (n : ℕ) → IsUtf8 bs → IsCharBoundary bs n → IsCharBoundary bs (n + control_len (control_of (get_or bs n 0)))
 control_boundary bs n u h = either (eqb (get_or bs n 0) 45) (eqb (get_or bs n 0) 43) refl refl
   where
@@ -59,7 +59,7 @@ line_boundary bs (suc n) u h =
     let z : (get_or bs n 0 == 10) ≡ ((suc n == 0) || (get_or bs n 0 == 10)) = sym (ap (λ w. w || (get_or bs n 0 == 10)) g) in
     rw (← f) (after_byte bs n 10 u (eqb-true (get_or bs n 0) 10 (z ∙ h')) (lit< tt) (lit< tt))
 
--- behind a marker's control
+-- after a marker's control
 pub behind_boundary : (bs : Text) (n : ℕ) (m : StartMarker) → IsUtf8 bs → IsCharBoundary bs n → IsCharBoundary bs (n + control_len (control_behind bs n m))
 behind_boundary bs n markers.Variable u h = control_boundary bs n u h
 behind_boundary bs n markers.Block u h = control_boundary bs n u h

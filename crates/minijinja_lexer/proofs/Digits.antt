@@ -37,7 +37,7 @@ taken_low radix b h = grind (arith, nat_tests)
 taken_boundary : (radix : ℕ) (text : Text) → IsUtf8 text → IsCharBoundary text (taken_len radix text)
 taken_boundary radix text u = ascii_run (is_taken radix) text (taken_low radix) u (prefix_len-le-length (is_taken radix) text)
 
--- behind the last byte the digits read write what all digits do
+-- after the last byte the digits read write what all digits do
 pub value_whole : (radix value k : ℕ) (taken : Text) → length taken ≤ k
     → digits_value radix (digits_of taken) ≡ digits_value_after radix value (digits_of (drop k taken)) → digits_value radix (digits_of taken) ≡ value
 value_whole radix value k taken le e = e ∙ ap (λ t. digits_value_after radix value (digits_of t)) (drop_of_length-le taken le)

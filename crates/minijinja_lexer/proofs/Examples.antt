@@ -10,7 +10,7 @@ use Rattle.minijinja_syntax.specs.Markers.{starts_line, marker_at, next_marker}
 use Rattle.minijinja_syntax.specs.Tokens.{template_data, variable_start, variable_end, block_start, block_end, ident, str, string, int, int128, dot, colon, assign, bracket_open, bracket_close, paren_open, brace_open, brace_close}
 use Rattle.minijinja_syntax.specs.declared.tokens.Span.{Span}
 use Rattle.minijinja_syntax.specs.declared.error.ErrorKind.TheVariants.{SyntaxError, BadEscape}
-use Rattle.minijinja_lexer.specs.Stream.{finished, refused}
+use Rattle.minijinja_syntax.specs.Streams.{finished, refused}
 use Rattle.minijinja_lexer.specs.TokenAt.{token_front, token_at}
 use Rattle.minijinja_lexer.specs.Symbols.{symbol_front}
 use Rattle.minijinja_lexer.specs.Numbers.{number}
@@ -62,7 +62,7 @@ greeting : tokens_of_template default_syntax (codes "Hello {{ name }}!") ≡ rec
 unfolding reading
 greeting = refl
 
--- a - in an end belongs to its span, and the whitespace behind it goes
+-- a - in an end belongs to its span, and the whitespace after it goes
 minus_at_an_end : tokens_of_template default_syntax (codes "{{ name -}}  x") ≡ record {
   tokens =
       (variable_start, on_first_line 0 2)
@@ -75,7 +75,7 @@ minus_at_an_end : tokens_of_template default_syntax (codes "{{ name -}}  x") ≡
 unfolding reading
 minus_at_an_end = refl
 
--- a - behind a marker belongs to its span, and is no minus
+-- a - after a marker belongs to its span, and is no minus
 minus_at_a_marker : tokens_of_template default_syntax (codes "{{-1}}") ≡ record {
   tokens = (variable_start, on_first_line 0 3) ∷ (int 1, on_first_line 3 4) ∷ (variable_end, on_first_line 4 6) ∷ [];
   ending = finished;
@@ -83,7 +83,7 @@ minus_at_a_marker : tokens_of_template default_syntax (codes "{{-1}}") ≡ recor
 unfolding reading
 minus_at_a_marker = refl
 
--- the only - of a comment belongs to its marker: the whitespace before it goes, and that behind the comment stays
+-- the only - of a comment belongs to its marker: the whitespace before it goes, and that after the comment stays
 comment : tokens_of_template default_syntax (codes "a {#-#} b") ≡ record {
   tokens = (template_data (codes "a"), on_first_line 0 1) ∷ (template_data (codes " b"), on_first_line 7 9) ∷ [];
   ending = finished;
@@ -119,7 +119,7 @@ large_integer = refl
 
 -- ---- line ends and whitespace before markers
 
--- trim_blocks: the line end behind a block tag goes
+-- trim_blocks: the line end after a block tag goes
 trimmed : tokens_of_template (record default_syntax { trim_blocks = true }) (codes "{% set a = 1 %}\r\nx") ≡ record {
   tokens =
       (block_start, on_first_line 0 2)
@@ -283,7 +283,7 @@ multi_byte = refl
 abbrev spaced_syntax : Syntax
 spaced_syntax = record default_syntax { variable_end = codes " }" }
 
--- such an end stands behind a -
+-- such an end stands after a -
 spaced_end : tokens_of_template spaced_syntax (codes "{{ x- }y") ≡ record {
   tokens =
       (variable_start, on_first_line 0 2)
@@ -322,7 +322,7 @@ bad_escape : tokens_of_template default_syntax (codes "{{ '\\q' }}") ≡ record 
 unfolding reading
 bad_escape = refl
 
--- a string with an escape is decoded, and a bad one behind it is refused
+-- a string with an escape is decoded, and a bad one after it is refused
 escapes : tokens_of_template default_syntax (codes "{{ '\\u0041' 'a\\qb' }}") ≡ record {
   tokens = (variable_start, on_first_line 0 2) ∷ (string (codes "A"), on_first_line 3 11) ∷ [];
   ending = refused BadEscape (Some (on_first_line 12 18));
@@ -330,7 +330,7 @@ escapes : tokens_of_template default_syntax (codes "{{ '\\u0041' 'a\\qb' }}") �
 unfolding reading
 escapes = refl
 
--- an underscore ends no number: it is refused behind what it takes
+-- an underscore ends no number: it is refused after what it takes
 last_underscore : tokens_of_template default_syntax (codes "{{ 1_ }}") ≡ record {
   tokens = (variable_start, on_first_line 0 2) ∷ [];
   ending = refused SyntaxError (Some (on_first_line 5 6));
@@ -338,7 +338,7 @@ last_underscore : tokens_of_template default_syntax (codes "{{ 1_ }}") ≡ recor
 unfolding reading
 last_underscore = refl
 
--- a float is refused behind its first digits
+-- a float is refused after its first digits
 float : tokens_of_template default_syntax (codes "{{ 1.5 }}") ≡ record {
   tokens = (variable_start, on_first_line 0 2) ∷ [];
   ending = refused SyntaxError (Some (on_first_line 4 5));
@@ -359,7 +359,7 @@ open_raw : tokens_of_template default_syntax (codes "{% raw %}x") ≡ record { t
 unfolding reading
 open_raw = refl
 
--- a comment without end is refused at the text's end, behind the data before it
+-- a comment without end is refused at the text's end, after the data before it
 open_comment : tokens_of_template default_syntax (codes "x{# a") ≡ record {
   tokens = (template_data (codes "x"), on_first_line 0 1) ∷ [];
   ending = refused SyntaxError (Some (on_first_line 5 6));
@@ -377,7 +377,7 @@ expression : tokens_of_expression default_syntax (codes "a.b") ≡ record {
 unfolding reading
 expression = refl
 
--- behind an end the text must be over
+-- after an end the text must be over
 expression_goes_on : tokens_of_expression default_syntax (codes "a}} b") ≡ record {
   tokens = (ident (codes "a"), on_first_line 0 1) ∷ (variable_end, on_first_line 1 3) ∷ [];
   ending = refused SyntaxError (Some (on_first_line 3 4));

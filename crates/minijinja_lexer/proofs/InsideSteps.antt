@@ -5,7 +5,8 @@ use Rattle.minijinja_syntax.specs.Syntax.{Syntax}
 use Rattle.minijinja_syntax.specs.Positions.{span_at}
 use Rattle.minijinja_syntax.specs.Tokens.{Tok}
 use Rattle.minijinja_syntax.specs.declared.tokens.Span.{Span}
-use Rattle.minijinja_lexer.specs.Stream.{Stream, before, NeedsMemory, OwnsMemory}
+use Rattle.minijinja_syntax.specs.Streams.{Stream, before}
+use Rattle.minijinja_lexer.specs.Stream.{NeedsMemory, OwnsMemory}
 use Rattle.minijinja_lexer.specs.private.Place.{Place}
 use Rattle.minijinja_lexer.specs.Brackets.{opened_by, shut_by}
 use Rattle.minijinja_lexer.specs.Cut.{turn_at}

@@ -252,7 +252,7 @@ segment_is s text at (tag k start body inner) built is = subst (λ a. segment_at
 segment_is s text at (unclosed_comment start) built is = subst (λ a. segment_at s text a ≡ unclosed_comment start) is.0 (unclosed_comment_is s text start built is.1)
 segment_is s text at (unclosed_raw start) built is = subst (λ a. segment_at s text a ≡ unclosed_raw start) is.0 (unclosed_raw_is s text start built is.1)
 
--- where a raw block ends, behind where it begins
+-- where a raw block ends, after where it begins
 pub passes_on : (s : Syntax) (text : Text) (from : ℕ) (ps : List ℕ) (to : ℕ) → PassesOver s text from ps to → from ≤ to
 passes_on s text from [] to is = omega (arith, is)
 passes_on s text from (p ∷ ps) to is = let m = passes_on s text (p + length s.block_start) ps to is.2 in let o = is.0.onwards in omega (arith, m, o)

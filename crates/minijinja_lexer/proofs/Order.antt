@@ -10,7 +10,7 @@ use Rattle.minijinja_syntax.specs.Tokens.{template_data}
 use Rattle.minijinja_syntax.specs.Markers.{marker_at}
 use Rattle.minijinja_syntax.specs.declared.syntax.StartMarker.{StartMarker}
 use Rattle.minijinja_syntax.specs.declared.syntax.StartMarker.TheVariants as markers
-use Rattle.minijinja_lexer.specs.Stream.{SpannedTok}
+use Rattle.minijinja_syntax.specs.Streams.{SpannedTok}
 use Rattle.minijinja_lexer.specs.Brackets.{opened_by, shut_by}
 use Rattle.minijinja_lexer.specs.Whitespace.{control_behind, kept_stop, kept_before, kept_len, is_line_cut, line_kept_len, body_of}
 use Rattle.minijinja_lexer.specs.Cut.{Segment, plain, comment, line_comment, raw, tag, unclosed_comment, unclosed_raw, marker_of, stop_of, close_stop, cut_at, inner_at}
@@ -56,7 +56,7 @@ kept_places s text start stop h w = by_marker (marker_at s text stop)
 
 -- ---- tags
 
--- what comes behind the end of a tag is in order from there, and behind a tag with no end comes nothing
+-- what comes after the end of a tag is in order from there, and after a tag with no end comes nothing
 Behind : Close → List SpannedTok → Type 0
 Behind (Closed start stop after) later = AreInOrder stop later
 Behind Broken later = later ≡ []
@@ -104,7 +104,7 @@ inner_in_order s text k o c at (l ∷ ls) close later is b =
 
 -- ---- segments
 
--- behind the end of the text comes no segment
+-- after the end of the text comes no segment
 cut_past : (s : Syntax) (text : Text) (gs : List Segment) → IsCut s text (length text) gs → flat_map (segment_tokens s text) gs ≡ []
 cut_past s text [] is = refl
 cut_past s text (g ∷ gs) is = let h = is.0 in absurd (omega (arith, h))
@@ -120,7 +120,7 @@ closed_on s text Variable at start stop after is = delimiter_on s text markers.V
 closed_on s text Block at start stop after is = delimiter_on s text markers.Block at start stop after is
 closed_on s text Line at start stop after is = let a = is.after_is in omega (arith, a)
 
--- the tokens behind a tag's end
+-- the tokens after a tag's end
 close_behind : (s : Syntax) (text : Text) (k : Tag) (o c at : ℕ) (close : Close) (gs : List Segment) → IsClose s text k o c at close → IsCut s text (close_stop (length text) close) gs → InOrderFrom s text gs → Behind close (flat_map (segment_tokens s text) gs)
 unfolding Behind InOrderFrom
 close_behind s text k o c at (Closed start stop after) gs is cut h = ⊎_elim

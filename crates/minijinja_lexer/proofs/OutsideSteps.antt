@@ -12,7 +12,7 @@ use Rattle.minijinja_syntax.specs.declared.error.ErrorKind.TheVariants.{SyntaxEr
 use Rattle.minijinja_syntax.specs.declared.syntax.StartMarker.{StartMarker}
 use Rattle.minijinja_syntax.proofs.Finding.{none_past}
 use Rattle.minijinja_syntax.proofs.Walking.{next_marker-here, next_marker-within, next_marker-stops}
-use Rattle.minijinja_lexer.specs.Stream.{before, ended, refused}
+use Rattle.minijinja_syntax.specs.Streams.{before, ended, refused}
 use Rattle.minijinja_lexer.specs.Faults.{fault_kind, Fault}
 use Rattle.minijinja_lexer.specs.private.Place.{Place}
 use Rattle.minijinja_lexer.specs.Whitespace.{kept_stop, kept_before, body_of, control_len, control_behind}

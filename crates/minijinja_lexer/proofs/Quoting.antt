@@ -13,7 +13,7 @@ use Rattle.minijinja_lexer.specs.Sorts.{Str, String}
 use Rattle.minijinja_lexer.specs.Faults.{UnterminatedString, BadEscape}
 use Rattle.minijinja_lexer.proofs.Scanning.{quoted_end, quoted_inside_places}
 
--- the end of the string stands behind the first `len` bytes
+-- the end of the string stands after the first `len` bytes
 pub record Before (quote : ℕ) (text : Text) (len : ℕ) : Type 0 where
   pub within : len ≤ length text
   pub left : quoted_len quote text ≡ len + quoted_len quote (drop len text)

@@ -5,7 +5,7 @@ use Rattle.minijinja_syntax.specs.Syntax.{Syntax}
 use Rattle.minijinja_syntax.specs.Positions.{slice, span_at}
 use Rattle.minijinja_syntax.specs.Tokens.{Tok, template_data}
 use Rattle.minijinja_syntax.specs.declared.tokens.Span.{Span}
-use Rattle.minijinja_lexer.specs.Stream.{SpannedTok}
+use Rattle.minijinja_syntax.specs.Streams.{SpannedTok}
 use Rattle.minijinja_lexer.specs.Slices.{IsRawText}
 use Rattle.minijinja_lexer.specs.Cut.{raw}
 use Rattle.minijinja_lexer.specs.private.Place.{Place}

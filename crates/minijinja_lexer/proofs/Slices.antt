@@ -9,7 +9,7 @@ use Rattle.minijinja_syntax.specs.Tokens.{template_data}
 use Rattle.minijinja_syntax.specs.Markers.{stands, marker_at}
 use Rattle.minijinja_syntax.specs.declared.syntax.StartMarker.{StartMarker}
 use Rattle.minijinja_syntax.specs.declared.syntax.StartMarker.TheVariants as markers
-use Rattle.minijinja_lexer.specs.Stream.{SpannedTok, Stream, ended, finished}
+use Rattle.minijinja_syntax.specs.Streams.{SpannedTok, Stream, ended, finished}
 use Rattle.minijinja_lexer.specs.TokenAt.{token_at}
 use Rattle.minijinja_lexer.specs.Escapes.{unescaped}
 use Rattle.minijinja_lexer.specs.Brackets.{opened_by, shut_by}
@@ -221,7 +221,7 @@ template_slices s source = cut_slices s (text_of s source) 0 0 (drop 0 (text_of 
 
 -- ---- expressions
 
--- behind an expression come no tokens
+-- after an expression come no tokens
 pub none_behind : (text : Text) (stop after : ℕ) → (behind_expression text stop after).tokens ≡ []
 none_behind text stop after = either (stop == length text)
   where

@@ -4,7 +4,7 @@ use Rattle.std.proofs.lemmas.List.{drop_all, drop-drop}
 use Rattle.minijinja_syntax.specs.Texts.{Text}
 use Rattle.minijinja_syntax.specs.Syntax.{Syntax}
 use Rattle.minijinja_syntax.specs.Positions.{span_at}
-use Rattle.minijinja_lexer.specs.Stream.{Stream, before, ended, finished}
+use Rattle.minijinja_syntax.specs.Streams.{Stream, before, ended, finished}
 use Rattle.minijinja_lexer.specs.Brackets.{opened_by, shut_by}
 use Rattle.minijinja_lexer.specs.Cut.{close_over, Inner, Segment, inner_from, inner_at, turn_at, go_on, cut_from, cut_at, segment_at, stop_of, close_stop, plain, comment, line_comment, raw, tag, unclosed_comment, unclosed_raw}
 use Rattle.minijinja_lexer.specs.TextTokens.{stream_at, stream_of, stream_in, close_stream, lexeme_token, segment_tokens, refusal, token_refusal, start_tok, end_tok}
@@ -127,7 +127,7 @@ pub stream_at-unclosed_raw : (s : Syntax) (text : Text) (at : ℕ) → at < leng
 unfolding stream_at
 stream_at-unclosed_raw s text at h e = ap (stream_of s text) (cut_step s text at (unclosed_raw at) h e h ∙ ap (λ gs. unclosed_raw at ∷ gs) (cut_over s text (length text) (omega arith)))
 
--- a tag: its start, and then what stands inside it and behind it
+-- a tag: its start, and then what stands inside it and after it
 tag_close : (s : Syntax) (text : Text) (k : Tag) (at body : ℕ) (ls : List Lexeme) (close : Close) →
     stream_of s text (tag k at body (record { lexemes = ls; close = close }) ∷ cut_at s text (close_stop (length text) close))
     ≡ before ((start_tok k, span_at text at body) ∷ []) (before (map (lexeme_token text) ls) (close_stream text k (λ stop after. stream_at s text after) close))

@@ -96,7 +96,7 @@ column_moved text at to column r h l none e =
     let no : NoNewline stretch = λ k w. ⊎_elim (λ t. absurd (none k (omega arith) w t)) (λ f. f) (cases_Bool (is_newline (get_or stretch k 0))) in
     e ∙ ap (λ m. min 65535 (m + count_by is_lead stretch)) l ∙ sym (column-stretch (take at text) stretch no) ∙ ap column_after (sym (take_to at to text h))
 
--- behind the last newline columns count anew
+-- after the last newline columns count anew
 pub column_restarts : (text rest : Text) (at to last r : ℕ) → at ≤ to → rest ≡ drop (last + 1) (between at to text) → IsLastByte (is_byte 10) (between at to text) (Some last) → r ≡ min 65535 (0 + count_by is_lead rest) → r ≡ column_after (take to text)
 column_restarts text rest at to last r h there is e =
     let stretch : Text = between at to text in

@@ -5,6 +5,6 @@ use Rattle.std.specs.Str.{chars}
 use Rattle.minijinja_syntax.specs.Texts.{Text}
 use Rattle.minijinja_syntax.specs.Positions.{is_newline}
 
--- how many characters stand behind the last newline of a text, or in all of it where there is none
+-- how many characters stand after the last newline of a text, or in all of it where there is none
 abbrev pub chars_since_newline : Text → ℕ
 chars_since_newline text = suffix_len (λ c. not (is_newline c)) (chars text)

@@ -36,7 +36,7 @@ abbrev pub delimited_close : Syntax → Text → StartMarker → ℕ → Option 
 delimited_close s text m at None = None
 delimited_close s text m at (Some end) = Some (Closed at end.1 (end.1 + tail_len s m end.0 (drop end.1 text)))
 
--- the end delimiter behind the whitespace at a place, and the tail that is skipped behind it
+-- the end delimiter after the whitespace at a place, and the tail that is skipped after it
 abbrev pub delimiter_close : Syntax → Text → StartMarker → ℕ → Option Close
 delimiter_close s text m at = let p = past_space text at in delimited_close s text m p (end_at (end_of s m) text p)
 
@@ -53,7 +53,7 @@ close_at s text Variable at = delimiter_close s text marker.Variable at
 close_at s text Block at = delimiter_close s text marker.Block at
 close_at s text Line at = line_close text at
 
--- a text of that length is over behind a place: that ends a line statement, and breaks another tag off
+-- a text of that length is over after a place: that ends a line statement, and breaks another tag off
 abbrev pub close_over : (len place : ℕ) → Tag → Close
 close_over len place Variable = Broken
 close_over len place Block = Broken
@@ -64,17 +64,17 @@ abbrev pub scanned : ℕ → Result (Sort × ℕ) (Fault × ℕ) → Turn
 scanned p (Ok r) = Token (record { start = p; stop = r.1; sort = r.0 })
 scanned p (Err r) = End (Refused r.0 p r.1)
 
--- what stands behind the whitespace: a token, or a refusal, or the end of the text
+-- what stands after the whitespace: a token, or a refusal, or the end of the text
 abbrev pub token_turn : Text → Tag → ℕ → Turn
 token_turn text k p = if nat_lt p (length text) then scanned p (token_at text p) else End (close_over (length text) p k)
 
--- the tag's end, if it stands at the place, or else what stands behind the whitespace
+-- the tag's end, if it stands at the place, or else what stands after the whitespace
 abbrev pub turn_from : Text → Tag → ℕ → Option Close → Turn
 turn_from text k at (Some close) = End close
 turn_from text k at None = token_turn text k (past_space text at)
 
 -- What stands at a place in a tag in which so many brackets opened and shut before: the end is tried where these are as
--- many, and then a token behind the whitespace.
+-- many, and then a token after the whitespace.
 unfoldable pub turn_at : Syntax → Text → Tag → (opened shut at : ℕ) → Turn
 turn_at s text k o c at = turn_from text k at (if o == c then close_at s text k at else None)
 
@@ -83,7 +83,7 @@ pub record Inner : Type 0 where
   pub lexemes : List Lexeme
   pub close : Close
 
--- a token, and then what comes behind it
+-- a token, and then what comes after it
 abbrev pub go_on : Turn → (Lexeme → Inner) → Inner
 go_on (End c) next = record { lexemes = []; close = c }
 go_on (Token l) next = let i = next l in record { lexemes = l ∷ i.lexemes; close = i.close }
@@ -101,7 +101,7 @@ inner_at s text k o c at = inner_from s text k o c at 0 (drop at text)
 
 -- ---- segments
 
--- Each stands from `start` on: data; comments, with what is skipped behind them; a raw block; a tag, whose marker ends at
+-- Each stands from `start` on: data; comments, with what is skipped after them; a raw block; a tag, whose marker ends at
 -- `body`; and a comment or a raw block with no end.
 pub data Segment : Type 0 where
   plain : (start stop : ℕ) → Segment

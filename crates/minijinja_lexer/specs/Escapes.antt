@@ -9,7 +9,7 @@ use Rattle.minijinja_syntax.specs.Texts.{Text}
 use Rattle.minijinja_syntax.specs.Quotes.{quote_mark, backslash}
 use Rattle.minijinja_lexer.specs.Bytes.{letter_u}
 
--- what a byte behind a backslash means: \ " ' and / themselves, b f n r and t a control character
+-- what a byte after a backslash means: \ " ' and / themselves, b f n r and t a control character
 abbrev pub simple_escape : ℕ → Option ℕ
 simple_escape b =
     if b == backslash || b == quote_mark || b == 39 || b == 47 then Some b  -- 39 is ' and 47 is /
@@ -28,12 +28,12 @@ hex_unit text = if nat_le 4 (length text) && list_all (λ b. is_digit b 16) (tak
 abbrev pub unit_escape : Text → Option ℕ
 unit_escape text = if slice_index text 0 == backslash && slice_index text 1 == letter_u then hex_unit (drop 2 text) else None
 
--- the character of a high surrogate and the value of the escape behind it, which must be a low one
+-- the character of a high surrogate and the value of the escape after it, which must be a low one
 abbrev pub surrogate_pair : ℕ → Option ℕ → Option (ℕ × ℕ)
 surrogate_pair high None = None
 surrogate_pair high (Some low) = if is_low_surrogate low then Some (surrogate_pair_char high low, 12) else None
 
--- the character of a \u of that value, and how many bytes write it; `rest` stands behind it
+-- the character of a \u of that value, and how many bytes write it; `rest` stands after it
 abbrev pub unit_char : Text → ℕ → Option (ℕ × ℕ)
 unit_char rest u = if is_high_surrogate u then surrogate_pair u (unit_escape rest) else option_map (λ c. (c, 6)) (lone_unit_char u)
 

@@ -17,7 +17,7 @@ pub data Fault : Type 0 where
   FloatLiteral : Fault
   UnclosedComment : Fault
   UnclosedRaw : Fault
-  -- text stands behind the end of an expression
+  -- text stands after the end of an expression
   TextGoesOn : Fault
 
 -- a bad escape has a kind of its own

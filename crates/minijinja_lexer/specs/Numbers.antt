@@ -30,7 +30,7 @@ prefix_size radix = if radix == 10 then 0 else 2
 abbrev pub is_taken : ℕ → ℕ → Bool
 is_taken radix b = is_ascii_digit b || b == underscore || (radix == 16 && is_ascii_hexdigit b)
 
--- how many bytes it takes, behind its prefix
+-- how many bytes it takes, after its prefix
 abbrev pub taken_len : ℕ → Text → ℕ
 taken_len radix text = prefix_len (is_taken radix) text
 
@@ -42,7 +42,7 @@ is_exponent_mark b = b == 101 || b == 69
 abbrev pub begins_exponent : Text → Bool
 begins_exponent text = is_exponent_mark (slice_index text 0) && (slice_index text 1 == plus_sign || slice_index text 1 == minus_sign || is_ascii_digit (slice_index text 1))
 
--- What stands behind decimal digits makes them a float: e or E; or a dot that no name follows, or an exponent. Behind a
+-- What stands after decimal digits makes them a float: e or E; or a dot that no name follows, or an exponent. After a
 -- dot a number is an index, which no dot makes a float.
 abbrev pub reads_as_float : Bool → Text → Bool
 reads_as_float behind_dot text =
@@ -75,7 +75,7 @@ with_length n (Err fault) = Err (fault, n)
 abbrev pub number_len : Text → ℕ
 number_len text = let radix = radix_at text in prefix_size radix + taken_len radix (drop (prefix_size radix) text)
 
--- a number, where `behind_dot` says whether it stands right behind a dot
+-- a number, where `behind_dot` says whether it stands right after a dot
 unfoldable pub number : Bool → Text → Result (ℕ × ℕ) (Fault × ℕ)
 number behind_dot text =
     let radix = radix_at text in

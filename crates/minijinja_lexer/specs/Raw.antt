@@ -9,7 +9,7 @@ use Rattle.minijinja_lexer.specs.Whitespace.{control_at, control_len, past_space
 use Rattle.minijinja_lexer.specs.Controls.{Control, Absent, Remove, Preserve}
 use Rattle.minijinja_lexer.specs.RawBlocks.{RawBlock}
 
--- The control at the end of a tag of one word, and where it ends. It is read from behind the tag's marker on: ASCII
+-- The control at the end of a tag of one word, and where it ends. It is read from after the tag's marker on: ASCII
 -- whitespace, the word, ASCII whitespace, an optional control, the block end.
 unfoldable pub word_tag : Syntax → Text → (word : Text) → ℕ → Option (Control × ℕ)
 word_tag s text word at =
@@ -22,7 +22,7 @@ word_tag s text word at =
 abbrev pub raw_at : Syntax → Text → ℕ → Option (Control × ℕ)
 raw_at s text at = word_tag s text (codes "raw") at
 
--- the endraw tag whose block start ends at a place: a control may stand behind that
+-- the endraw tag whose block start ends at a place: a control may stand after that
 abbrev pub endraw_at : Syntax → Text → ℕ → Option (Control × ℕ)
 endraw_at s text at = word_tag s text (codes "endraw") (at + control_len (control_at text at))
 

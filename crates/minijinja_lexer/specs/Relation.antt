@@ -22,7 +22,7 @@ use Rattle.minijinja_lexer.specs.Turns.{Lexeme, Close, Closed, Broken, Refused}
 abbrev pub NoEnd : Syntax → Text → Tag → (opened shut : ℕ) → ℕ → Type 0
 NoEnd s text k o c at = o ≡ c → close_at s text k at ≡ None
 
--- behind the whitespace a token stands, and not the tag's end
+-- after the whitespace a token stands, and not the tag's end
 pub record IsLexeme (s : Syntax) (text : Text) (k : Tag) (o c at : ℕ) (l : Lexeme) : Type 0 where
   pub space : l.start ≡ past_space text at
   pub within : l.start < length text
@@ -30,14 +30,14 @@ pub record IsLexeme (s : Syntax) (text : Text) (k : Tag) (o c at : ℕ) (l : Lex
   pub some : l.start < l.stop
   pub token : token_at text l.start ≡ Ok (l.sort, l.stop)
 
--- the tag's end delimiter stands behind the whitespace, and the tail behind it is skipped
+-- the tag's end delimiter stands after the whitespace, and the tail after it is skipped
 pub record IsDelimiterClose (s : Syntax) (text : Text) (m : StartMarker) (at start stop after : ℕ) : Type 0 where
   pub space : start ≡ past_space text at
   pub control : Control
   pub end : end_at (end_of s m) text start ≡ Some (control, stop)
   pub tail : after ≡ stop + tail_len s m control (drop stop text)
 
--- a line end, or the end of the text, stands behind the whitespace other than \r and \n
+-- a line end, or the end of the text, stands after the whitespace other than \r and \n
 pub record IsLineClose (text : Text) (at start stop after : ℕ) : Type 0 where
   pub start_is : start ≡ at
   pub stop_is : stop ≡ past_line_space text at + line_end_len (drop (past_line_space text at) text)
@@ -64,14 +64,14 @@ IsClosed s text k o c at start stop after =
     ((at < length text) × (o ≡ c) × IsClosedAt s text k at start stop after)
     ⊎ (IsOver text k at start stop after × (at < length text → NoEnd s text k o c at))
 
--- behind the whitespace a token is refused, and the tag's end does not stand there
+-- after the whitespace a token is refused, and the tag's end does not stand there
 pub record IsRefused (s : Syntax) (text : Text) (k : Tag) (o c at start place : ℕ) (f : Fault) : Type 0 where
   pub space : start ≡ past_space text at
   pub within : start < length text
   pub no_end : NoEnd s text k o c at
   pub token : token_at text start ≡ Err (f, place)
 
--- the text ends behind the whitespace in a tag between delimiters
+-- the text ends after the whitespace in a tag between delimiters
 pub record IsBroken (text : Text) (k : Tag) (at : ℕ) : Type 0 where
   pub kind : k ≢ Line
   pub none_left : length text ≤ past_space text at
@@ -110,7 +110,7 @@ pub record IsFirst (delimiter text : Text) (from place : ℕ) : Type 0 where
   pub there : stands delimiter text place ≡ true
   pub first : IsAbsent delimiter text from place
 
--- it ends at the first end delimiter behind its marker, and the tail behind that is skipped
+-- it ends at the first end delimiter after its marker, and the tail after that is skipped
 pub record IsComment (s : Syntax) (text : Text) (start stop : ℕ) : Type 0 where
   pub marker : IsMarkerAt s text start markers.Comment
   pub end : ℕ
@@ -118,12 +118,12 @@ pub record IsComment (s : Syntax) (text : Text) (start stop : ℕ) : Type 0 wher
   pub tail : let behind = end + length (end_of s markers.Comment) in
       stop ≡ behind + tail_len s markers.Comment (tail_control text (body_of s text markers.Comment start) end) (drop behind text)
 
--- behind its marker stands no end delimiter
+-- after its marker stands no end delimiter
 pub record IsUnclosedComment (s : Syntax) (text : Text) (start : ℕ) : Type 0 where
   pub marker : IsMarkerAt s text start markers.Comment
   pub none : IsAbsent (end_of s markers.Comment) text (body_of s text markers.Comment start) (length text)
 
--- it goes on to the first line end behind its marker, which it takes along, or to the end of the text
+-- it goes on to the first line end after its marker, which it takes along, or to the end of the text
 pub record IsLineComment (s : Syntax) (text : Text) (start stop : ℕ) : Type 0 where
   pub marker : IsMarkerAt s text start markers.LineComment
   pub end : ℕ
@@ -154,7 +154,7 @@ pub record IsRaw (s : Syntax) (text : Text) (start : ℕ) (block : RawBlock) : T
   pub endraw_tag : endraw_at s text (close + length s.block_start) ≡ Some tag_end
   pub block_is : block ≡ raw_block s text begin control close tag_end
 
--- a raw tag, and behind it no block start that begins an endraw tag
+-- a raw tag, and after it no block start that begins an endraw tag
 pub record IsUnclosedRaw (s : Syntax) (text : Text) (start : ℕ) : Type 0 where
   pub marker : IsMarkerAt s text start markers.Block
   pub control : Control

@@ -10,7 +10,7 @@ use Rattle.minijinja_lexer.specs.Escapes.{unescaped}
 use Rattle.minijinja_lexer.specs.Controls.{Control}
 use Rattle.minijinja_lexer.specs.Raw.{raw_at, endraw_at}
 use Rattle.minijinja_lexer.specs.Cut.{Segment, raw}
-use Rattle.minijinja_lexer.specs.Stream.{SpannedTok}
+use Rattle.minijinja_syntax.specs.Streams.{SpannedTok}
 
 -- data and an identifier are the slice at the span, a string is it without the quotes, a decoded one what that means
 abbrev pub IsSliceAt : Text → Span → Tok → Type 0
@@ -25,7 +25,7 @@ abbrev pub AreSlices : Text → List SpannedTok → Type 0
 AreSlices text [] = Unit {0}
 AreSlices text (t ∷ ts) = IsSliceAt text t.1 t.0 × (t.1 ≡ span_at text t.1.start_offset t.1.end_offset) × AreSlices text ts
 
--- the text is a part of what stands from `begin` to `end`; a raw tag ends at the one, and behind the other stands an endraw
+-- the text is a part of what stands from `begin` to `end`; a raw tag ends at the one, and after the other stands an endraw
 -- tag
 pub record IsRawText (s : Syntax) (text : Text) (begin end : ℕ) (t : Text) : Type 0 where
   pub body : ℕ

@@ -1,9 +1,10 @@
--- The tokens that are to come, and how they end.
+-- What a tokenizer answers of the tokens that are to come.
 use Rattle.std.specs.Prelude.{◌≡◌, ◌⊎◌, List, [], ◌∷◌, ◌++◌, map, Option, Some, None, Result, Ok, Err}
 use Rattle.minijinja_syntax.specs.Tokens.{Tok, tok_of, string, int128}
 use Rattle.std.specs.Borrow.{Bor}
 use Rattle.std.specs.Option.{option_map}
 use Rattle.minijinja_syntax.specs.Errors.{kind_of, name_of, span_of, IsOutOfMemory}
+use Rattle.minijinja_syntax.specs.Streams.{SpannedTok, Stream, before, ended, finished, refused, spanned_tok}
 use Rattle.minijinja_syntax.specs.Texts.{Text}
 use Rattle.minijinja_syntax.specs.Syntax.{Syntax}
 use Rattle.minijinja_syntax.specs.declared.tokens.Token.{Token}
@@ -12,39 +13,9 @@ use Rattle.minijinja_syntax.specs.declared.error.Error.{Error}
 use Rattle.minijinja_syntax.specs.declared.error.ErrorKind.{ErrorKind}
 use Rattle.minijinja_syntax.specs.declared.error.ErrorKind.TheVariants.{SyntaxError, BadEscape, OutOfMemory}
 
--- a token and where it stands
-abbrev pub SpannedTok : Type 0
-SpannedTok = Tok × Span
-
--- after its last token a text is over, or refused with a kind, and somewhere unless for want of memory
-pub data Ending : Type 0 where
-  finished : Ending
-  refused : ErrorKind → Option Span → Ending
-
--- tokens that are to come, and how they end
-pub record Stream : Type 0 where
-  pub tokens : List SpannedTok
-  pub ending : Ending
-
--- the tokens without their spans
-abbrev pub toks : Stream → List Tok
-toks s = map (λ t. t.0) s.tokens
-
--- the stream whose first tokens are these
-abbrev pub before : List SpannedTok → Stream → Stream
-before ts later = record { tokens = ts ++ later.tokens; ending = later.ending }
-
--- no tokens are to come, but that ending
-abbrev pub ended : Ending → Stream
-ended e = record { tokens = []; ending = e }
-
 -- memory was refused
 abbrev pub out_of_memory : Stream
 out_of_memory = ended (refused OutOfMemory None)
-
--- the token that a `Token` is, and where it stands
-abbrev pub spanned_tok : Token × Span → SpannedTok
-spanned_tok t = (tok_of t.0, t.1)
 
 -- the kinds of a tokenizer's refusals
 abbrev pub IsTokenizerKind : ErrorKind → Type 0

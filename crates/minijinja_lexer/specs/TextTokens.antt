@@ -11,7 +11,7 @@ use Rattle.minijinja_syntax.specs.declared.error.ErrorKind.TheVariants.{SyntaxEr
 use Rattle.minijinja_lexer.specs.Escapes.{unescaped}
 use Rattle.minijinja_lexer.specs.Symbols.{symbol_tok}
 use Rattle.minijinja_lexer.specs.Faults.{fault_kind, Fault, BadEscape}
-use Rattle.minijinja_lexer.specs.Stream.{SpannedTok, Ending, finished, refused, Stream, before, ended}
+use Rattle.minijinja_syntax.specs.Streams.{SpannedTok, Ending, finished, refused, Stream, before, ended}
 use Rattle.minijinja_lexer.specs.Whitespace.{kept_stop}
 use Rattle.minijinja_lexer.specs.Cut.{Segment, plain, comment, line_comment, raw, tag, unclosed_comment, unclosed_raw, inner_at, cut_at}
 use Rattle.minijinja_lexer.specs.Sorts as sort
@@ -101,7 +101,7 @@ close_ending text (Closed start stop after) later = later
 close_ending text Broken later = finished
 close_ending text (Refused f start place) later = token_refusal text f start place
 
--- how the tokens end from a segment on, where `later` is how those behind it do
+-- how the tokens end from a segment on, where `later` is how those after it do
 abbrev pub segment_ending : Text → Segment → Ending → Ending
 segment_ending text (plain start stop) later = later
 segment_ending text (comment start stop) later = later
@@ -126,7 +126,7 @@ stream_of s text gs = record { tokens = flat_map (segment_tokens s text) gs; end
 unfoldable pub stream_at : Syntax → Text → ℕ → Stream
 stream_at s text at = stream_of s text (cut_at s text at)
 
--- the end of a tag, and what comes behind it and behind what is skipped there
+-- the end of a tag, and what comes after it and after what is skipped there
 abbrev pub close_stream : Text → Tag → (behind : ℕ → ℕ → Stream) → Close → Stream
 close_stream text k behind (Closed start stop after) = before ((end_tok k, span_at text start stop) ∷ []) (behind stop after)
 close_stream text k behind Broken = ended finished
@@ -136,7 +136,7 @@ close_stream text k behind (Refused f start place) = ended (token_refusal text f
 unfoldable pub stream_in : Syntax → Text → Tag → (behind : ℕ → ℕ → Stream) → (opened shut : ℕ) → ℕ → Stream
 stream_in s text k behind o c at = let i = inner_at s text k o c at in before (map (lexeme_token text) i.lexemes) (close_stream text k behind i.close)
 
--- behind an expression's end the text must be over
+-- after an expression's end the text must be over
 abbrev pub behind_expression : Text → (stop after : ℕ) → Stream
 behind_expression text stop after = if stop == length text then ended finished else ended (refusal text stop)
 

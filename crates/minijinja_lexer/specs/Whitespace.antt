@@ -1,4 +1,4 @@
--- Controls, line ends, and the whitespace that is skipped behind an end or cut off before a marker.
+-- Controls, line ends, and the whitespace that is skipped after an end or cut off before a marker.
 use Rattle.std.specs.Prelude.{ℕ, ◌+◌, ◌-◌, Bool, true, false, not, ◌||◌, ◌&&◌, ◌==◌, if◌then◌else◌, min, List, [], ◌∷◌, length, take, drop, reverse, slice_index, Option, Some, None}
 use Rattle.std.specs.List.{prefix_len, suffix_len, list_all, take_while}
 use Rattle.std.specs.Char.{is_ascii_whitespace, is_whitespace, len_utf8}
@@ -91,9 +91,9 @@ line_end_len text =
     let r = if slice_index text 0 == 13 then 1 else 0 in  -- 13 is \r
     r + (if is_newline (slice_index text r) then 1 else 0)
 
--- ---- behind an end
+-- ---- after an end
 
--- how much of the text behind an end with the control is skipped
+-- how much of the text after an end with the control is skipped
 unfoldable pub tail_len : Syntax → StartMarker → Control → Text → ℕ
 tail_len s m Remove text = length text - length (trim_start text)
 tail_len s m Preserve text = 0
@@ -101,7 +101,7 @@ tail_len s m Absent text = if s.trim_blocks && not (is_variable m) then line_end
 
 -- ---- before a marker
 
--- where the text's last line begins: behind the last \r or \n
+-- where the text's last line begins: after the last \r or \n
 abbrev pub last_line : Text → ℕ
 last_line text = length text - suffix_len (λ b. not (is_line_end b)) text
 
@@ -109,7 +109,7 @@ last_line text = length text - suffix_len (λ b. not (is_line_end b)) text
 abbrev pub trimmed_len : Text → ℕ
 trimmed_len text = min (length text) (length (trim_end text))
 
--- the characters behind the last \r or \n, or all of them where there is none, the last one first
+-- the characters after the last \r or \n, or all of them where there is none, the last one first
 abbrev pub back_to_line_end : Text → List ℕ
 back_to_line_end text = take_while (λ c. not (is_line_end c)) (reverse (chars text))
 
@@ -117,7 +117,7 @@ back_to_line_end text = take_while (λ c. not (is_line_end c)) (reverse (chars t
 unfoldable pub ends_blank : Text → Bool
 ends_blank text = list_all is_whitespace (back_to_line_end text)
 
--- the place is the first, or behind a \n
+-- the place is the first, or after a \n
 abbrev pub begins_line : Text → ℕ → Bool
 begins_line text at = at == 0 || is_newline (slice_index text (at - 1))
 

@@ -80,7 +80,8 @@ fn kept_len(
     before: &str,
     text: &str,
 ) -> usize
-    ensures value { result ≡ spec.kept_len syntax.now marker (control_view control) before.now text.now }
+    ensures value { result ≡ spec.kept_len syntax.now marker (control_view control) before.now
+        text.now }
     ensures boundary { IsCharBoundary text.now result }
 {
     match control {

@@ -4,7 +4,7 @@ ghost use Rattle.minijinja_syntax.specs.Errors.{kind_of, name_of, span_of};
 ghost use Rattle.minijinja_lexer.specs.Faults.{fault_kind};
 ghost use Rattle.minijinja_lexer.specs.private.Views.{fault_view};
 
-use minijinja_syntax::error::{Detail, Error, ErrorKind};
+use minijinja_syntax::error::{Detail, Error, ErrorKind, Expected};
 use minijinja_syntax::tokens::Span;
 
 /// Why a text is refused.
@@ -24,7 +24,7 @@ pub(crate) enum Fault {
     FloatLiteral,
     UnclosedComment,
     UnclosedRaw,
-    /// Text behind the end of an expression.
+    /// Text after the end of an expression.
     TextGoesOn,
 }
 
@@ -38,9 +38,9 @@ fn detail<'s>(fault: Fault) -> Detail<'s> {
         Fault::TrailingUnderscore => Detail::TrailingUnderscore,
         Fault::IntegerTooLarge => Detail::IntegerTooLarge,
         Fault::FloatLiteral => Detail::FloatLiteral,
-        Fault::UnclosedComment => Detail::UnexpectedEnd("end of comment"),
-        Fault::UnclosedRaw => Detail::UnexpectedEnd("end of raw block"),
-        Fault::TextGoesOn => Detail::UnexpectedToken("end of input"),
+        Fault::UnclosedComment => Detail::UnexpectedEnd(Expected::CommentEnd),
+        Fault::UnclosedRaw => Detail::UnexpectedEnd(Expected::RawBlockEnd),
+        Fault::TextGoesOn => Detail::UnexpectedToken(Expected::End),
     }
 }
 

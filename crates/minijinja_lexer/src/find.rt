@@ -12,7 +12,8 @@ pub(crate) fn next_delimiter(text: &str, at: usize, delimiter: &str) -> usize
     ensures value { result ≡ spec.next_delimiter delimiter.now text.now at }
     ensures within { (at ≤ result) × (result ≤ length text.now) }
     ensures start { IsCharBoundary text.now result }
-    ensures end { result < length text.now → IsCharBoundary text.now (result + length delimiter.now) }
+    ensures end { result < length text.now → IsCharBoundary text.now
+        (result + length delimiter.now) }
 {
     match memmem::find(&text.as_bytes()[at..], delimiter.as_bytes()) {
         Some(ahead) => at + ahead,

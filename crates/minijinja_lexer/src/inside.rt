@@ -27,7 +27,8 @@ pub(crate) fn step_inside<'s>(
     requires opened { opened ≤ cursor.old.at }
     requires shut { shut ≤ cursor.old.at }
     ensures text { cursor.new.text ≡ cursor.old.text }
-    ensures steps { Steps syntax.now (stream_in syntax.now cursor.old.text (tag_view tag) (behind syntax.now cursor.old.text whole) opened shut cursor.old.at) result cursor.new }
+    ensures steps { Steps syntax.now (stream_in syntax.now cursor.old.text (tag_view tag)
+        (behind syntax.now cursor.old.text whole) opened shut cursor.old.at) result cursor.new }
     ensures takes { Takes syntax.now cursor.old.text result }
 {
     let text = cursor.text();
@@ -58,7 +59,8 @@ pub(crate) fn step_inside<'s>(
 fn step_end<'s>(cursor: &mut Cursor<'s>, tag: Tag, whole: bool, close: Close) -> Step<'s>
     requires { ClosePlaces cursor.old.text cursor.old.at (close_view close) }
     ensures text { cursor.new.text ≡ cursor.old.text }
-    ensures steps { (s : Syntax) → Steps s (close_stream cursor.old.text (tag_view tag) (behind s cursor.old.text whole) (close_view close)) result cursor.new }
+    ensures steps { (s : Syntax) → Steps s (close_stream cursor.old.text (tag_view tag)
+        (behind s cursor.old.text whole) (close_view close)) result cursor.new }
     ensures takes { (s : Syntax) → Takes s cursor.old.text result }
 {
     match close {
@@ -74,13 +76,14 @@ fn step_end<'s>(cursor: &mut Cursor<'s>, tag: Tag, whole: bool, close: Close) ->
     }
 }
 
-/// The state behind a tag, whose tail is skipped. Behind one that is the whole text, a text that goes on is refused.
+/// The state after a tag, whose tail is skipped. After one that is the whole text, a text that goes on is refused.
 #[inline(always)]
 fn state_behind(cursor: &mut Cursor<'_>, whole: bool, after: usize) -> State
     requires onwards { cursor.old.at ≤ after }
     requires boundary { IsCharBoundary cursor.old.text after }
     ensures text { cursor.new.text ≡ cursor.old.text }
-    ensures state { (s : Syntax) → stream_from s cursor.new result ≡ behind s cursor.old.text whole cursor.old.at after }
+    ensures state { (s : Syntax) → stream_from s cursor.new result ≡ behind s cursor.old.text whole
+        cursor.old.at after }
     ensures fits { StateFits cursor.new result }
 {
     if !whole {

@@ -13,7 +13,8 @@ ghost use Rattle.minijinja_lexer.specs.Tags.{Variable};
 
 /// A text has one cut.
 pub fn one_cut()
-    ensures { (s : Syntax) (text : Text) (gs hs : List Segment) → IsBuildable s → IsCut s text 0 gs → IsCut s text 0 hs → gs ≡ hs }
+    ensures { (s : Syntax) (text : Text) (gs hs : List Segment) → IsBuildable s → IsCut s text 0 gs
+        → IsCut s text 0 hs → gs ≡ hs }
 {}
 
 /// The computed cut is one.
@@ -23,7 +24,8 @@ pub fn some_cut()
 
 /// A text has one reading as an expression.
 pub fn one_expression()
-    ensures { (s : Syntax) (text : Text) (i j : Inner) → IsBuildable s → IsExpression s text i → IsExpression s text j → i ≡ j }
+    ensures { (s : Syntax) (text : Text) (i j : Inner) → IsBuildable s → IsExpression s text i →
+        IsExpression s text j → i ≡ j }
 {}
 
 /// The computed reading is one.
@@ -34,17 +36,22 @@ pub fn some_expression()
 /// The text of a token is the slice of the text at its span, but for a raw block's, which is a part of that; and the
 /// span's lines and columns are those of its offsets.
 pub fn are_slices()
-    ensures template { (s : Syntax) (source : Text) → AreCutSlices s (text_of s source) (cut_at s (text_of s source) 0) (tokens_of_template s source).tokens }
-    ensures expression { (s : Syntax) (source : Text) → AreSlices (text_of s source) (tokens_of_expression s source).tokens }
+    ensures template { (s : Syntax) (source : Text) → AreCutSlices s (text_of s source)
+        (cut_at s (text_of s source) 0) (tokens_of_template s source).tokens }
+    ensures expression { (s : Syntax) (source : Text) → AreSlices (text_of s source)
+        (tokens_of_expression s source).tokens }
 {}
 
 /// Spans are in order and do not overlap.
 pub fn are_in_order()
-    ensures template { (s : Syntax) (source : Text) → IsBuildable s → AreInOrder 0 (tokens_of_template s source).tokens }
-    ensures expression { (s : Syntax) (source : Text) → IsBuildable s → AreInOrder 0 (tokens_of_expression s source).tokens }
+    ensures template { (s : Syntax) (source : Text) → IsBuildable s → AreInOrder 0
+        (tokens_of_template s source).tokens }
+    ensures expression { (s : Syntax) (source : Text) → IsBuildable s → AreInOrder 0
+        (tokens_of_expression s source).tokens }
 {}
 
 /// A column counts the characters since the last newline, and stops at 65535.
 pub fn columns_count_chars()
-    ensures { (text : Text) (at : ℕ) → IsUtf8 text → IsCharBoundary text at → column_after (take at text) ≡ min 65535 (chars_since_newline (take at text)) }
+    ensures { (text : Text) (at : ℕ) → IsUtf8 text → IsCharBoundary text at → column_after
+        (take at text) ≡ min 65535 (chars_since_newline (take at text)) }
 {}

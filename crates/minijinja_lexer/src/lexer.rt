@@ -81,7 +81,8 @@ impl<'s, 'c> Tokenizer<'s, 'c> {
         ensures syntax { result.syntax ≡ syntax.now }
         ensures filename { result.filename ≡ filename.now }
         ensures source { result.source ≡ text_of syntax.now input.now }
-        ensures stream { result.stream ≡ (if in_expr then tokens_of_expression syntax.now input.now else tokens_of_template syntax.now input.now) }
+        ensures stream { result.stream ≡ (if in_expr then tokens_of_expression syntax.now input.now
+            else tokens_of_template syntax.now input.now) }
     {
         let state = if in_expr {
             State::Inside(Tag::Variable, 0, 0, true)
@@ -116,9 +117,11 @@ impl<'s, 'c> Tokenizer<'s, 'c> {
     pub fn next_token(&mut self) -> Result<Option<(Token<'s>, Span)>, Error<'s>>
         ensures answers { Answers self.old.stream result self.new.stream }
         // The text may be cut where a token begins and where it ends.
-        ensures between { IfOk result (λ token. IfSome token (λ t. IsBetweenChars self.old.source t.1)) }
+        ensures between { IfOk result
+            (λ token. IfSome token (λ t. IsBetweenChars self.old.source t.1)) }
         // A name, a string without escapes and data outside of raw blocks is the slice at the span.
-        ensures text { IfOk result (λ token. IfSome token (λ t. IsTokenText self.old.syntax self.old.source (tok_of t.0) t.1)) }
+        ensures text { IfOk result (λ token. IfSome token
+            (λ t. IsTokenText self.old.syntax self.old.source (tok_of t.0) t.1)) }
         ensures cause { IfErr result (λ e. IsTokenizerKind (kind_of e)) }
         ensures named { IfErr result (λ e. kind_of e ≢ OutOfMemory → IsNamed self.old.filename e) }
         ensures syntax { self.new.syntax ≡ self.old.syntax }

@@ -101,7 +101,8 @@ fn all_in_radix(radix: u32, taken: &[u8]) -> bool
 
 fn value_of(radix: u32, taken: &[u8]) -> Option<u128>
     requires some { 1 ≤ radix }
-    ensures { SomeIff result (digits_value radix (spec.digits_of taken.now) < 2 ^ 128) (digits_value radix (spec.digits_of taken.now)) }
+    ensures { SomeIff result (digits_value radix (spec.digits_of taken.now) < 2 ^ 128)
+        (digits_value radix (spec.digits_of taken.now)) }
 {
     let mut value: u128 = 0;
     for b in taken {

@@ -51,7 +51,8 @@ fn tail_control(text: &str, body: usize, end: usize) -> Control
 fn comment_at(syntax: &SyntaxConfig, text: &str, at: usize, body: usize) -> Found
     requires moves { at < body }
     requires boundary { IsCharBoundary text.now body }
-    requires segment { spec.segment_at syntax.now text.now at ≡ spec.comment_at syntax.now text.now at body }
+    requires segment { spec.segment_at syntax.now text.now at ≡ spec.comment_at syntax.now text.now
+        at body }
     ensures { IsFound syntax.now text.now at result }
 {
     let delimiter = syntax.comment_delimiters().1;
@@ -73,7 +74,8 @@ fn comment_at(syntax: &SyntaxConfig, text: &str, at: usize, body: usize) -> Foun
 fn line_comment_at(syntax: &SyntaxConfig, text: &str, at: usize, body: usize) -> Found
     requires moves { at < body }
     requires boundary { IsCharBoundary text.now body }
-    requires segment { spec.segment_at syntax.now text.now at ≡ spec.line_comment_at text.now at body }
+    requires segment { spec.segment_at syntax.now text.now at ≡ spec.line_comment_at text.now at
+        body }
     ensures { IsFound syntax.now text.now at result }
 {
     Found::Skipped(past_line_end(text, next_line_end(text, body)))
@@ -83,7 +85,8 @@ fn line_comment_at(syntax: &SyntaxConfig, text: &str, at: usize, body: usize) ->
 fn block_at(syntax: &SyntaxConfig, text: &str, at: usize, body: usize) -> Found
     requires moves { at < body }
     requires boundary { IsCharBoundary text.now body }
-    requires segment { spec.segment_at syntax.now text.now at ≡ spec.block_to syntax.now text.now at body (raw_at syntax.now text.now body) }
+    requires segment { spec.segment_at syntax.now text.now at ≡ spec.block_to syntax.now text.now at
+        body (raw_at syntax.now text.now body) }
     ensures { IsFound syntax.now text.now at result }
 {
     let Some((control, begin)) = raw_at(syntax, text, body) else {
@@ -164,7 +167,8 @@ fn step_raw<'s>(cursor: &mut Cursor<'s>, text: &'s str, block: RawBlock) -> Step
 /// The next token outside any tag.
 pub(crate) fn step_outside<'s>(syntax: &SyntaxConfig, cursor: &mut Cursor<'s>) -> Step<'s>
     ensures text { cursor.new.text ≡ cursor.old.text }
-    ensures steps { Steps syntax.now (stream_at syntax.now cursor.old.text cursor.old.at) result cursor.new }
+    ensures steps { Steps syntax.now (stream_at syntax.now cursor.old.text cursor.old.at) result
+        cursor.new }
     ensures takes { Takes syntax.now cursor.old.text result }
 {
     let text = cursor.text();

@@ -14,7 +14,7 @@ use crate::whitespace::{Control, control_at, past_control, past_space, past_tail
 use minijinja_syntax::syntax::{StartMarker, SyntaxConfig, stands_at};
 
 /// A raw block by its places: the text between its tags runs from `begin` to `end`, what is kept of it from `start` to
-/// `stop`, and `after` is behind the block and what is skipped there.
+/// `stop`, and `after` is past the block and what is skipped there.
 #[derive(Clone, Copy)]
 pub(crate) struct RawBlock {
     pub begin: usize,

@@ -137,7 +137,7 @@ fn end_at(text: &str, at: usize, delimiter: &str) -> Option<(Control, usize)>
     }
 }
 
-/// The end delimiter at a place behind whitespace, with the tail that is skipped behind it.
+/// The end delimiter at a place after whitespace, with the tail that is skipped after it.
 #[inline(always)]
 fn delimiter_close(
     syntax: &SyntaxConfig,
@@ -149,8 +149,8 @@ fn delimiter_close(
     requires some { 0 < length delimiter.now }
     requires delimiter { delimiter.now ≡ end_of syntax.now marker }
     requires boundary { IsCharBoundary text.now start }
-    ensures value { option_map close_view result
-        ≡ spec.delimited_close syntax.now text.now marker start (spec.end_at delimiter.now text.now start) }
+    ensures value { option_map close_view result ≡ spec.delimited_close syntax.now text.now marker
+        start (spec.end_at delimiter.now text.now start) }
     ensures places { IfSome result (λ close. ClosePlaces text.now start (close_view close)) }
 {
     let (control, stop) = end_at(text, start, delimiter)?;
@@ -158,7 +158,7 @@ fn delimiter_close(
     Some(Close::Closed(start, stop, after))
 }
 
-/// A line end or the end of the text, behind whitespace other than `\r` and `\n`.
+/// A line end or the end of the text, after whitespace other than `\r` and `\n`.
 #[inline(never)]
 fn line_close(text: &str, at: usize) -> Option<Close>
     requires { IsCharBoundary text.now at }
@@ -181,7 +181,8 @@ fn close_at(syntax: &SyntaxConfig, text: &str, tag: Tag, at: usize, start: usize
     requires boundary { IsCharBoundary text.now at }
     requires space { start ≡ past_space text.now at }
     requires behind { IsCharBoundary text.now start }
-    ensures value { option_map close_view result ≡ spec.close_at syntax.now text.now (tag_view tag) at }
+    ensures value { option_map close_view result ≡ spec.close_at syntax.now text.now (tag_view tag)
+        at }
     ensures places { IfSome result (λ close. ClosePlaces text.now at (close_view close)) }
 {
     match tag {
@@ -245,7 +246,8 @@ pub(crate) fn turn_at(
     at: usize,
 ) -> Turn
     requires { IsCharBoundary text.now at }
-    ensures value { turn_view result ≡ spec.turn_at syntax.now text.now (tag_view tag) opened shut at }
+    ensures value { turn_view result ≡ spec.turn_at syntax.now text.now (tag_view tag) opened shut
+        at }
     ensures places { TurnPlaces text.now at (turn_view result) }
 {
     let start = past_space(text, at);

@@ -1,4 +1,4 @@
-//! Controls, and the whitespace that is skipped behind an end.
+//! Controls, and the whitespace that is skipped after an end.
 ghost use Rattle.std.specs.Prelude.{◌≡◌, ◌+◌, ◌-◌, ◌≤◌, length, drop, slice_index};
 ghost use Rattle.std.specs.Str.{IsCharBoundary, chars, trim_start};
 ghost use Rattle.minijinja_syntax.specs.Markers as markers;
@@ -154,7 +154,7 @@ fn is_variable(marker: StartMarker) -> bool
     }
 }
 
-/// How much of the text behind an end with the control is skipped.
+/// How much of the text after an end with the control is skipped.
 #[tactic(auto, unfolding(crate::specs::Whitespace::tail_len))]
 #[inline]
 pub(crate) fn tail_len(
@@ -179,7 +179,7 @@ pub(crate) fn tail_len(
     }
 }
 
-/// Where the tail that is skipped behind an end ends.
+/// Where the tail that is skipped after an end ends.
 pub(crate) fn past_tail(
     syntax: &SyntaxConfig,
     marker: StartMarker,
@@ -188,7 +188,8 @@ pub(crate) fn past_tail(
     at: usize,
 ) -> usize
     requires { IsCharBoundary text.now at }
-    ensures value { result ≡ at + spec.tail_len syntax.now marker (control_view control) (drop at text.now) }
+    ensures value { result ≡ at + spec.tail_len syntax.now marker (control_view control)
+        (drop at text.now) }
     ensures onwards { at ≤ result }
     ensures boundary { IsCharBoundary text.now result }
 {

@@ -1,1 +1,6 @@
+pub mod TokenStreams
+pub mod Derived
+pub mod Causes
 pub mod Parsing
+pub mod Answers
+pub mod private

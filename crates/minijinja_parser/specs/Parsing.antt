@@ -1,28 +1,34 @@
--- What a parser says of itself.
-use Rattle.std.specs.Prelude.{◌≡◌, Option}
+-- What a parser says of itself, and how it ends.
+use Rattle.std.specs.Prelude.{◌≡◌, ◌⊎◌, [], Option, Result, Ok, Err}
 use Rattle.minijinja_syntax.specs.Texts.{Text}
+use Rattle.minijinja_syntax.specs.Errors.{kind_of, span_of}
+use Rattle.minijinja_syntax.specs.Streams.{ended, finished, refused}
 use Rattle.minijinja_syntax.specs.declared.tokens.Span.{Span}
+use Rattle.minijinja_syntax.specs.declared.error.Error.{Error}
 use Rattle.minijinja_syntax.specs.declared.error.ErrorKind.{ErrorKind}
-use Rattle.minijinja_lexer.specs.Stream.{Stream, ended, finished, refused}
-use Rattle.minijinja_grammar.specs.Ahead.{Ahead}
-use Rattle.minijinja_parser.specs.declared.parser.Parser.{Parser}
+use Rattle.minijinja_syntax.specs.declared.error.ErrorKind.TheVariants.{OutOfMemory}
+use Rattle.minijinja_grammar.specs.Forms.{Form, Place}
+use Rattle.minijinja_grammar.specs.Derived.{FitsSoFar}
+use Rattle.minijinja_parser.specs.TokenStreams.{stream_at}
 
--- the name of the source
-abbrev pub filename_of : Parser → Text
-filename_of p = p.filename.now
-
--- its text, the tokens to come and the span of the last token taken
-abbrev pub ahead_of : Parser → Ahead
-ahead_of p = p.inner.stream
-
--- the tokens to come, and how they end
-abbrev pub stream_of : Parser → Stream
-stream_of p = (ahead_of p).stream
+-- the name of its source, and the place that it has come to
+pub record Parsing : Type 0 where
+  pub filename : Text
+  pub place : Place
 
 -- every token was read
-abbrev pub IsSpent : Parser → Type 0
-IsSpent p = stream_of p ≡ ended finished
+abbrev pub IsSpent : Place → Type 0
+IsSpent p = stream_at p ≡ ended finished
 
 -- no token is left, but this refusal
-abbrev pub HasRefused : Parser → ErrorKind → Option Span → Type 0
-HasRefused p kind span = stream_of p ≡ ended (refused kind span)
+abbrev pub HasRefused : Place → ErrorKind → Option Span → Type 0
+HasRefused p kind span = stream_at p ≡ ended (refused kind span)
+
+-- the answer is a refusal of that kind and span, or memory ran out
+abbrev pub IsRefusedSo : {A : Type 0} → ErrorKind → Option Span → Result A Error → Type 0
+IsRefusedSo kind span (Ok x) = ⊥
+IsRefusedSo kind span (Err e) = ((kind_of e ≡ kind) × (span_of e ≡ span)) ⊎ (kind_of e ≡ OutOfMemory)
+
+-- a tokenizer's refusal that stands after tokens which fit the form so far is the answer
+abbrev pub AnswersItsRefusal : {A X : Type 0} → Form X → Place → Result A Error → Type 0
+AnswersItsRefusal form p r = (kind : ErrorKind) (span : Option Span) → p.ending ≡ refused kind span → FitsSoFar form p → IsRefusedSo kind span r

@@ -1,35 +1,39 @@
 //! From the tokens of a template to its tree.
-ghost use Rattle.std.specs.Prelude.{◌≡◌, ◌≢◌, ◌<◌, ◌≤◌, ◌^◌, ◌⊎◌, [], codes, length, IfErr, IfOk, IsErrAnd, MatchResult, if◌then◌else◌};
+ghost use Rattle.std.specs.Prelude.{◌≡◌, ◌≢◌, ◌<◌, ◌≤◌, ◌^◌, codes, length, IfErr, IfOk, IsErrAnd};
 ghost use Rattle.minijinja_syntax.specs.Errors.{kind_of, span_of};
+ghost use Rattle.minijinja_syntax.specs.Streams.{refused};
 ghost use Rattle.minijinja_syntax.specs.Syntax.{default_syntax};
-ghost use Rattle.minijinja_syntax.specs.declared.error.ErrorKind.TheVariants.{BadEscape, OutOfMemory, SourceTooLong, SyntaxError};
-ghost use Rattle.minijinja_lexer.specs.Stream.{IsNamed, IsTokenizerKind, finished, refused};
-ghost use Rattle.minijinja_lexer.specs.TextTokens.{text_of, tokens_of_template, tokens_of_expression};
+ghost use Rattle.minijinja_syntax.specs.declared.error.ErrorKind.TheVariants.{OutOfMemory, SourceTooLong, SyntaxError};
+ghost use Rattle.minijinja_lexer.specs.Stream.{IsNamed, IsTokenizerKind};
+ghost use Rattle.minijinja_lexer.specs.TextTokens.{text_of};
 ghost use Rattle.minijinja_tree.specs.Erasure.{expr_tree, stmt_tree};
-ghost use Rattle.minijinja_tree.specs.Tree.{done, template};
+ghost use Rattle.minijinja_tree.specs.SpannedErasure.{expr_node, stmt_node};
+ghost use Rattle.minijinja_tree.specs.Tree.{template};
 ghost use Rattle.minijinja_tree.specs.WellFormed.{IsWellFormed, IsWhole};
-ghost use Rattle.minijinja_grammar.specs.Ahead.{left, Comes};
-ghost use Rattle.minijinja_grammar.specs.Causes.{IsCause, IsLimit, IsRefusal};
-ghost use Rattle.minijinja_grammar.specs.Derived.{IsDerived, IsExprDerived, IsExprTree, IsTemplateTree};
-ghost use Rattle.minijinja_grammar.specs.Gives.{GivesAll, IsFailure, Keeps};
-ghost use Rattle.minijinja_grammar.specs.NodeSpans.{ExprStands, StmtStands, no_place};
-ghost use Rattle.minijinja_grammar.specs.Over.{IsOver};
-ghost use Rattle.minijinja_parser.specs.Parsing.{HasRefused, IsSpent, ahead_of, filename_of, stream_of};
-ghost use Rattle.minijinja_grammar.specs.Reading.{tree_of_expr};
-ghost use Rattle.minijinja_grammar.specs.TemplateReading.{tree_of};
+ghost use Rattle.minijinja_grammar.specs.Forms.{reads};
+ghost use Rattle.minijinja_grammar.specs.Grammar.{expr_at, max_depth};
+ghost use Rattle.minijinja_grammar.specs.Templates.{template_at};
+ghost use Rattle.minijinja_parser.specs.Answers.{AnswersExpr, AnswersExprAt, AnswersExprTokenizer, AnswersExprTokenizerAt, AnswersTemplate, AnswersTemplateAt, AnswersTokenizer, AnswersTokenizerAt, EscapesIn, ExprStandsAt, IsEmptyTemplate, IsExprAt, IsExprOf, IsNoExpr, IsNoExprAt, IsNoTemplate, IsNoTemplateAt, IsShort, IsTemplateAt, IsTemplateOf, IsTooLong, IsUnrefused, Repeats, StandsAt, WantsExpr};
+ghost use Rattle.minijinja_parser.specs.Causes.{IsCause};
+ghost use Rattle.minijinja_parser.specs.Derived.{expr_place, template_place, tokens_of};
+ghost use Rattle.minijinja_parser.specs.Parsing.{HasRefused, IsSpent};
+ghost use Rattle.minijinja_parser.specs.TokenStreams.{Comes, no_place, stream_at};
+ghost use Rattle.minijinja_parser.specs.private.Wholes.{Ends, IsErrorAt, ReadsWhole};
 
-use minijinja_base::error::{Detail, Error, ErrorKind};
+use crate::context::Context;
+use crate::marks::expected;
+use crate::refusal::{Refusal, Wanted};
+use crate::rules::conditions::expr;
+use crate::statements::template;
+pub use crate::token_stream::TokenStream;
+use minijinja_base::error::{Detail, Error, ErrorKind, Expected};
 use minijinja_base::syntax::SyntaxConfig;
 use minijinja_base::value::TemplateValue;
-use minijinja_expressions::expr_parser::ExprParser;
-use minijinja_grammar::nodes;
-pub use minijinja_grammar::token_stream::TokenStream;
 use minijinja_tree::ast::{Expr, Stmt};
-use std::alloc::Global;
+use std::alloc::{AllocError, Global};
+use std::marker::{Model, PhantomData};
 
-mod statements;
-
-/// How deep expressions may nest.
+/// How deep statements and expressions may nest.
 const MAX_DEPTH: usize = 150;
 
 /// The first length of a source that is too long, in bytes.
@@ -41,8 +45,18 @@ pub const EXPRESSION_NAME: &str = "<expression>";
 /// Reads the tokens of one source.
 #[derive(Drop)]
 pub struct Parser<'s, 'c> {
-    inner: ExprParser<'s, 'c>,
+    tokens: TokenStream<'s, 'c>,
     filename: &'s str,
+    alloc: Global,
+}
+
+impl<'s, 'c> Model for Parser<'s, 'c> {
+    ghost use Rattle.minijinja_parser.specs.Parsing.{Parsing};
+    ghost use Rattle.minijinja_parser.specs.declared.parser.Parser.TheInside.{Inside};
+
+    ghost Value = { Parsing };
+
+    ghost view = { λ (a : Inside). record { filename = a.filename.now; place = a.tokens } };
 }
 
 impl<'s, 'c> Parser<'s, 'c> {
@@ -55,30 +69,70 @@ impl<'s, 'c> Parser<'s, 'c> {
         in_expr: bool,
         syntax: &'c SyntaxConfig,
     ) -> Self
-        requires { length source.now < 2 ^ 32 }
-        ensures filename { filename_of result ≡ filename.now }
-        ensures source { (ahead_of result).source ≡ text_of syntax.now source.now }
-        ensures last { (ahead_of result).last ≡ no_place }
-        ensures stream { Comes (if in_expr then tokens_of_expression syntax.now source.now else tokens_of_template syntax.now source.now) (stream_of result) }
+        requires { IsShort source.now }
+        ensures filename { result.filename ≡ filename.now }
+        ensures source { result.place.source ≡ text_of syntax.now source.now }
+        ensures last { result.place.last ≡ no_place }
+        ensures stream { Comes (tokens_of in_expr syntax.now source.now) (stream_at result.place) }
     {
         Parser {
-            inner: ExprParser::new(alloc, source, filename, in_expr, syntax),
+            tokens: TokenStream::new(alloc, source, filename, in_expr, syntax),
             filename,
+            alloc,
         }
     }
 
     /// The name of the source.
     pub fn filename(&self) -> &'s str
-        ensures { result.now ≡ filename_of self.now }
+        ensures { result.now ≡ self.now.filename }
     {
         self.filename
+    }
+
+    /// What exactly is wrong, in words of a refusal. The names are those of the token taken last.
+    fn detail(&self, wanted: Wanted, is_over: bool) -> Detail<'s> {
+        let part = match wanted {
+            Wanted::Mark(mark) => expected(mark),
+            Wanted::Part(part) => part,
+            Wanted::Statement => return Detail::UnknownStatement(self.last_word()),
+            Wanted::Target => return Detail::ReservedName(self.last_word()),
+            Wanted::Flatter => return Detail::TooDeep,
+            Wanted::FewerArguments => return Detail::TooManyArguments,
+            Wanted::Keyword => return Detail::PlainAfterKeyword,
+        };
+        if is_over {
+            Detail::UnexpectedEnd(part)
+        } else {
+            Detail::UnexpectedToken(part)
+        }
+    }
+
+    /// The source of the token taken last.
+    fn last_word(&self) -> &'s str {
+        let span = self.tokens.last_span();
+        let range = span.start_offset as usize..span.end_offset as usize;
+        self.tokens.source().get(range).unwrap_or("")
+    }
+
+    /// A syntax error at the token taken last.
+    fn syntax_error(&self, detail: Detail<'s>) -> Error<'s>
+        ensures kind { kind_of result ≡ SyntaxError }
+        ensures span { span_of result ≡ Some self.now.place.last }
+        ensures named { IsNamed self.now.filename result }
+    {
+        Error::new(
+            ErrorKind::SyntaxError,
+            detail,
+            Some(self.filename),
+            Some(self.tokens.last_span()),
+        )
     }
 
     /// The refusal, which names the source. Where memory was refused there is no name.
     fn named(&self, refusal: Error<'s>) -> Error<'s>
         ensures kind { kind_of result ≡ kind_of refusal.entry }
         ensures span { span_of result ≡ span_of refusal.entry }
-        ensures named { kind_of result ≢ OutOfMemory → IsNamed (filename_of self.now) result }
+        ensures named { kind_of result ≢ OutOfMemory → IsNamed self.now.filename result }
     {
         if refusal.kind() == ErrorKind::OutOfMemory {
             return refusal;
@@ -91,68 +145,90 @@ impl<'s, 'c> Parser<'s, 'c> {
         )
     }
 
-    /// Refuses where a refusal stands, with that.
-    fn unrefused(&self) -> Result<(), Error<'s>>
-        ensures none { IfOk result (λ _. (kind : _) (span : _) → HasRefused self.now kind span → ⊥) }
-        ensures stands { IfErr result (λ e. HasRefused self.now (kind_of e) (span_of e)) }
-        ensures causes { IfErr result (λ e. IsTokenizerKind (kind_of e)) }
-        ensures named { IfErr result (λ e. kind_of e ≢ OutOfMemory → IsNamed (filename_of self.now) e) }
+    /// The error for a refusal.
+    fn error(&self, refusal: Refusal) -> Error<'s>
+        ensures is { IsErrorAt self.now.place refusal result }
+        ensures cause { IsTokenizerKind (kind_of result) }
+        ensures named { kind_of result ≢ OutOfMemory → IsNamed self.now.filename result }
     {
-        match self.inner.stream.current() {
-            Ok(_) => Ok(()),
-            Err(refusal) => Err(self.named(refusal)),
+        match refusal {
+            Refusal::OutOfMemory => Error::from(AllocError),
+            Refusal::Ended(wanted) => match self.tokens.refusal() {
+                Some(error) => self.named(error),
+                None => self.syntax_error(self.detail(wanted, true)),
+            },
+            Refusal::Wrong(wanted) => self.syntax_error(self.detail(wanted, false)),
         }
     }
 
-    /// Refuses any token.
-    fn expect_end(&mut self) -> Result<(), Error<'s>>
-        ensures whole { IfOk result (λ _. left (ahead_of self.old) ≡ []) }
-        ensures none_left { IfOk result (λ _. left (ahead_of self.new) ≡ []) }
-        ensures unrefused { IfOk result (λ _. (stream_of self.new).ending ≡ finished) }
-        ensures refused { IfErr result (λ e. kind_of e ≢ OutOfMemory → (stream_of self.new).ending ≡ finished → left (ahead_of self.old) ≢ []) }
-        ensures keeps { Keeps result (ahead_of self.old) (ahead_of self.new) }
-        ensures cause { IfErr result (IsFailure (stream_of self.new).ending) }
-        ensures filename { filename_of self.new ≡ filename_of self.old }
+    /// The error for a refusal, which stands from then on.
+    fn refuse(&mut self, refusal: Refusal) -> Error<'s>
+        ensures is { IsErrorAt self.old.place refusal result }
+        ensures kept { HasRefused self.new.place (kind_of result) (span_of result) }
+        ensures cause { IsTokenizerKind (kind_of result) }
+        ensures named { kind_of result ≢ OutOfMemory → IsNamed self.old.filename result }
+        ensures filename { self.new.filename ≡ self.old.filename }
     {
-        match self.inner.stream.take()? {
+        let error = self.error(refusal);
+        self.tokens.refuse(error);
+        error
+    }
+
+    /// Refuses where a refusal stands, with that.
+    fn unrefused(&self) -> Result<(), Error<'s>>
+        ensures none { IfOk result (λ _. IsUnrefused self.now.place) }
+        ensures stands { IfErr result (λ e. HasRefused self.now.place (kind_of e) (span_of e)) }
+        ensures cause { IfErr result (λ e. IsTokenizerKind (kind_of e)) }
+        ensures named { IfErr result (λ e. kind_of e ≢ OutOfMemory → IsNamed self.now.filename e) }
+    {
+        match self.tokens.refusal() {
+            Some(error) => Err(self.named(error)),
             None => Ok(()),
-            Some(_) => Err(self.inner.error(Detail::UnexpectedToken("end of input"))),
+        }
+    }
+
+    /// Refuses any token, and a refusal.
+    #[tactic(auto, using(crate::proofs::Wholes::none_taken, crate::proofs::Wholes::one_taken, crate::proofs::Wholes::never_wrong))]
+    fn end(&mut self) -> Result<(), Refusal>
+        ensures end { Ends self.old.place result self.new.place }
+        ensures filename { self.new.filename ≡ self.old.filename }
+    {
+        let wanted = Wanted::Part(Expected::End);
+        match self.tokens.take(wanted) {
+            Ok(_) => Err(Refusal::Wrong(wanted)),
+            Err(Refusal::Ended(_)) if self.tokens.refusal().is_none() => Ok(()),
+            Err(refusal) => Err(refusal),
+        }
+    }
+
+    /// Where nodes are put.
+    fn context<V: TemplateValue>(&self) -> Context<V> {
+        Context {
+            alloc: self.alloc,
+            values: PhantomData,
+            faults: PhantomData,
         }
     }
 
     /// The template, up to the end of the tokens.
-    #[tactic(auto, unfolding(minijinja_grammar::specs::TemplateReading::tree_of))]
-    fn whole_template<V: TemplateValue>(&mut self) -> Result<Stmt<'s, V>, Error<'s>>
-        ensures read { GivesAll (stmt_tree V.contents) result (stream_of self.new)
-            (tree_of V.functions (ahead_of self.old).source (left (ahead_of self.old))) }
-        ensures whole { IfOk result (λ _. left (ahead_of self.new) ≡ []) }
-        ensures keeps { Keeps result (ahead_of self.old) (ahead_of self.new) }
-        ensures cause { IfErr result (IsFailure (stream_of self.new).ending) }
-        ensures filename { filename_of self.new ≡ filename_of self.old }
-        ensures spans { (ts : _) → IsOver ts (ahead_of self.old) → IfOk result (StmtStands ts) }
+    fn whole_template<V: TemplateValue>(&mut self) -> Result<Stmt<'s, V>, Refusal>
+        ensures read { ReadsWhole (stmt_node V.contents)
+            (reads (template_at V.functions max_depth) self.old.place) result self.new.place }
+        ensures filename { self.new.filename ≡ self.old.filename }
     {
-        let span = self.inner.stream.last_span();
-        let children = self.subparse()?;
-        Ok(nodes::template(
-            self.inner.alloc,
-            children,
-            self.inner.stream.expand_span(span),
-        )?)
+        let template = template(self.context(), &mut self.tokens, MAX_DEPTH)?;
+        self.end()?;
+        Ok(template)
     }
 
     /// The expression, up to the end of the tokens.
-    #[tactic(auto, unfolding(minijinja_grammar::specs::Reading::tree_of_expr))]
-    fn whole_expr<V: TemplateValue>(&mut self) -> Result<Expr<'s, V>, Error<'s>>
-        ensures read { GivesAll (expr_tree V.contents) result (stream_of self.new)
-            (tree_of_expr V.functions (ahead_of self.old).source (left (ahead_of self.old))) }
-        ensures whole { IfOk result (λ _. left (ahead_of self.new) ≡ []) }
-        ensures keeps { Keeps result (ahead_of self.old) (ahead_of self.new) }
-        ensures cause { IfErr result (IsFailure (stream_of self.new).ending) }
-        ensures filename { filename_of self.new ≡ filename_of self.old }
-        ensures spans { (ts : _) → IsOver ts (ahead_of self.old) → IfOk result (ExprStands ts) }
+    fn whole_expr<V: TemplateValue>(&mut self) -> Result<Expr<'s, V>, Refusal>
+        ensures read { ReadsWhole (expr_node V.contents)
+            (reads (expr_at V.functions max_depth) self.old.place) result self.new.place }
+        ensures filename { self.new.filename ≡ self.old.filename }
     {
-        let expr = self.inner.parse_expr(MAX_DEPTH)?;
-        self.expect_end()?;
+        let expr = expr(self.context(), &mut self.tokens, MAX_DEPTH)?;
+        self.end()?;
         Ok(expr)
     }
 
@@ -161,47 +237,43 @@ impl<'s, 'c> Parser<'s, 'c> {
     /// Errors: a syntax error or a bad escape, and memory that was refused.
     pub fn parse<V: TemplateValue>(&mut self) -> Result<Stmt<'s, V>, Error<'s>>
         // What is answered is derived from the tokens that are left.
-        ensures found { IfOk result (λ s. IsTemplateTree V.functions (ahead_of self.old).source (stream_of self.old) (stmt_tree V.contents s)) }
+        ensures found { IfOk result (IsTemplateAt V.functions V.contents self.old.place) }
 
         // From what is refused as a syntax error or for a bad escape nothing is derived.
-        ensures refused { IfErr result (λ e. IsRefusal e → (t : _) →
-            IsTemplateTree V.functions (ahead_of self.old).source (stream_of self.old) t → ⊥) }
+        ensures refused { IfErr result (IsNoTemplateAt V.functions self.old.place) }
 
         // What is derived is answered, and is the one tree, unless memory ran out.
-        ensures only { (t : _) → IsTemplateTree V.functions (ahead_of self.old).source (stream_of self.old) t →
-            MatchResult result (λ s. stmt_tree V.contents s ≡ t) (λ e. kind_of e ≡ OutOfMemory) }
+        ensures only { AnswersTemplateAt V.functions V.contents self.old.place result }
 
         ensures causes { IfErr result (λ e. IsTokenizerKind (kind_of e)) }
 
         // A refusal names the source, unless memory ran out.
-        ensures named { IfErr result (λ e. kind_of e ≢ OutOfMemory → IsNamed (filename_of self.old) e) }
-        ensures filename { filename_of self.new ≡ filename_of self.old }
+        ensures named { IfErr result (λ e. kind_of e ≢ OutOfMemory → IsNamed self.old.filename e) }
+        ensures filename { self.new.filename ≡ self.old.filename }
 
         // A bad escape is the one that the tokens end with.
-        ensures bad_escape { IfErr result (λ e. kind_of e ≡ BadEscape → (stream_of self.old).ending ≡ refused BadEscape (span_of e)) }
+        ensures bad_escape { IfErr result (EscapesIn self.old.place) }
+
+        // The tokenizer's refusal is answered where all tokens before it fit.
+        ensures first { AnswersTokenizerAt V.functions self.old.place result }
 
         ensures well_formed { IfOk result (λ s. IsWellFormed (stmt_tree V.contents s)) }
 
-        // Each node goes from token to token of the source.
-        ensures spans { (ts : _) → IsOver ts (ahead_of self.old) → IfOk result (StmtStands ts) }
+        // Each node goes from token to token, and a variable and data stand where their own tokens do.
+        ensures spans { IfOk result (StandsAt V.contents self.old.place) }
 
-        // Behind a tree no token is left, and behind a refusal that refusal, which is answered again from then on.
-        ensures spent { IfOk result (λ _. IsSpent self.new) }
-        ensures kept { IfErr result (λ e. HasRefused self.new (kind_of e) (span_of e)) }
-        ensures again { (kind : _) (span : _) → HasRefused self.old kind span →
-            IsErrAnd result (λ e. (kind_of e ≡ kind) × (span_of e ≡ span)) }
+        // After a tree no token is left, and after a refusal that refusal, which is answered again from then on.
+        ensures spent { IfOk result (λ _. IsSpent self.new.place) }
+        ensures kept { IfErr result (λ e. HasRefused self.new.place (kind_of e) (span_of e)) }
+        ensures again { Repeats self.old.place result }
 
-        // Behind the last token stands the empty template, unless memory ran out.
-        ensures empty { IsSpent self.old → MatchResult result (λ s. stmt_tree V.contents s ≡ template done) (λ e. kind_of e ≡ OutOfMemory) }
+        // After the last token stands the empty template, unless memory ran out.
+        ensures empty { IsSpent self.old.place → IsEmptyTemplate V.contents result }
     {
         self.unrefused()?;
         match self.whole_template() {
             Ok(template) => Ok(template),
-            Err(refusal) => {
-                let refusal = self.named(refusal);
-                self.inner.stream.refuse(refusal);
-                Err(refusal)
-            }
+            Err(refusal) => Err(self.refuse(refusal)),
         }
     }
 
@@ -210,47 +282,43 @@ impl<'s, 'c> Parser<'s, 'c> {
     /// Errors: a syntax error or a bad escape, and memory that was refused.
     pub fn parse_standalone_expr<V: TemplateValue>(&mut self) -> Result<Expr<'s, V>, Error<'s>>
         // What is answered is derived from the tokens that are left.
-        ensures found { IfOk result (λ x. IsExprTree V.functions (ahead_of self.old).source (stream_of self.old) (expr_tree V.contents x)) }
+        ensures found { IfOk result (IsExprAt V.functions V.contents self.old.place) }
 
         // From what is refused as a syntax error or for a bad escape nothing is derived.
-        ensures refused { IfErr result (λ e. IsRefusal e → (t : _) →
-            IsExprTree V.functions (ahead_of self.old).source (stream_of self.old) t → ⊥) }
+        ensures refused { IfErr result (IsNoExprAt V.functions self.old.place) }
 
         // What is derived is answered, and is the one tree, unless memory ran out.
-        ensures only { (t : _) → IsExprTree V.functions (ahead_of self.old).source (stream_of self.old) t →
-            MatchResult result (λ x. expr_tree V.contents x ≡ t) (λ e. kind_of e ≡ OutOfMemory) }
+        ensures only { AnswersExprAt V.functions V.contents self.old.place result }
 
         ensures causes { IfErr result (λ e. IsTokenizerKind (kind_of e)) }
 
         // A refusal names the source, unless memory ran out.
-        ensures named { IfErr result (λ e. kind_of e ≢ OutOfMemory → IsNamed (filename_of self.old) e) }
-        ensures filename { filename_of self.new ≡ filename_of self.old }
+        ensures named { IfErr result (λ e. kind_of e ≢ OutOfMemory → IsNamed self.old.filename e) }
+        ensures filename { self.new.filename ≡ self.old.filename }
 
         // A bad escape is the one that the tokens end with.
-        ensures bad_escape { IfErr result (λ e. kind_of e ≡ BadEscape → (stream_of self.old).ending ≡ refused BadEscape (span_of e)) }
+        ensures bad_escape { IfErr result (EscapesIn self.old.place) }
+
+        // The tokenizer's refusal is answered where all tokens before it fit.
+        ensures first { AnswersExprTokenizerAt V.functions self.old.place result }
 
         ensures well_formed { IfOk result (λ x. IsWhole (expr_tree V.contents x)) }
 
-        // Each node goes from token to token of the source.
-        ensures spans { (ts : _) → IsOver ts (ahead_of self.old) → IfOk result (ExprStands ts) }
+        // Each node goes from token to token, and a variable stands where its own token does.
+        ensures spans { IfOk result (ExprStandsAt V.contents self.old.place) }
 
-        // Behind a tree no token is left, and behind a refusal that refusal, which is answered again from then on.
-        ensures spent { IfOk result (λ _. IsSpent self.new) }
-        ensures kept { IfErr result (λ e. HasRefused self.new (kind_of e) (span_of e)) }
-        ensures again { (kind : _) (span : _) → HasRefused self.old kind span →
-            IsErrAnd result (λ e. (kind_of e ≡ kind) × (span_of e ≡ span)) }
+        // After a tree no token is left, and after a refusal that refusal, which is answered again from then on.
+        ensures spent { IfOk result (λ _. IsSpent self.new.place) }
+        ensures kept { IfErr result (λ e. HasRefused self.new.place (kind_of e) (span_of e)) }
+        ensures again { Repeats self.old.place result }
 
-        // Behind the last token stands no expression.
-        ensures nothing { IsSpent self.old → IsErrAnd result (λ e. (kind_of e ≡ SyntaxError) ⊎ (kind_of e ≡ OutOfMemory)) }
+        // After the last token stands no expression.
+        ensures nothing { IsSpent self.old.place → IsErrAnd result WantsExpr }
     {
         self.unrefused()?;
         match self.whole_expr() {
             Ok(expr) => Ok(expr),
-            Err(refusal) => {
-                let refusal = self.named(refusal);
-                self.inner.stream.refuse(refusal);
-                Err(refusal)
-            }
+            Err(refusal) => Err(self.refuse(refusal)),
         }
     }
 }
@@ -274,17 +342,16 @@ fn parse_template<'s, V: TemplateValue>(
     filename: &'s str,
     syntax: &SyntaxConfig,
 ) -> Result<Stmt<'s, V>, Error<'s>>
-    requires { length source.now < 2 ^ 32 }
-    ensures found { IfOk result (λ s. IsDerived V.functions syntax.now source.now (stmt_tree V.contents s)) }
-    ensures refused { IfErr result (λ e. IsRefusal e → (t : _) →
-        IsDerived V.functions syntax.now source.now t → ⊥) }
-    ensures only { (t : _) → IsDerived V.functions syntax.now source.now t →
-        MatchResult result (λ s. stmt_tree V.contents s ≡ t) IsLimit }
+    requires { IsShort source.now }
+    ensures found { IfOk result (IsTemplateOf V.functions V.contents syntax.now source.now) }
+    ensures refused { IfErr result (IsNoTemplate V.functions syntax.now source.now) }
+    ensures only { AnswersTemplate V.functions V.contents syntax.now source.now result }
     ensures causes { IfErr result (λ e. IsTokenizerKind (kind_of e)) }
     ensures named { IfErr result (λ e. kind_of e ≢ OutOfMemory → IsNamed filename.now e) }
-    ensures bad_escape { IfErr result (λ e. kind_of e ≡ BadEscape → (tokens_of_template syntax.now source.now).ending ≡ refused BadEscape (span_of e)) }
+    ensures bad_escape { IfErr result (EscapesIn (template_place syntax.now source.now)) }
+    ensures first { AnswersTokenizer V.functions syntax.now source.now result }
     ensures well_formed { IfOk result (λ s. IsWellFormed (stmt_tree V.contents s)) }
-    ensures spans { IfOk result (StmtStands (tokens_of_template syntax.now source.now).tokens) }
+    ensures spans { IfOk result (StandsAt V.contents (template_place syntax.now source.now)) }
 {
     let mut parser = Parser::new(alloc, source, filename, false, syntax);
     parser.parse()
@@ -294,17 +361,16 @@ fn parse_expression<'s, V: TemplateValue>(
     alloc: Global,
     source: &'s str,
 ) -> Result<Expr<'s, V>, Error<'s>>
-    requires { length source.now < 2 ^ 32 }
-    ensures found { IfOk result (λ x. IsExprDerived V.functions default_syntax source.now (expr_tree V.contents x)) }
-    ensures refused { IfErr result (λ e. IsRefusal e → (t : _) →
-        IsExprDerived V.functions default_syntax source.now t → ⊥) }
-    ensures only { (t : _) → IsExprDerived V.functions default_syntax source.now t →
-        MatchResult result (λ x. expr_tree V.contents x ≡ t) IsLimit }
+    requires { IsShort source.now }
+    ensures found { IfOk result (IsExprOf V.functions V.contents default_syntax source.now) }
+    ensures refused { IfErr result (IsNoExpr V.functions default_syntax source.now) }
+    ensures only { AnswersExpr V.functions V.contents default_syntax source.now result }
     ensures causes { IfErr result (λ e. IsTokenizerKind (kind_of e)) }
     ensures named { IfErr result (λ e. kind_of e ≢ OutOfMemory → IsNamed (codes "<expression>") e) }
-    ensures bad_escape { IfErr result (λ e. kind_of e ≡ BadEscape → (tokens_of_expression default_syntax source.now).ending ≡ refused BadEscape (span_of e)) }
+    ensures bad_escape { IfErr result (EscapesIn (expr_place default_syntax source.now)) }
+    ensures first { AnswersExprTokenizer V.functions source.now result }
     ensures well_formed { IfOk result (λ x. IsWhole (expr_tree V.contents x)) }
-    ensures spans { IfOk result (ExprStands (tokens_of_expression default_syntax source.now).tokens) }
+    ensures spans { IfOk result (ExprStandsAt V.contents (expr_place default_syntax source.now)) }
 {
     let syntax = SyntaxConfig::default();
     let mut parser = Parser::new(alloc, source, EXPRESSION_NAME, true, &syntax);
@@ -320,22 +386,22 @@ pub fn parse<'s, V: TemplateValue>(
     syntax: &SyntaxConfig,
 ) -> Result<Stmt<'s, V>, Error<'s>>
     // What is answered is derived.
-    ensures found { IfOk result (λ s. IsDerived V.functions syntax.now source.now (stmt_tree V.contents s)) }
+    ensures found { IfOk result (IsTemplateOf V.functions V.contents syntax.now source.now) }
 
     // What is refused as a syntax error or for a bad escape is not derived, whatever the tree.
-    ensures refused { IfErr result (λ e. IsRefusal e → (t : _) →
-        IsDerived V.functions syntax.now source.now t → ⊥) }
+    ensures refused { IfErr result (IsNoTemplate V.functions syntax.now source.now) }
 
     // What is derived is answered, and is the one tree, unless memory ran out or the source is too long.
-    ensures only { (t : _) → IsDerived V.functions syntax.now source.now t →
-        MatchResult result (λ s. stmt_tree V.contents s ≡ t) IsLimit }
+    ensures only { AnswersTemplate V.functions V.contents syntax.now source.now result }
 
     // A source is too long exactly from 2^32 bytes on.
-    ensures too_long { 2 ^ 32 ≤ length source.now → IsErrAnd result (λ e. kind_of e ≡ SourceTooLong) }
-    ensures too_long_only { IfErr result (λ e. kind_of e ≡ SourceTooLong → 2 ^ 32 ≤ length source.now) }
+    ensures too_long { 2 ^ 32 ≤ length source.now → IsErrAnd result IsTooLong }
+    ensures too_long_only { IfErr result (λ e. IsTooLong e → 2 ^ 32 ≤ length source.now) }
 
     // A bad escape is the one that the tokens end with.
-    ensures bad_escape { IfErr result (λ e. kind_of e ≡ BadEscape → (tokens_of_template syntax.now source.now).ending ≡ refused BadEscape (span_of e)) }
+    ensures bad_escape { IfErr result (EscapesIn (template_place syntax.now source.now)) }
+    // The tokenizer's refusal is answered where all tokens before it fit.
+    ensures first { IsShort source.now → AnswersTokenizer V.functions syntax.now source.now result }
 
     ensures causes { IfErr result IsCause }
 
@@ -343,7 +409,7 @@ pub fn parse<'s, V: TemplateValue>(
     ensures named { IfErr result (λ e. kind_of e ≢ OutOfMemory → IsNamed filename.now e) }
 
     ensures well_formed { IfOk result (λ s. IsWellFormed (stmt_tree V.contents s)) }
-    ensures spans { IfOk result (StmtStands (tokens_of_template syntax.now source.now).tokens) }
+    ensures spans { IfOk result (StandsAt V.contents (template_place syntax.now source.now)) }
 {
     if source.len() >= SOURCE_LIMIT {
         return Err(too_long(filename));
@@ -358,22 +424,22 @@ pub fn parse_expr<'s, V: TemplateValue>(
     source: &'s str,
 ) -> Result<Expr<'s, V>, Error<'s>>
     // What is answered is derived.
-    ensures found { IfOk result (λ x. IsExprDerived V.functions default_syntax source.now (expr_tree V.contents x)) }
+    ensures found { IfOk result (IsExprOf V.functions V.contents default_syntax source.now) }
 
     // What is refused as a syntax error or for a bad escape is not derived, whatever the tree.
-    ensures refused { IfErr result (λ e. IsRefusal e → (t : _) →
-        IsExprDerived V.functions default_syntax source.now t → ⊥) }
+    ensures refused { IfErr result (IsNoExpr V.functions default_syntax source.now) }
 
     // What is derived is answered, and is the one tree, unless memory ran out or the source is too long.
-    ensures only { (t : _) → IsExprDerived V.functions default_syntax source.now t →
-        MatchResult result (λ x. expr_tree V.contents x ≡ t) IsLimit }
+    ensures only { AnswersExpr V.functions V.contents default_syntax source.now result }
 
     // A source is too long exactly from 2^32 bytes on.
-    ensures too_long { 2 ^ 32 ≤ length source.now → IsErrAnd result (λ e. kind_of e ≡ SourceTooLong) }
-    ensures too_long_only { IfErr result (λ e. kind_of e ≡ SourceTooLong → 2 ^ 32 ≤ length source.now) }
+    ensures too_long { 2 ^ 32 ≤ length source.now → IsErrAnd result IsTooLong }
+    ensures too_long_only { IfErr result (λ e. IsTooLong e → 2 ^ 32 ≤ length source.now) }
 
     // A bad escape is the one that the tokens end with.
-    ensures bad_escape { IfErr result (λ e. kind_of e ≡ BadEscape → (tokens_of_expression default_syntax source.now).ending ≡ refused BadEscape (span_of e)) }
+    ensures bad_escape { IfErr result (EscapesIn (expr_place default_syntax source.now)) }
+    // The tokenizer's refusal is answered where all tokens before it fit.
+    ensures first { IsShort source.now → AnswersExprTokenizer V.functions source.now result }
 
     ensures causes { IfErr result IsCause }
 
@@ -381,7 +447,7 @@ pub fn parse_expr<'s, V: TemplateValue>(
     ensures named { IfErr result (λ e. kind_of e ≢ OutOfMemory → IsNamed (codes "<expression>") e) }
 
     ensures well_formed { IfOk result (λ x. IsWhole (expr_tree V.contents x)) }
-    ensures spans { IfOk result (ExprStands (tokens_of_expression default_syntax source.now).tokens) }
+    ensures spans { IfOk result (ExprStandsAt V.contents (expr_place default_syntax source.now)) }
 {
     if source.len() >= SOURCE_LIMIT {
         return Err(too_long(EXPRESSION_NAME));

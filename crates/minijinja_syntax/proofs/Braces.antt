@@ -100,7 +100,7 @@ marker_at-last s text at h short = none_eligible s text at (λ m e. over m (defa
     over LineStatement some within = omega (arith, some)
     over LineComment some within = omega (arith, some)
 
--- what the marker of a byte behind a `{` is
+-- what the marker of a byte after a `{` is
 by_byte : (b : ℕ) (P : Option StartMarker → Type 0) → (b ≡ 123 → P (Some Variable)) → (b ≡ 37 → P (Some Block)) → (b ≡ 35 → P (Some Comment)) → (b ≢ 123 → b ≢ 37 → b ≢ 35 → P None) → P (braced_marker b)
 by_byte b P v k c n =
     cond_both (b == 123) _ _ P (λ t. v (eqb-true b 123 t)) (λ f. cond_both (b == 37) _ _ P (λ t. k (eqb-true b 37 t)) (λ g. cond_both (b == 35) _ _ P (λ t. c (eqb-true b 35 t)) (λ i. n (eqb-false b 123 f) (eqb-false b 37 g) (eqb-false b 35 i))))
@@ -142,7 +142,7 @@ default_is s text at m built h d t =
     } in
     marker_is s text at m built here
 
--- the byte behind a `{` tells the marker
+-- the byte after a `{` tells the marker
 pub marker_at-brace : (s : Syntax) (text : Text) (at : ℕ) → IsBuildable s → HasDefaultStarts s → at + 1 < length text → get_or text at 0 ≡ 123 → braced_marker (get_or text (at + 1) 0) ≡ marker_at s text at
 marker_at-brace s text at built h l brace =
     by_byte (get_or text (at + 1) 0) (λ x. x ≡ marker_at s text at)
@@ -183,7 +183,7 @@ rest_is text at = let l = length-drop at text in take_all _ _ (omega (arith, l))
 pub next_brace-within : (text : Text) (at ahead : ℕ) → ahead < length (rest_of text at) → at + ahead < length text
 next_brace-within text at ahead high = let l = ap length (rest_is text at) ∙ length-drop at text in omega (arith, l, high)
 
--- what a search for `{` says of the next marker: it is at or behind the place that is found, which is within
+-- what a search for `{` says of the next marker: it is at or after the place that is found, which is within
 pub next_marker-to_brace : (s : Syntax) (text : Text) (at ahead : ℕ) → HasDefaultStarts s → at ≤ length text → NoneBefore (Passes (is_byte 123) (rest_of text at)) 0 (length (rest_of text at)) ahead → next_marker s text at ≡ next_marker s text (at + ahead)
 next_marker-to_brace s text at ahead h within found =
     let l = next_brace-within text at ahead found.high in
@@ -228,7 +228,7 @@ default_utf8 Comment = IsUtf8-from_ascii _ (two_ascii _ _ (lit< tt) (lit< tt))
 default_utf8 LineStatement = IsUtf8-nil
 default_utf8 LineComment = IsUtf8-nil
 
--- a text may be cut before and behind such a marker
+-- a text may be cut before and after such a marker
 pub place-default : (s : Syntax) (text : Text) (offset : ℕ) (r : Option (ℕ × StartMarker × ℕ)) → HasDefaultStarts s → IsUtf8 text → FindsMarker s text offset r → IfSome r (λ f. IsMarkerPlace s text (offset + f.0) f.1)
 place-default s text offset None h u f = tt
 place-default s text offset (Some found) h u f =

@@ -43,7 +43,7 @@ end_boundary d text at ud u some within h =
     let m = length-drop at text in
     IsCharBoundary-from_drop text (at + length d) (omega (arith, l, m)) (subst IsUtf8 (drop-drop (length d) at text) rest)
 
--- behind the text no delimiter stands
+-- after the text no delimiter stands
 pub stands_past : (d text : Text) (at : ℕ) → 0 < length d → length text ≤ at → stands d text at ≡ false
 stands_past d text at some h = ap (λ rest. starts_with nat_eq rest d) (drop_all at text h) ∙ none d some
   where

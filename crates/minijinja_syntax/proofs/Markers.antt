@@ -24,7 +24,7 @@ eligible_some s text at m h =
 pub eligible_stands : (s : Syntax) (text : Text) (at : ℕ) (m : StartMarker) → is_eligible s text at m ≡ true → stands (start_of s m) text at ≡ true
 eligible_stands s text at m h = (and_parts (may_begin (starts_line text at) m && nat_lt 0 (length (start_of s m))) (stands (start_of s m) text at) h).1
 
--- behind the text none is
+-- after the text none is
 pub eligible_past : (s : Syntax) (text : Text) (at : ℕ) (m : StartMarker) → length text ≤ at → is_eligible s text at m ≡ false
 eligible_past s text at m h = ⊎_elim
     (λ (t : is_eligible s text at m ≡ true).

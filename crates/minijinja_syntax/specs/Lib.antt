@@ -3,6 +3,7 @@ pub mod Quotes
 pub mod TokenWords
 pub mod SpanWords
 pub mod Tokens
+pub mod Streams
 pub mod Errors
 pub mod Syntax
 pub mod private

@@ -74,7 +74,7 @@ longest_of s p m (n ∷ ns) = longer s (if p m then Some m else None) (longest_o
 unfoldable pub marker_at : Syntax → Text → ℕ → Option StartMarker
 marker_at s text at = longest_of s (is_eligible s text at) Variable (Block ∷ Comment ∷ LineStatement ∷ LineComment ∷ [])
 
--- the first of so many places that passes the test, or the place behind them
+-- the first of so many places that passes the test, or the place after them
 abbrev pub next_place : (ℕ → Bool) → (at left : ℕ) → ℕ
 next_place p at zero = at
 next_place p at (suc left) = if p at then at else next_place p (at + 1) left
@@ -83,7 +83,7 @@ next_place p at (suc left) = if p at then at else next_place p (at + 1) left
 unfoldable pub next_marker : Syntax → Text → ℕ → ℕ
 next_marker s text at = next_place (λ p. is_some (marker_at s text p)) at (length text - at)
 
--- the marker of a place, if there is one, behind how far it is from the offset and before its length
+-- the marker of a place, if there is one, after how far it is from the offset and before its length
 abbrev pub found_at : Syntax → (offset place : ℕ) → Option StartMarker → Option (ℕ × StartMarker × ℕ)
 found_at s offset place None = None
 found_at s offset place (Some m) = Some (place - offset, m, length (start_of s m))
@@ -92,7 +92,7 @@ found_at s offset place (Some m) = Some (place - offset, m, length (start_of s m
 abbrev pub found_marker : Syntax → Text → ℕ → Option (ℕ × StartMarker × ℕ)
 found_marker s text offset = let place = next_marker s text offset in found_at s offset place (marker_at s text place)
 
--- the text may be cut before the marker and behind it
+-- the text may be cut before the marker and after it
 pub record IsMarkerPlace (s : Syntax) (text : Text) (at : ℕ) (m : StartMarker) : Type 0 where
   pub start : IsCharBoundary text at
   pub stop : IsCharBoundary text (at + length (start_of s m))

@@ -1,4 +1,5 @@
 -- What the contracts of private functions cite.
+pub mod Delimiters
 pub mod SyntaxFields
 pub mod DefaultStarts
 pub mod FirstBytes

@@ -38,6 +38,102 @@ impl fmt::Display for ErrorKind {
     }
 }
 
+/// What a text should have gone on with.
+#[derive(Clone, Copy, Debug, PartialEq, Eq)]
+pub enum Expected {
+    /// An expression.
+    Expression,
+    /// An identifier.
+    Identifier,
+    /// A string.
+    String,
+    /// The word that names a statement.
+    BlockKeyword,
+    /// Data, an output or a tag.
+    Part,
+    /// The end of the text.
+    End,
+    /// The end of a comment.
+    CommentEnd,
+    /// The end of a raw block.
+    RawBlockEnd,
+    /// The word `if`.
+    If,
+    /// The word `else`.
+    Else,
+    /// The word `not`.
+    Not,
+    /// The word `in`.
+    In,
+    /// The word `is`.
+    Is,
+    /// `.`.
+    Dot,
+    /// `,`.
+    Comma,
+    /// `:`.
+    Colon,
+    /// `=`.
+    Assign,
+    /// `|`.
+    Pipe,
+    /// `-`.
+    Minus,
+    /// `*`.
+    Mul,
+    /// `**`.
+    Pow,
+    /// `(`.
+    ParenOpen,
+    /// `)`.
+    ParenClose,
+    /// `[`.
+    BracketOpen,
+    /// `]`.
+    BracketClose,
+    /// `}`.
+    BraceClose,
+    /// The end of a variable tag.
+    VariableEnd,
+    /// The end of a block tag.
+    BlockEnd,
+}
+
+impl fmt::Display for Expected {
+    fn fmt<W: fmt::Write>(&self, f: &mut fmt::Formatter<W>) -> fmt::Result {
+        f.write_str(match self {
+            Expected::Expression => "expression",
+            Expected::Identifier => "identifier",
+            Expected::String => "string",
+            Expected::BlockKeyword => "block keyword",
+            Expected::Part => "template data or the start of a tag",
+            Expected::End => "end of input",
+            Expected::CommentEnd => "end of comment",
+            Expected::RawBlockEnd => "end of raw block",
+            Expected::If => "if",
+            Expected::Else => "else",
+            Expected::Not => "not",
+            Expected::In => "in",
+            Expected::Is => "is",
+            Expected::Dot => "`.`",
+            Expected::Comma => "`,`",
+            Expected::Colon => "`:`",
+            Expected::Assign => "assignment operator",
+            Expected::Pipe => "`|`",
+            Expected::Minus => "`-`",
+            Expected::Mul => "`*`",
+            Expected::Pow => "`**`",
+            Expected::ParenOpen => "`(`",
+            Expected::ParenClose => "`)`",
+            Expected::BracketOpen => "`[`",
+            Expected::BracketClose => "`]`",
+            Expected::BraceClose => "`}`",
+            Expected::VariableEnd => "end of variable block",
+            Expected::BlockEnd => "end of block",
+        })
+    }
+}
+
 /// What exactly is wrong, in words that its `Display` gives.
 #[derive(Clone, Copy, Debug, PartialEq, Eq)]
 pub enum Detail<'s> {
@@ -49,7 +145,7 @@ pub enum Detail<'s> {
     UnterminatedString,
     /// A string has an escape that means nothing.
     BadEscape,
-    /// A number has no digits behind its prefix.
+    /// A number has no digits after its prefix.
     MissingDigits,
     /// A number has a digit that its radix does not have.
     DigitOutOfRange,
@@ -60,13 +156,19 @@ pub enum Detail<'s> {
     /// A number reads as a float.
     FloatLiteral,
     /// The text ends where something else was expected.
-    UnexpectedEnd(&'static str),
+    UnexpectedEnd(Expected),
     /// A token stands where something else was expected.
-    UnexpectedToken(&'static str),
+    UnexpectedToken(Expected),
     /// A block tag begins with a word that names no statement.
     UnknownStatement(&'s str),
     /// A name that cannot be assigned to.
     ReservedName(&'s str),
+    /// Expressions and statements nest deeper than 150.
+    TooDeep,
+    /// A call has more than 2000 arguments.
+    TooManyArguments,
+    /// A plain argument stands after a keyword argument.
+    PlainAfterKeyword,
     /// Memory was refused.
     OutOfMemory,
     /// The source has 2^32 bytes or more.
@@ -94,6 +196,9 @@ impl fmt::Display for Detail<'_> {
             Detail::UnexpectedToken(wanted) => write!(f, "unexpected token, expected {wanted}"),
             Detail::UnknownStatement(word) => write!(f, "unknown statement {word}"),
             Detail::ReservedName(name) => write!(f, "cannot assign to reserved name {name}"),
+            Detail::TooDeep => write!(f, "template exceeds maximum recursion limits"),
+            Detail::TooManyArguments => write!(f, "too many arguments in function call"),
+            Detail::PlainAfterKeyword => write!(f, "non-keyword arg after keyword arg"),
             Detail::OutOfMemory => write!(f, "out of memory"),
             Detail::SourceTooLong => write!(f, "source too long"),
             Detail::TooManyInstructions => write!(f, "too many instructions"),
@@ -170,7 +275,7 @@ impl<'s> Error<'s> {
     }
 }
 
-/// `KIND: DETAIL`, and behind it the name and the line where they are known.
+/// `KIND: DETAIL`, and after it the name and the line where they are known.
 impl fmt::Display for Error<'_> {
     fn fmt<W: fmt::Write>(&self, f: &mut fmt::Formatter<W>) -> fmt::Result {
         let Error {

@@ -1,15 +1,15 @@
 //! How tags and lines of statements begin and end, and where the next one of a text begins.
 ghost use Rattle.std.specs.Prelude.{◌≡◌, ◌<◌, ◌↔◌, length, IsSome, IfSome, IfOk};
-ghost use Rattle.std.specs.Cow.{cow_str_bytes};
+ghost use Rattle.minijinja_syntax.specs.private.Delimiters.{delimiter_text};
 ghost use Rattle.minijinja_syntax.specs.Syntax.{start_of, default_syntax};
 
 mod markers;
 
+use crate::delimiter::{Delimiter, Standard};
 use crate::error::Error;
 use crate::syntax::markers::find_default_marker;
 pub use crate::syntax::markers::stands_at;
 use std::alloc::{AllocError, Global};
-use std::borrow::CowStr;
 use std::marker::Model;
 
 /// What a start marker begins.
@@ -58,14 +58,14 @@ const PAIRS: [(StartMarker, StartMarker); 10] = [
 /// The fields of a syntax, which a builder may leave in a state that is refused. An empty prefix is off.
 #[derive(Drop)]
 struct Settings {
-    block_start: CowStr<'static>,
-    block_end: CowStr<'static>,
-    variable_start: CowStr<'static>,
-    variable_end: CowStr<'static>,
-    comment_start: CowStr<'static>,
-    comment_end: CowStr<'static>,
-    line_statement: CowStr<'static>,
-    line_comment: CowStr<'static>,
+    block_start: Delimiter,
+    block_end: Delimiter,
+    variable_start: Delimiter,
+    variable_end: Delimiter,
+    comment_start: Delimiter,
+    comment_end: Delimiter,
+    line_statement: Delimiter,
+    line_comment: Delimiter,
     trim_blocks: bool,
     lstrip_blocks: bool,
     keep_trailing_newline: bool,
@@ -83,50 +83,25 @@ fn default_start(marker: StartMarker) -> &'static str
     }
 }
 
-fn owned(alloc: Global, text: &str) -> Result<CowStr<'static>, AllocError>
-    ensures { IfOk result (λ copy. cow_str_bytes copy ≡ text.now) }
-{
-    Ok(CowStr::Owned(String::from_str(alloc, text)?))
-}
-
-/// The same text, in memory of this allocator.
-fn copied(alloc: Global, text: &CowStr<'static>) -> Result<CowStr<'static>, AllocError>
-    ensures { IfOk result (λ copy. cow_str_bytes copy ≡ cow_str_bytes text.now) }
-{
-    match text {
-        CowStr::Borrowed(text) => Ok(CowStr::Borrowed(*text)),
-        CowStr::Owned(text) => owned(alloc, text.as_str()),
-    }
-}
-
-/// The same text, in memory of the allocator that it has.
-fn cloned(text: &CowStr<'static>) -> Result<CowStr<'static>, AllocError>
-    ensures { IfOk result (λ copy. cow_str_bytes copy ≡ cow_str_bytes text.now) }
-{
-    match text {
-        CowStr::Borrowed(text) => Ok(CowStr::Borrowed(*text)),
-        CowStr::Owned(text) => Ok(CowStr::Owned(text.clone()?)),
-    }
-}
-
 impl Settings {
     ghost use Rattle.std.specs.Prelude.{◌≡◌, ◌↔◌, IsTrue, IfOk, All};
     ghost use Rattle.minijinja_syntax.specs.Syntax.{AreApart, HasBoth, IsBuildable, default_syntax, start_of, end_of};
     ghost use Rattle.minijinja_syntax.specs.private.SyntaxFields.{syntax_of};
     ghost use Rattle.minijinja_syntax.specs.private.DefaultStarts.{HasDefaultStarts};
 
+    #[tactic(auto, unfolding(crate::specs::private::Delimiters::delimiter_text))]
     fn of_jinja() -> Self
         ensures { syntax_of result ≡ default_syntax }
     {
         Settings {
-            block_start: CowStr::Borrowed(default_start(StartMarker::Block)),
-            block_end: CowStr::Borrowed("%}"),
-            variable_start: CowStr::Borrowed(default_start(StartMarker::Variable)),
-            variable_end: CowStr::Borrowed("}}"),
-            comment_start: CowStr::Borrowed(default_start(StartMarker::Comment)),
-            comment_end: CowStr::Borrowed("#}"),
-            line_statement: CowStr::Borrowed(default_start(StartMarker::LineStatement)),
-            line_comment: CowStr::Borrowed(default_start(StartMarker::LineComment)),
+            block_start: Delimiter::Standard(Standard::BlockStart),
+            block_end: Delimiter::Standard(Standard::BlockEnd),
+            variable_start: Delimiter::Standard(Standard::VariableStart),
+            variable_end: Delimiter::Standard(Standard::VariableEnd),
+            comment_start: Delimiter::Standard(Standard::CommentStart),
+            comment_end: Delimiter::Standard(Standard::CommentEnd),
+            line_statement: Delimiter::Standard(Standard::Off),
+            line_comment: Delimiter::Standard(Standard::Off),
             trim_blocks: false,
             lstrip_blocks: false,
             keep_trailing_newline: false,
@@ -137,14 +112,14 @@ impl Settings {
         ensures { IfOk result (λ copy. syntax_of copy ≡ syntax_of self.now) }
     {
         Ok(Settings {
-            block_start: copied(alloc, &self.block_start)?,
-            block_end: copied(alloc, &self.block_end)?,
-            variable_start: copied(alloc, &self.variable_start)?,
-            variable_end: copied(alloc, &self.variable_end)?,
-            comment_start: copied(alloc, &self.comment_start)?,
-            comment_end: copied(alloc, &self.comment_end)?,
-            line_statement: copied(alloc, &self.line_statement)?,
-            line_comment: copied(alloc, &self.line_comment)?,
+            block_start: self.block_start.copied(alloc)?,
+            block_end: self.block_end.copied(alloc)?,
+            variable_start: self.variable_start.copied(alloc)?,
+            variable_end: self.variable_end.copied(alloc)?,
+            comment_start: self.comment_start.copied(alloc)?,
+            comment_end: self.comment_end.copied(alloc)?,
+            line_statement: self.line_statement.copied(alloc)?,
+            line_comment: self.line_comment.copied(alloc)?,
             trim_blocks: self.trim_blocks,
             lstrip_blocks: self.lstrip_blocks,
             keep_trailing_newline: self.keep_trailing_newline,
@@ -155,14 +130,14 @@ impl Settings {
         ensures { IfOk result (λ copy. syntax_of copy ≡ syntax_of self.now) }
     {
         Ok(Settings {
-            block_start: cloned(&self.block_start)?,
-            block_end: cloned(&self.block_end)?,
-            variable_start: cloned(&self.variable_start)?,
-            variable_end: cloned(&self.variable_end)?,
-            comment_start: cloned(&self.comment_start)?,
-            comment_end: cloned(&self.comment_end)?,
-            line_statement: cloned(&self.line_statement)?,
-            line_comment: cloned(&self.line_comment)?,
+            block_start: self.block_start.cloned()?,
+            block_end: self.block_end.cloned()?,
+            variable_start: self.variable_start.cloned()?,
+            variable_end: self.variable_end.cloned()?,
+            comment_start: self.comment_start.cloned()?,
+            comment_end: self.comment_end.cloned()?,
+            line_statement: self.line_statement.cloned()?,
+            line_comment: self.line_comment.cloned()?,
             trim_blocks: self.trim_blocks,
             lstrip_blocks: self.lstrip_blocks,
             keep_trailing_newline: self.keep_trailing_newline,
@@ -200,7 +175,8 @@ impl Settings {
     }
 
     fn are_all_apart(&self, pairs: &[(StartMarker, StartMarker)]) -> bool
-        ensures { IsTrue result ↔ All (λ pair. AreApart (syntax_of self.now) pair.0 pair.1) pairs.now }
+        ensures { IsTrue result ↔ All (λ pair. AreApart (syntax_of self.now) pair.0 pair.1)
+            pairs.now }
     {
         pairs.iter().all(|pair| self.are_apart(pair.0, pair.1))
     }
@@ -211,20 +187,22 @@ impl Settings {
         !self.start_of(marker).is_empty() && !self.end_of(marker).is_empty()
     }
 
-    fn has_delimiters(&self) -> bool
-        ensures { IsTrue result ↔ All (HasBoth (syntax_of self.now)) DELIMITED }
+    fn have_both(&self, markers: &[StartMarker]) -> bool
+        ensures { IsTrue result ↔ All (HasBoth (syntax_of self.now)) markers.now }
     {
-        DELIMITED.iter().all(|marker| self.has_both(*marker))
+        markers.iter().all(|marker| self.has_both(*marker))
     }
 
     fn starts_by_default(&self, marker: StartMarker) -> bool
-        ensures { IsTrue result ↔ (start_of (syntax_of self.now) marker ≡ start_of default_syntax marker) }
+        ensures { IsTrue result ↔
+            (start_of (syntax_of self.now) marker ≡ start_of default_syntax marker) }
     {
         self.start_of(marker) == default_start(marker)
     }
 
     fn all_start_by_default(&self, markers: &[StartMarker]) -> bool
-        ensures { IsTrue result ↔ All (λ m. start_of (syntax_of self.now) m ≡ start_of default_syntax m) markers.now }
+        ensures { IsTrue result ↔ All
+            (λ m. start_of (syntax_of self.now) m ≡ start_of default_syntax m) markers.now }
     {
         markers.iter().all(|marker| self.starts_by_default(*marker))
     }
@@ -239,7 +217,7 @@ impl Settings {
     fn is_buildable(&self) -> bool
         ensures { IsTrue result ↔ IsBuildable (syntax_of self.now) }
     {
-        self.has_delimiters() && self.are_all_apart(&PAIRS)
+        self.have_both(&DELIMITED) && self.are_all_apart(&PAIRS)
     }
 }
 
@@ -272,12 +250,13 @@ impl SyntaxConfigBuilder {
         start: &str,
         end: &str,
     ) -> Result<(), Error<'static>>
-        ensures ok { OnOk result (self.new ≡ record self.old { block_start = start.now; block_end = end.now }) }
+        ensures ok { OnOk result
+            (self.new ≡ record self.old { block_start = start.now; block_end = end.now }) }
         ensures err { OnErr result (self.new ≡ self.old) }
         ensures memory { IfErr result IsOutOfMemory }
     {
-        let start = owned(alloc, start)?;
-        let end = owned(alloc, end)?;
+        let start = Delimiter::new(alloc, start)?;
+        let end = Delimiter::new(alloc, end)?;
         self.settings.block_start = start;
         self.settings.block_end = end;
         Ok(())
@@ -290,12 +269,13 @@ impl SyntaxConfigBuilder {
         start: &str,
         end: &str,
     ) -> Result<(), Error<'static>>
-        ensures ok { OnOk result (self.new ≡ record self.old { variable_start = start.now; variable_end = end.now }) }
+        ensures ok { OnOk result
+            (self.new ≡ record self.old { variable_start = start.now; variable_end = end.now }) }
         ensures err { OnErr result (self.new ≡ self.old) }
         ensures memory { IfErr result IsOutOfMemory }
     {
-        let start = owned(alloc, start)?;
-        let end = owned(alloc, end)?;
+        let start = Delimiter::new(alloc, start)?;
+        let end = Delimiter::new(alloc, end)?;
         self.settings.variable_start = start;
         self.settings.variable_end = end;
         Ok(())
@@ -308,12 +288,13 @@ impl SyntaxConfigBuilder {
         start: &str,
         end: &str,
     ) -> Result<(), Error<'static>>
-        ensures ok { OnOk result (self.new ≡ record self.old { comment_start = start.now; comment_end = end.now }) }
+        ensures ok { OnOk result
+            (self.new ≡ record self.old { comment_start = start.now; comment_end = end.now }) }
         ensures err { OnErr result (self.new ≡ self.old) }
         ensures memory { IfErr result IsOutOfMemory }
     {
-        let start = owned(alloc, start)?;
-        let end = owned(alloc, end)?;
+        let start = Delimiter::new(alloc, start)?;
+        let end = Delimiter::new(alloc, end)?;
         self.settings.comment_start = start;
         self.settings.comment_end = end;
         Ok(())
@@ -329,7 +310,7 @@ impl SyntaxConfigBuilder {
         ensures err { OnErr result (self.new ≡ self.old) }
         ensures memory { IfErr result IsOutOfMemory }
     {
-        let prefix = owned(alloc, prefix)?;
+        let prefix = Delimiter::new(alloc, prefix)?;
         self.settings.line_statement = prefix;
         Ok(())
     }
@@ -340,12 +321,12 @@ impl SyntaxConfigBuilder {
         ensures err { OnErr result (self.new ≡ self.old) }
         ensures memory { IfErr result IsOutOfMemory }
     {
-        let prefix = owned(alloc, prefix)?;
+        let prefix = Delimiter::new(alloc, prefix)?;
         self.settings.line_comment = prefix;
         Ok(())
     }
 
-    /// Whether the first line end behind a block tag is removed.
+    /// Whether the first line end after a block tag is removed.
     pub fn trim_blocks(&mut self, yes: bool) -> &mut Self
         ensures same_builder { result.ghost_name ≡ self.entry.ghost_name }
         ensures value { result.now ≡ record self.old { trim_blocks = yes } }
@@ -519,7 +500,7 @@ impl SyntaxConfig {
         some_text(&self.settings.line_comment)
     }
 
-    /// Whether the first line end behind a block tag is removed.
+    /// Whether the first line end after a block tag is removed.
     pub fn trim_blocks(&self) -> bool
         ensures { result ≡ self.now.trim_blocks }
     {
@@ -540,7 +521,7 @@ impl SyntaxConfig {
         self.settings.keep_trailing_newline
     }
 
-    /// The next start marker at or behind the byte `offset`: how many bytes behind it, the marker, and its length in
+    /// The next start marker at or after the byte `offset`: how many bytes after it, the marker, and its length in
     /// bytes without control. The leftmost eligible one; at one place the longest. It takes no memory.
     pub fn find_marker(&self, source: &str, offset: usize) -> Option<(usize, StartMarker, usize)>
         requires { offset ≤ length source.now }
@@ -557,11 +538,11 @@ impl SyntaxConfig {
     }
 }
 
-fn some_text<'t>(text: &'t CowStr<'static>) -> Option<&'t str>
-    ensures on { IsSome result ↔ (0 < length (cow_str_bytes text.now)) }
-    ensures value { IfSome result (λ some. some.now ≡ cow_str_bytes text.now) }
+fn some_text<'t>(text: &'t Delimiter) -> Option<&'t str>
+    ensures on { IsSome result ↔ (0 < length (delimiter_text text.now)) }
+    ensures value { IfSome result (λ some. some.now ≡ delimiter_text text.now) }
 {
-    if text.is_empty() {
+    if text.as_str().is_empty() {
         None
     } else {
         Some(text.as_str())
@@ -601,7 +582,7 @@ impl StartMarkerMatcher {
         })
     }
 
-    /// The next start marker at or behind the byte `offset`, as [`SyntaxConfig::find_marker`] finds it.
+    /// The next start marker at or after the byte `offset`, as [`SyntaxConfig::find_marker`] finds it.
     pub fn find(&self, source: &str, offset: usize) -> Option<(usize, StartMarker, usize)>
         requires { offset ≤ length source.now }
         ensures value { result ≡ found_marker self.now source.now offset }

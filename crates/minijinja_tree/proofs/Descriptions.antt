@@ -1,5 +1,11 @@
 -- A chain of comparisons is an expression in messages, and nothing that a call names.
-use Rattle.std.proofs.Common.{◌≡◌, codes, refl}
+use Rattle.minijinja_tree.specs.CallTypes.{MethodOf, ReferenceTo}
+use Rattle.minijinja_tree.specs.Nodes.{node_of}
+use Rattle.minijinja_tree.specs.declared.ast.CallType.{CallType}
+use Rattle.minijinja_tree.specs.declared.ast.CallType.TheVariants.{Function, Method, Block, Object}
+use Rattle.minijinja_tree.specs.declared.ast.GetAttr.{GetAttr}
+use Rattle.minijinja_tree.specs.declared.ast.Spanned.{Spanned}
+use Rattle.std.proofs.Common.{◌≡◌, codes, refl, sym}
 use Rattle.minijinja_tree.specs.Erasure.{compare_tree}
 use Rattle.minijinja_tree.specs.Descriptions.{description}
 use Rattle.minijinja_tree.specs.Callees.{callee, callee_of_attribute, object, method}
@@ -32,3 +38,10 @@ pub method-called : {V F C : Type 0} (c : V → C) (e : Expr V F) (x : Text) →
 method-called c (Var s) x n = absurd (n s refl)
 method-called c (Compare' p q s) x n = compare-attribute c q x
 method-called c _ x n = refl
+
+-- the object of a method is the node that is called, as the attribute's operand
+pub own-object : {V F : Type 0} (t : CallType V F) (called : Expr V F) (a : Spanned (GetAttr V F)) (n : GetAttr V F) → called ≡ expr.GetAttr a → n ≡ node_of a → MethodOf t n.expr → ReferenceTo t called
+own-object (Function name) called a n e i h = tt
+own-object (Method o name) called a n e i h = (a, e, rw (sym i) h)
+own-object (Block name) called a n e i h = tt
+own-object (Object o) called a n e i h = absurd h

@@ -14,7 +14,7 @@ use Rattle.minijinja_tree.specs.declared.ast.Expr.{Expr}
 use Rattle.minijinja_tree.proofs.ConstantItems.{joined, joined-known, joined-unknown, joined-all}
 
 module _ {V F C K : Type 0} (f : Functions C K) (c : V → C) (before : List (V × V)) (xs : List (CallArg V F)) (i : ℕ) (x : CallArg V F) (within : i < length xs) (h : x ≡ get_or xs i x) where
-  -- the arguments behind the place
+  -- the arguments after the place
   abbrev rest : Option (List (C × C))
   rest = constant_keywords f (args_of c (drop (i + 1) xs))
 

@@ -10,7 +10,7 @@ abbrev pub is_less : Option Ordering → Bool
 is_less (Some Less) = true
 is_less _ = false
 
--- what stands behind the other
+-- what stands after the other
 abbrev pub is_greater : Option Ordering → Bool
 is_greater (Some Greater) = true
 is_greater _ = false
@@ -21,7 +21,7 @@ is_at_most (Some Less) = true
 is_at_most (Some Equal) = true
 is_at_most _ = false
 
--- what stands behind the other, or at one place with it
+-- what stands after the other, or at one place with it
 abbrev pub is_at_least : Option Ordering → Bool
 is_at_least (Some Greater) = true
 is_at_least (Some Equal) = true

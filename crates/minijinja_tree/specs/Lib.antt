@@ -6,6 +6,8 @@ pub mod Comparisons
 pub mod Operators
 pub mod Folding
 pub mod Erasure
+pub mod SpannedTrees
+pub mod SpannedErasure
 pub mod WellFormed
 pub mod Descriptions
 pub mod ExprSpans

@@ -15,7 +15,7 @@ mutual
     slice : Expr C → Optional C → Optional C → Optional C → Expr C
     unary : UnaryOp → Expr C → Expr C
     binary : BinOp → Expr C → Expr C → Expr C
-    -- two comparisons or more: the first operand, and each operator with the operand behind it
+    -- two comparisons or more: the first operand, and each operator with the operand after it
     compare : Expr C → Comparisons C → Expr C
     -- the test, the true part and the else part
     if_expr : Expr C → Expr C → Optional C → Expr C

@@ -5,7 +5,7 @@ ghost use Rattle.minijinja_tree.specs.Nodes.{node_of, span_of};
 
 use minijinja_base::error::Error;
 use minijinja_base::tokens::Span;
-use minijinja_base::value::TemplateValue;
+use minijinja_base::value::{TemplateValue, Value};
 use std::alloc::Global;
 
 /// A node and where it stands.
@@ -48,7 +48,7 @@ impl<T> Spanned<T> {
 /// A statement.
 #[cycle(stmt)]
 #[derive(Drop)]
-pub enum Stmt<'s, V: TemplateValue> {
+pub enum Stmt<'s, V: TemplateValue = Value> {
     Template(Spanned<Template<'s, V>>),
     EmitExpr(Spanned<EmitExpr<'s, V>>),
     EmitRaw(Spanned<EmitRaw<'s>>),
@@ -57,7 +57,7 @@ pub enum Stmt<'s, V: TemplateValue> {
 
 /// An expression.
 #[cycle(expr)]
-pub enum Expr<'s, V: TemplateValue> {
+pub enum Expr<'s, V: TemplateValue = Value> {
     Var(Spanned<Var<'s>>),
     Const(Spanned<Const<V>>),
     Slice(Spanned<Slice<'s, V>>),
@@ -190,13 +190,13 @@ impl<'s, V: TemplateValue> Expr<'s, V> {
 /// A whole template.
 #[cycle(stmt)]
 #[derive(Drop)]
-pub struct Template<'s, V: TemplateValue> {
+pub struct Template<'s, V: TemplateValue = Value> {
     pub children: Vec<Stmt<'s, V>>,
 }
 
 /// The output of an expression: `{{ expr }}`.
 #[derive(Drop)]
-pub struct EmitExpr<'s, V: TemplateValue> {
+pub struct EmitExpr<'s, V: TemplateValue = Value> {
     pub expr: Expr<'s, V>,
 }
 
@@ -208,7 +208,7 @@ pub struct EmitRaw<'s> {
 
 /// An assignment: `{% set target = expr %}`.
 #[derive(Drop)]
-pub struct Set<'s, V: TemplateValue> {
+pub struct Set<'s, V: TemplateValue = Value> {
     pub target: Expr<'s, V>,
     pub expr: Expr<'s, V>,
 }
@@ -221,14 +221,14 @@ pub struct Var<'s> {
 
 /// A constant.
 #[derive(Drop)]
-pub struct Const<V: TemplateValue> {
+pub struct Const<V: TemplateValue = Value> {
     pub value: V,
 }
 
 /// A slice: `expr[start:stop:step]`.
 #[cycle(expr)]
 #[derive(Drop)]
-pub struct Slice<'s, V: TemplateValue> {
+pub struct Slice<'s, V: TemplateValue = Value> {
     pub expr: Expr<'s, V>,
     pub start: Option<Expr<'s, V>>,
     pub stop: Option<Expr<'s, V>>,
@@ -245,7 +245,7 @@ pub enum UnaryOpKind {
 /// An operator of one side and its operand.
 #[cycle(expr)]
 #[derive(Drop)]
-pub struct UnaryOp<'s, V: TemplateValue> {
+pub struct UnaryOp<'s, V: TemplateValue = Value> {
     pub op: UnaryOpKind,
     pub expr: Expr<'s, V>,
 }
@@ -276,7 +276,7 @@ pub enum BinOpKind {
 /// An operator of two sides and its operands.
 #[cycle(expr)]
 #[derive(Drop)]
-pub struct BinOp<'s, V: TemplateValue> {
+pub struct BinOp<'s, V: TemplateValue = Value> {
     pub op: BinOpKind,
     pub left: Expr<'s, V>,
     pub right: Expr<'s, V>,
@@ -295,10 +295,10 @@ pub enum CompareOpKind {
     NotIn,
 }
 
-/// One comparison of a chain: its operator and the operand behind it.
+/// One comparison of a chain: its operator and the operand after it.
 #[cycle(expr)]
 #[derive(Drop)]
-pub struct CompareOp<'s, V: TemplateValue> {
+pub struct CompareOp<'s, V: TemplateValue = Value> {
     pub op: CompareOpKind,
     pub expr: Expr<'s, V>,
 }
@@ -306,7 +306,7 @@ pub struct CompareOp<'s, V: TemplateValue> {
 /// A chain of two comparisons or more: `expr < a < b`.
 #[cycle(expr)]
 #[derive(Drop)]
-pub struct Compare<'s, V: TemplateValue> {
+pub struct Compare<'s, V: TemplateValue = Value> {
     pub expr: Expr<'s, V>,
     pub ops: Vec<CompareOp<'s, V>>,
 }
@@ -314,7 +314,7 @@ pub struct Compare<'s, V: TemplateValue> {
 /// An if expression: `true_expr if test_expr else false_expr`.
 #[cycle(expr)]
 #[derive(Drop)]
-pub struct IfExpr<'s, V: TemplateValue> {
+pub struct IfExpr<'s, V: TemplateValue = Value> {
     pub test_expr: Expr<'s, V>,
     pub true_expr: Expr<'s, V>,
     pub false_expr: Option<Expr<'s, V>>,
@@ -323,7 +323,7 @@ pub struct IfExpr<'s, V: TemplateValue> {
 /// A filter: `expr|name(args)`. The innermost filter of a set or filter block has no operand.
 #[cycle(expr)]
 #[derive(Drop)]
-pub struct Filter<'s, V: TemplateValue> {
+pub struct Filter<'s, V: TemplateValue = Value> {
     pub name: &'s str,
     pub expr: Option<Expr<'s, V>>,
     pub args: Vec<CallArg<'s, V>>,
@@ -332,7 +332,7 @@ pub struct Filter<'s, V: TemplateValue> {
 /// A test: `expr is name(args)`.
 #[cycle(expr)]
 #[derive(Drop)]
-pub struct Test<'s, V: TemplateValue> {
+pub struct Test<'s, V: TemplateValue = Value> {
     pub name: &'s str,
     pub expr: Expr<'s, V>,
     pub args: Vec<CallArg<'s, V>>,
@@ -341,7 +341,7 @@ pub struct Test<'s, V: TemplateValue> {
 /// An attribute: `expr.name`.
 #[cycle(expr)]
 #[derive(Drop)]
-pub struct GetAttr<'s, V: TemplateValue> {
+pub struct GetAttr<'s, V: TemplateValue = Value> {
     pub expr: Expr<'s, V>,
     pub name: &'s str,
 }
@@ -349,7 +349,7 @@ pub struct GetAttr<'s, V: TemplateValue> {
 /// An item: `expr[subscript_expr]`.
 #[cycle(expr)]
 #[derive(Drop)]
-pub struct GetItem<'s, V: TemplateValue> {
+pub struct GetItem<'s, V: TemplateValue = Value> {
     pub expr: Expr<'s, V>,
     pub subscript_expr: Expr<'s, V>,
 }
@@ -360,7 +360,7 @@ pub const MOST_ARGUMENTS: usize = 2000;
 /// A call: `expr(args)`.
 #[cycle(expr)]
 #[derive(Drop)]
-pub struct Call<'s, V: TemplateValue> {
+pub struct Call<'s, V: TemplateValue = Value> {
     pub expr: Expr<'s, V>,
     pub args: Vec<CallArg<'s, V>>,
 }
@@ -368,7 +368,7 @@ pub struct Call<'s, V: TemplateValue> {
 /// An argument: `expr`, `name=expr`, `*expr` or `**expr`.
 #[cycle(expr)]
 #[derive(Drop)]
-pub enum CallArg<'s, V: TemplateValue> {
+pub enum CallArg<'s, V: TemplateValue = Value> {
     Pos(Expr<'s, V>),
     Kwarg(&'s str, Expr<'s, V>),
     PosSplat(Expr<'s, V>),
@@ -378,28 +378,28 @@ pub enum CallArg<'s, V: TemplateValue> {
 /// A list: `[a, b]`.
 #[cycle(expr)]
 #[derive(Drop)]
-pub struct List<'s, V: TemplateValue> {
+pub struct List<'s, V: TemplateValue = Value> {
     pub items: Vec<Expr<'s, V>>,
 }
 
 /// A tuple: `(a, b)`.
 #[cycle(expr)]
 #[derive(Drop)]
-pub struct Tuple<'s, V: TemplateValue> {
+pub struct Tuple<'s, V: TemplateValue = Value> {
     pub items: Vec<Expr<'s, V>>,
 }
 
 /// A map: `{a: b}`.
 #[cycle(expr)]
 #[derive(Drop)]
-pub struct Map<'s, V: TemplateValue> {
+pub struct Map<'s, V: TemplateValue = Value> {
     pub keys: Vec<Expr<'s, V>>,
     pub values: Vec<Expr<'s, V>>,
 }
 
 /// What a call calls.
 #[derive(Drop)]
-pub enum CallType<'a, 's, V: TemplateValue> {
+pub enum CallType<'a, 's, V: TemplateValue = Value> {
     /// A function by its name.
     Function(&'s str),
     /// A method of an object.
@@ -412,12 +412,14 @@ pub enum CallType<'a, 's, V: TemplateValue> {
 
 impl<'s, V: TemplateValue> Call<'s, V> {
     ghost use Rattle.minijinja_tree.specs.Callees.{callee};
-    ghost use Rattle.minijinja_tree.specs.CallTypes.{callee_shown};
+    ghost use Rattle.minijinja_tree.specs.CallTypes.{ReferenceTo, callee_shown};
     ghost use Rattle.minijinja_tree.specs.Erasure.{expr_tree};
 
-    /// What is called.
+    /// What is called. An object is the node's own subtree.
     pub fn identify_call(&self) -> CallType<'_, 's, V>
-        ensures { callee_shown V.contents result ≡ callee (expr_tree V.contents self.now.expr) }
+        ensures callee { callee_shown V.contents result ≡ callee
+            (expr_tree V.contents self.now.expr) }
+        ensures own { ReferenceTo result self.now.expr }
     {
         match &self.expr {
             Expr::Var(variable) => CallType::Function(variable.node().id),
@@ -429,11 +431,13 @@ impl<'s, V: TemplateValue> Call<'s, V> {
 
 impl<'s, V: TemplateValue> GetAttr<'s, V> {
     ghost use Rattle.minijinja_tree.specs.Callees.{callee_of_attribute};
-    ghost use Rattle.minijinja_tree.specs.CallTypes.{callee_shown};
+    ghost use Rattle.minijinja_tree.specs.CallTypes.{MethodOf, callee_shown};
     ghost use Rattle.minijinja_tree.specs.Erasure.{expr_tree};
 
     fn identify_call(&self) -> CallType<'_, 's, V>
-        ensures { callee_shown V.contents result ≡ callee_of_attribute (expr_tree V.contents self.now.expr) self.now.name.now }
+        ensures callee { callee_shown V.contents result ≡ callee_of_attribute
+            (expr_tree V.contents self.now.expr) self.now.name.now }
+        ensures own { MethodOf result self.now.expr }
     {
         match &self.expr {
             Expr::Var(variable) if variable.node().id == "self" => CallType::Block(self.name),

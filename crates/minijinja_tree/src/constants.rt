@@ -18,7 +18,8 @@ impl<'s, V: TemplateValue> Expr<'s, V> {
     #[cycle(as_const)]
     #[tactic(auto, unfolding(crate::specs::Folding::fold, crate::specs::Folding::if_some))]
     pub fn as_const(&self, alloc: Global) -> Result<Option<V>, Error<'static>>
-        ensures folds { IfOk result (λ r. option_map V.contents r ≡ fold V.functions (expr_tree V.contents self.now)) }
+        ensures folds { IfOk result
+            (λ r. option_map V.contents r ≡ fold V.functions (expr_tree V.contents self.now)) }
         ensures memory { IfErr result IsOutOfMemory }
     {
         match self {
@@ -40,8 +41,8 @@ fn unary_constant<V: TemplateValue>(
     alloc: Global,
     operation: &UnaryOp<'_, V>,
 ) -> Result<Option<V>, Error<'static>>
-    ensures folds { IfOk result (λ r. option_map V.contents r
-        ≡ fold V.functions (tree.unary (unary_op operation.now.op) (expr_tree V.contents operation.now.expr))) }
+    ensures folds { IfOk result (λ r. option_map V.contents r ≡ fold V.functions
+        (tree.unary (unary_op operation.now.op) (expr_tree V.contents operation.now.expr))) }
     ensures memory { IfErr result IsOutOfMemory }
 {
     match operation.expr.as_const(alloc)? {
@@ -56,8 +57,9 @@ fn binary_constant<V: TemplateValue>(
     alloc: Global,
     operation: &BinOp<'_, V>,
 ) -> Result<Option<V>, Error<'static>>
-    ensures folds { IfOk result (λ r. option_map V.contents r
-        ≡ fold V.functions (tree.binary (bin_op operation.now.op) (expr_tree V.contents operation.now.left) (expr_tree V.contents operation.now.right))) }
+    ensures folds { IfOk result (λ r. option_map V.contents r ≡ fold V.functions
+        (tree.binary (bin_op operation.now.op) (expr_tree V.contents operation.now.left)
+        (expr_tree V.contents operation.now.right))) }
     ensures memory { IfErr result IsOutOfMemory }
 {
     match operation.left.as_const(alloc)? {
@@ -74,7 +76,8 @@ fn compare_constant<V: TemplateValue>(
     alloc: Global,
     chain: &Compare<'_, V>,
 ) -> Result<Option<V>, Error<'static>>
-    ensures folds { IfOk result (λ r. option_map V.contents r ≡ fold V.functions (compare_tree V.contents chain.now)) }
+    ensures folds { IfOk result
+        (λ r. option_map V.contents r ≡ fold V.functions (compare_tree V.contents chain.now)) }
     ensures memory { IfErr result IsOutOfMemory }
 {
     match chain.expr.as_const(alloc)? {
@@ -111,7 +114,8 @@ fn comparisons_constant<V: TemplateValue>(
 impl<'s, V: TemplateValue> List<'s, V> {
     /// The list, where its items are all constants. Refused memory is the only error.
     pub fn as_const(&self, alloc: Global) -> Result<Option<V>, Error<'static>>
-        ensures folds { IfOk result (λ r. option_map V.contents r ≡ fold V.functions (tree.list (exprs_of V.contents self.now.items.items))) }
+        ensures folds { IfOk result (λ r. option_map V.contents r ≡ fold V.functions
+            (tree.list (exprs_of V.contents self.now.items.items))) }
         ensures memory { IfErr result IsOutOfMemory }
     {
         match constants_of(alloc, &self.items)? {
@@ -124,7 +128,8 @@ impl<'s, V: TemplateValue> List<'s, V> {
 impl<'s, V: TemplateValue> Tuple<'s, V> {
     /// The tuple, where its items are all constants. Refused memory is the only error.
     pub fn as_const(&self, alloc: Global) -> Result<Option<V>, Error<'static>>
-        ensures folds { IfOk result (λ r. option_map V.contents r ≡ fold V.functions (tree.tuple (exprs_of V.contents self.now.items.items))) }
+        ensures folds { IfOk result (λ r. option_map V.contents r ≡ fold V.functions
+            (tree.tuple (exprs_of V.contents self.now.items.items))) }
         ensures memory { IfErr result IsOutOfMemory }
     {
         match constants_of(alloc, &self.items)? {
@@ -137,8 +142,9 @@ impl<'s, V: TemplateValue> Tuple<'s, V> {
 impl<'s, V: TemplateValue> Map<'s, V> {
     /// The map, where its keys and values are all constants. Refused memory is the only error.
     pub fn as_const(&self, alloc: Global) -> Result<Option<V>, Error<'static>>
-        ensures folds { IfOk result (λ r. option_map V.contents r
-            ≡ fold V.functions (tree.map (exprs_of V.contents self.now.keys.items) (exprs_of V.contents self.now.values.items))) }
+        ensures folds { IfOk result (λ r. option_map V.contents r ≡ fold V.functions
+            (tree.map (exprs_of V.contents self.now.keys.items)
+            (exprs_of V.contents self.now.values.items))) }
         ensures memory { IfErr result IsOutOfMemory }
     {
         match constants_of(alloc, &self.keys)? {
@@ -201,7 +207,8 @@ fn constants_of<V: TemplateValue>(
     alloc: Global,
     exprs: &[Expr<'_, V>],
 ) -> Result<Option<Vec<V>>, Error<'static>>
-    ensures values { IfOk result (λ r. option_map (λ vs. map V.contents vs.items) r ≡ constants (exprs_of V.contents exprs.now)) }
+    ensures values { IfOk result (λ r. option_map (λ vs. map V.contents vs.items) r ≡ constants
+        (exprs_of V.contents exprs.now)) }
     ensures memory { IfErr result IsOutOfMemory }
 {
     let mut values = Vec::new(alloc);
@@ -216,7 +223,8 @@ fn constants_of<V: TemplateValue>(
 
 /// The value of the expression, where it is a constant.
 fn constant_of<V: TemplateValue>(expr: &Expr<'_, V>) -> Result<Option<V>, Error<'static>>
-    ensures value { IfOk result (λ r. option_map V.contents r ≡ constant_node (expr_tree V.contents expr.now)) }
+    ensures value { IfOk result
+        (λ r. option_map V.contents r ≡ constant_node (expr_tree V.contents expr.now)) }
     ensures memory { IfErr result IsOutOfMemory }
 {
     match expr {

@@ -20,7 +20,8 @@ impl UnaryOpKind {
         alloc: Global,
         operand: &V,
     ) -> Result<Option<V>, Error<'static>>
-        ensures value { IfOk result (λ r. option_map V.contents r ≡ fold_unary V.functions (unary_op self) (V.contents operand.now)) }
+        ensures value { IfOk result (λ r. option_map V.contents r ≡ fold_unary V.functions
+            (unary_op self) (V.contents operand.now)) }
         ensures memory { IfErr result IsOutOfMemory }
     {
         match self {
@@ -39,7 +40,8 @@ impl BinOpKind {
         left: V,
         right: V,
     ) -> Result<Option<V>, Error<'static>>
-        ensures value { IfOk result (λ r. option_map V.contents r ≡ fold_binary V.functions (working (bin_op self)) (V.contents left) (V.contents right)) }
+        ensures value { IfOk result (λ r. option_map V.contents r ≡ fold_binary V.functions
+            (working (bin_op self)) (V.contents left) (V.contents right)) }
         ensures memory { IfErr result IsOutOfMemory }
     {
         match self {
@@ -57,7 +59,8 @@ impl BinOpKind {
         left: &V,
         right: &V,
     ) -> Result<Option<V>, Error<'static>>
-        ensures value { IfOk result (λ r. option_map V.contents r ≡ fold_binary V.functions (working (bin_op self)) (V.contents left.now) (V.contents right.now)) }
+        ensures value { IfOk result (λ r. option_map V.contents r ≡ fold_binary V.functions
+            (working (bin_op self)) (V.contents left.now) (V.contents right.now)) }
         ensures memory { IfErr result IsOutOfMemory }
     {
         match self {
@@ -96,7 +99,8 @@ impl CompareOpKind {
         left: &V,
         right: &V,
     ) -> Result<Option<bool>, Error<'static>>
-        ensures value { IfOk result (λ r. r ≡ unless_fault (spec.compares V.functions (compare_op self) (V.contents left.now) (V.contents right.now))) }
+        ensures value { IfOk result (λ r. r ≡ unless_fault (spec.compares V.functions
+            (compare_op self) (V.contents left.now) (V.contents right.now))) }
         ensures memory { IfErr result IsOutOfMemory }
     {
         match self {
@@ -136,7 +140,7 @@ fn is_less(order: Option<Ordering>) -> bool
     matches!(order, Some(Ordering::Less))
 }
 
-/// Whether the first stands behind the second.
+/// Whether the first stands after the second.
 fn is_greater(order: Option<Ordering>) -> bool
     ensures { result ≡ spec.is_greater order }
 {
@@ -150,7 +154,7 @@ fn is_at_most(order: Option<Ordering>) -> bool
     matches!(order, Some(Ordering::Less | Ordering::Equal))
 }
 
-/// Whether the first stands behind the second, or at one place with it.
+/// Whether the first stands after the second, or at one place with it.
 fn is_at_least(order: Option<Ordering>) -> bool
     ensures { result ≡ spec.is_at_least order }
 {

@@ -102,8 +102,9 @@ fn is_whole<V: TemplateValue>(expr: &Expr<'_, V>) -> bool
 
 #[cycle(well_formed)]
 fn is_slice<V: TemplateValue>(slice: &Slice<'_, V>) -> bool
-    ensures { result ≡ tests.is_whole (tree.slice (expr_tree V.contents slice.now.expr) (optional_of V.contents slice.now.start)
-        (optional_of V.contents slice.now.stop) (optional_of V.contents slice.now.step)) }
+    ensures { result ≡ tests.is_whole (tree.slice (expr_tree V.contents slice.now.expr)
+        (optional_of V.contents slice.now.start) (optional_of V.contents slice.now.stop)
+        (optional_of V.contents slice.now.step)) }
 {
     is_whole(&slice.expr)
         && is_whole_if_any(&slice.start)
@@ -113,7 +114,8 @@ fn is_slice<V: TemplateValue>(slice: &Slice<'_, V>) -> bool
 
 #[cycle(well_formed)]
 fn is_chain<V: TemplateValue>(chain: &Compare<'_, V>) -> bool
-    ensures { result ≡ tests.is_whole (tree.compare (expr_tree V.contents (out-Compare _ _ chain.now).expr)
+    ensures { result ≡ tests.is_whole (tree.compare
+        (expr_tree V.contents (out-Compare _ _ chain.now).expr)
         (comparisons_of V.contents (out-Compare _ _ chain.now).ops.items)) }
 {
     has_two(&chain.ops) && is_whole(&chain.expr) && are_compared(&chain.ops)
@@ -122,7 +124,8 @@ fn is_chain<V: TemplateValue>(chain: &Compare<'_, V>) -> bool
 #[cycle(well_formed)]
 fn is_choice<V: TemplateValue>(choice: &IfExpr<'_, V>) -> bool
     ensures { result ≡ tests.is_whole (tree.if_expr (expr_tree V.contents choice.now.test_expr)
-        (expr_tree V.contents choice.now.true_expr) (optional_of V.contents choice.now.false_expr)) }
+        (expr_tree V.contents choice.now.true_expr)
+        (optional_of V.contents choice.now.false_expr)) }
 {
     is_whole(&choice.test_expr)
         && is_whole(&choice.true_expr)
@@ -131,30 +134,32 @@ fn is_choice<V: TemplateValue>(choice: &IfExpr<'_, V>) -> bool
 
 #[cycle(well_formed)]
 fn is_filter<V: TemplateValue>(filter: &Filter<'_, V>) -> bool
-    ensures { result ≡ tests.is_whole (tree.filter (optional_of V.contents filter.now.expr) filter.now.name.now
-        (args_of V.contents filter.now.args.items)) }
+    ensures { result ≡ tests.is_whole (tree.filter (optional_of V.contents filter.now.expr)
+        filter.now.name.now (args_of V.contents filter.now.args.items)) }
 {
     is_whole_operand(&filter.expr) && are_few(&filter.args) && are_arguments(&filter.args)
 }
 
 #[cycle(well_formed)]
 fn is_test<V: TemplateValue>(test: &Test<'_, V>) -> bool
-    ensures { result ≡ tests.is_whole (tree.test (expr_tree V.contents test.now.expr) test.now.name.now
-        (args_of V.contents test.now.args.items)) }
+    ensures { result ≡ tests.is_whole (tree.test (expr_tree V.contents test.now.expr)
+        test.now.name.now (args_of V.contents test.now.args.items)) }
 {
     is_whole(&test.expr) && are_few(&test.args) && are_arguments(&test.args)
 }
 
 #[cycle(well_formed)]
 fn is_call<V: TemplateValue>(call: &Call<'_, V>) -> bool
-    ensures { result ≡ tests.is_whole (tree.call (expr_tree V.contents call.now.expr) (args_of V.contents call.now.args.items)) }
+    ensures { result ≡ tests.is_whole
+        (tree.call (expr_tree V.contents call.now.expr) (args_of V.contents call.now.args.items)) }
 {
     is_whole(&call.expr) && are_few(&call.args) && are_arguments(&call.args)
 }
 
 #[cycle(well_formed)]
 fn is_map<V: TemplateValue>(map: &Map<'_, V>) -> bool
-    ensures { result ≡ tests.is_whole (tree.map (exprs_of V.contents map.now.keys.items) (exprs_of V.contents map.now.values.items)) }
+    ensures { result ≡ tests.is_whole (tree.map (exprs_of V.contents map.now.keys.items)
+        (exprs_of V.contents map.now.values.items)) }
 {
     are_as_many(&map.keys, &map.values) && are_whole(&map.keys) && are_whole(&map.values)
 }
@@ -244,7 +249,8 @@ fn are_few<V: TemplateValue>(args: &[CallArg<'_, V>]) -> bool
 
 /// Whether there are as many keys as values.
 fn are_as_many<V: TemplateValue>(keys: &[Expr<'_, V>], values: &[Expr<'_, V>]) -> bool
-    ensures { result ≡ (expr_count (exprs_of V.contents keys.now) == expr_count (exprs_of V.contents values.now)) }
+    ensures { result ≡
+        (expr_count (exprs_of V.contents keys.now) == expr_count (exprs_of V.contents values.now)) }
 {
     keys.len() == values.len()
 }

@@ -24,7 +24,7 @@ put-distinct k v (pair l w ps) h = by (put-distinct k v ps h.1) (equals l k) ref
     by rest true e = h
     by rest false e = (neither l k v ps e h.0, rest)
 
--- pairs put one after another behind distinct ones
+-- pairs put one after another after distinct ones
 put_all : (ps : List (Contents × Contents)) (made : Pairs) → HasDistinctKeys made → HasDistinctKeys (fold (λ made p. put p.0 p.1 made) made ps)
 put_all [] made h = h
 put_all (p ∷ ps) made h = put_all ps (put p.0 p.1 made) (put-distinct p.0 p.1 made h)

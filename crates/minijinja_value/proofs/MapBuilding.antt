@@ -7,7 +7,7 @@ use Rattle.minijinja_value.specs.ValueFunctions.{put}
 use Rattle.minijinja_value.specs.ValueViews.{contents_of, pairs_view}
 use Rattle.minijinja_value.specs.declared.value.Value.{Value}
 
--- a place is the first, or one behind it
+-- a place is the first, or one after it
 split : (t : Bool) (o : Option ℕ) (n : ℕ) → Some n ≡ (if t then Some 0 else option_map (λ k. k + 1) o) → ((t ≡ true) × (n ≡ 0)) ⊎ ((m : ℕ) × (t ≡ false) × (o ≡ Some m) × (n ≡ suc m))
 split true o n e = inl (refl, cc e)
 split false None n e = absurd (cc e)

@@ -11,7 +11,7 @@ abbrev pub joined : List Text → Text
 joined [] = []
 joined (t ∷ ts) = t ++ flat_map (λ u. codes ", " ++ u) ts
 
--- a tuple of one item has a comma behind it
+-- a tuple of one item has a comma after it
 abbrev pub tuple_words : List Text → Text
 tuple_words [] = codes "()"
 tuple_words (t ∷ []) = codes "(" ++ t ++ codes ",)"

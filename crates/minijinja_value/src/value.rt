@@ -77,7 +77,8 @@ pub trait TemplateValue: Sized + Drop {
 
     /// The keyword arguments of a call, by name.
     fn kwargs(alloc: Global, pairs: Vec<(Self, Self)>) -> Result<Self, AllocError>
-        ensures { IfOk result (λ v. contents v ≡ functions.kwargs (map_pairs contents pairs.items)) };
+        ensures { IfOk result
+            (λ v. contents v ≡ functions.kwargs (map_pairs contents pairs.items)) };
 
     /// Another value with the same contents.
     fn try_clone(&self) -> Result<Self, AllocError>
@@ -105,11 +106,13 @@ pub trait TemplateValue: Sized + Drop {
 
     /// The texts of two values, joined.
     fn concat(&self, alloc: Global, other: &Self) -> Result<Self, AllocError>
-        ensures { IfOk result (λ v. contents v ≡ functions.concat (contents self.now) (contents other.now)) };
+        ensures { IfOk result
+            (λ v. contents v ≡ functions.concat (contents self.now) (contents other.now)) };
 
     /// Whether an item is in the value.
     fn contains(&self, alloc: Global, item: &Self) -> Result<bool, OpError<Self::Fault>>
-        ensures { IsOutcome (λ b. b) fault_contents (functions.contains (contents self.now) (contents item.now)) result };
+        ensures { IsOutcome (λ b. b) fault_contents
+            (functions.contains (contents self.now) (contents item.now)) result };
 
     /// The value with the other sign.
     fn neg(&self, alloc: Global) -> Result<Self, OpError<Self::Fault>>
@@ -117,36 +120,44 @@ pub trait TemplateValue: Sized + Drop {
 
     /// The sum.
     fn add(&self, alloc: Global, other: &Self) -> Result<Self, OpError<Self::Fault>>
-        ensures { IsOutcome contents fault_contents (functions.add (contents self.now) (contents other.now)) result };
+        ensures { IsOutcome contents fault_contents
+            (functions.add (contents self.now) (contents other.now)) result };
 
     /// The difference.
     fn sub(&self, alloc: Global, other: &Self) -> Result<Self, OpError<Self::Fault>>
-        ensures { IsOutcome contents fault_contents (functions.sub (contents self.now) (contents other.now)) result };
+        ensures { IsOutcome contents fault_contents
+            (functions.sub (contents self.now) (contents other.now)) result };
 
     /// The product.
     fn mul(&self, alloc: Global, other: &Self) -> Result<Self, OpError<Self::Fault>>
-        ensures { IsOutcome contents fault_contents (functions.mul (contents self.now) (contents other.now)) result };
+        ensures { IsOutcome contents fault_contents
+            (functions.mul (contents self.now) (contents other.now)) result };
 
     /// The quotient as an integer.
     fn int_div(&self, alloc: Global, other: &Self) -> Result<Self, OpError<Self::Fault>>
-        ensures { IsOutcome contents fault_contents (functions.int_div (contents self.now) (contents other.now)) result };
+        ensures { IsOutcome contents fault_contents
+            (functions.int_div (contents self.now) (contents other.now)) result };
 
     /// The remainder.
     fn rem(&self, alloc: Global, other: &Self) -> Result<Self, OpError<Self::Fault>>
-        ensures { IsOutcome contents fault_contents (functions.rem (contents self.now) (contents other.now)) result };
+        ensures { IsOutcome contents fault_contents
+            (functions.rem (contents self.now) (contents other.now)) result };
 
     /// The power.
     fn pow(&self, alloc: Global, other: &Self) -> Result<Self, OpError<Self::Fault>>
-        ensures { IsOutcome contents fault_contents (functions.pow (contents self.now) (contents other.now)) result };
+        ensures { IsOutcome contents fault_contents
+            (functions.pow (contents self.now) (contents other.now)) result };
 
     // The truth value of a truth value is itself.
     ghost is_true_of_bool: { (b : Bool) → functions.is_true (functions.of_bool b) ≡ b };
 
     // An integer below 2^64 is a count.
-    ghost as_count_of_u64: { (n : ℕ) → n < 2 ^ 64 → functions.as_count (functions.of_u64 n) ≡ Some n };
+    ghost as_count_of_u64: { (n : ℕ) → n < 2 ^ 64 →
+        functions.as_count (functions.of_u64 n) ≡ Some n };
 
     // The next integer is the sum with 1.
-    ghost add_one: { (n : ℕ) → n + 1 < 2 ^ 64 → functions.add (functions.of_u64 n) (functions.of_u64 1) ≡ Ok (functions.of_u64 (n + 1)) };
+    ghost add_one: { (n : ℕ) → n + 1 < 2 ^ 64 →
+        functions.add (functions.of_u64 n) (functions.of_u64 1) ≡ Ok (functions.of_u64 (n + 1)) };
 }
 
 /// Why an operator gave no value.
@@ -266,7 +277,8 @@ impl ValueMap {
     /// Puts a value for a key. An equal key keeps its place and takes the new value. Where memory is refused, the map stays
     /// as it was.
     pub fn insert(&mut self, key: Value, value: Value) -> Result<(), AllocError>
-        ensures ok { OnOk result (map_view self.new ≡ put (contents_of key) (contents_of value) (map_view self.old)) }
+        ensures ok { OnOk result
+            (map_view self.new ≡ put (contents_of key) (contents_of value) (map_view self.old)) }
         ensures err { OnErr result (map_view self.new ≡ map_view self.old) }
     {
         build::put(&mut self.pairs, key, value)
@@ -274,7 +286,8 @@ impl ValueMap {
 
     /// The value of the key that is equal to this one.
     pub fn get(&self, key: &Value) -> Option<&Value>
-        ensures { option_map contents_of (option_copied result) ≡ value_for (contents_of key.now) (map_view self.now) }
+        ensures { option_map contents_of (option_copied result) ≡ value_for (contents_of key.now)
+            (map_view self.now) }
     {
         match compare::position_of_key(&self.pairs, key) {
             Some(at) => Some(&self.pairs[at].1),
@@ -348,27 +361,31 @@ impl TemplateValue for Value {
     }
 
     fn list(_alloc: Global, items: Vec<Value>) -> Result<Value, AllocError>
-        ensures { IfOk result (λ v. contents_of v ≡ value_functions.list (map contents_of items.items)) }
+        ensures { IfOk result
+            (λ v. contents_of v ≡ value_functions.list (map contents_of items.items)) }
     {
         Ok(Value::List(items))
     }
 
     fn tuple(_alloc: Global, items: Vec<Value>) -> Result<Value, AllocError>
-        ensures { IfOk result (λ v. contents_of v ≡ value_functions.tuple (map contents_of items.items)) }
+        ensures { IfOk result
+            (λ v. contents_of v ≡ value_functions.tuple (map contents_of items.items)) }
     {
         Ok(Value::Tuple(items))
     }
 
     /// An equal key keeps its place and takes the new value.
     fn map(alloc: Global, pairs: Vec<(Value, Value)>) -> Result<Value, AllocError>
-        ensures { IfOk result (λ v. contents_of v ≡ value_functions.map (map_pairs contents_of pairs.items)) }
+        ensures { IfOk result
+            (λ v. contents_of v ≡ value_functions.map (map_pairs contents_of pairs.items)) }
     {
         Ok(Value::Map(ValueMap::from_pairs(alloc, pairs)?))
     }
 
     /// An equal key keeps its place and takes the new value.
     fn kwargs(alloc: Global, pairs: Vec<(Value, Value)>) -> Result<Value, AllocError>
-        ensures { IfOk result (λ v. contents_of v ≡ value_functions.kwargs (map_pairs contents_of pairs.items)) }
+        ensures { IfOk result
+            (λ v. contents_of v ≡ value_functions.kwargs (map_pairs contents_of pairs.items)) }
     {
         Ok(Value::Kwargs(ValueMap::from_pairs(alloc, pairs)?))
     }
@@ -418,35 +435,40 @@ impl TemplateValue for Value {
 
     /// A text in a text, an equal item in a list or tuple, an equal key in a map.
     fn contains(&self, _alloc: Global, item: &Value) -> Result<bool, OpError<ValueFault>>
-        ensures outcome { IsOutcome (λ b. b) (λ f. f) (value_functions.contains (contents_of self.now) (contents_of item.now)) result }
+        ensures outcome { IsOutcome (λ b. b) (λ f. f)
+            (value_functions.contains (contents_of self.now) (contents_of item.now)) result }
         ensures needs_no_memory { IsNotOutOfMemory result }
     {
         operate::contains(self, item)
     }
 
     fn neg(&self, _alloc: Global) -> Result<Value, OpError<ValueFault>>
-        ensures outcome { IsOutcome contents_of (λ f. f) (value_functions.neg (contents_of self.now)) result }
+        ensures outcome { IsOutcome contents_of (λ f. f)
+            (value_functions.neg (contents_of self.now)) result }
         ensures needs_no_memory { IsNotOutOfMemory result }
     {
         operate::neg(self)
     }
 
     fn add(&self, _alloc: Global, other: &Value) -> Result<Value, OpError<ValueFault>>
-        ensures outcome { IsOutcome contents_of (λ f. f) (value_functions.add (contents_of self.now) (contents_of other.now)) result }
+        ensures outcome { IsOutcome contents_of (λ f. f)
+            (value_functions.add (contents_of self.now) (contents_of other.now)) result }
         ensures needs_no_memory { IsNotOutOfMemory result }
     {
         operate::add(self, other)
     }
 
     fn sub(&self, _alloc: Global, other: &Value) -> Result<Value, OpError<ValueFault>>
-        ensures outcome { IsOutcome contents_of (λ f. f) (value_functions.sub (contents_of self.now) (contents_of other.now)) result }
+        ensures outcome { IsOutcome contents_of (λ f. f)
+            (value_functions.sub (contents_of self.now) (contents_of other.now)) result }
         ensures needs_no_memory { IsNotOutOfMemory result }
     {
         operate::sub(self, other)
     }
 
     fn mul(&self, _alloc: Global, other: &Value) -> Result<Value, OpError<ValueFault>>
-        ensures outcome { IsOutcome contents_of (λ f. f) (value_functions.mul (contents_of self.now) (contents_of other.now)) result }
+        ensures outcome { IsOutcome contents_of (λ f. f)
+            (value_functions.mul (contents_of self.now) (contents_of other.now)) result }
         ensures needs_no_memory { IsNotOutOfMemory result }
     {
         operate::mul(self, other)
@@ -454,7 +476,8 @@ impl TemplateValue for Value {
 
     /// The quotient whose remainder is not negative.
     fn int_div(&self, _alloc: Global, other: &Value) -> Result<Value, OpError<ValueFault>>
-        ensures outcome { IsOutcome contents_of (λ f. f) (value_functions.int_div (contents_of self.now) (contents_of other.now)) result }
+        ensures outcome { IsOutcome contents_of (λ f. f)
+            (value_functions.int_div (contents_of self.now) (contents_of other.now)) result }
         ensures needs_no_memory { IsNotOutOfMemory result }
     {
         operate::int_div(self, other)
@@ -462,7 +485,8 @@ impl TemplateValue for Value {
 
     /// The remainder that is not negative.
     fn rem(&self, _alloc: Global, other: &Value) -> Result<Value, OpError<ValueFault>>
-        ensures outcome { IsOutcome contents_of (λ f. f) (value_functions.rem (contents_of self.now) (contents_of other.now)) result }
+        ensures outcome { IsOutcome contents_of (λ f. f)
+            (value_functions.rem (contents_of self.now) (contents_of other.now)) result }
         ensures needs_no_memory { IsNotOutOfMemory result }
     {
         operate::rem(self, other)
@@ -470,7 +494,8 @@ impl TemplateValue for Value {
 
     /// The exponent is at least 0.
     fn pow(&self, _alloc: Global, other: &Value) -> Result<Value, OpError<ValueFault>>
-        ensures outcome { IsOutcome contents_of (λ f. f) (value_functions.pow (contents_of self.now) (contents_of other.now)) result }
+        ensures outcome { IsOutcome contents_of (λ f. f)
+            (value_functions.pow (contents_of self.now) (contents_of other.now)) result }
         ensures needs_no_memory { IsNotOutOfMemory result }
     {
         operate::pow(self, other)

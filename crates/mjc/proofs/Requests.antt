@@ -106,7 +106,7 @@ read_words (more {words = words} {file = file} q e later) =
     let ih = read_words later in
     (q.0 ∷ ih.0, first_setting-is words q e ∙ (ap (λ rest. words_of q.0 ++ rest) ih.1 ∙ sym (append_assoc (words_of q.0) (flat_map words_of ih.0) (file ∷ []))))
 
--- behind the first option reading goes on
+-- after the first option reading goes on
 pub read_on : {s t : Syntax} {words : List Text} {file : Text} (q : Setting × List Text) → first_setting words ≡ Some q → Reads s words t file → Reads (with_setting s q.0) q.1 t file
 read_on q e (over {file = file} is_file) = let none = first_setting-file file [] is_file in absurd cc
 read_on q e (more {s = s} {t = t} {file = file} p first later) =

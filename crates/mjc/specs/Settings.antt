@@ -15,7 +15,7 @@ pub data Setting : Type 0 where
   line_statement line_comment : (prefix : Text) → Setting
   trim_blocks lstrip_blocks keep_newline : Setting
 
--- the option as it is written; what stands behind its first word is taken as it is
+-- the option as it is written; what stands after its first word is taken as it is
 abbrev pub words_of : Setting → List Text
 words_of (block start stop) = codes "--block" ∷ start ∷ stop ∷ []
 words_of (variable start stop) = codes "--variable" ∷ start ∷ stop ∷ []

@@ -19,7 +19,7 @@ abbrev pub command_word : Task → Text
 command_word tokens = codes "tokens"
 command_word code = codes "code"
 
--- options and, behind them, one file
+-- options and, after them, one file
 abbrev pub option_words : List Setting → Text → List Text
 option_words settings file = flat_map words_of settings ++ file ∷ []
 
@@ -29,7 +29,7 @@ pub record Request : Type 0 where
   pub settings : List Setting
   pub file : Text
 
--- the words behind the program's name are the command, its options and one file
+-- the words after the program's name are the command, its options and one file
 pub record Asks (args : List (Bor Text)) (request : Request) : Type 0 where
   pub words : texts args ≡ command_word request.task ∷ option_words request.settings request.file
   pub file : IsFile request.file

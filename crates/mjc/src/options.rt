@@ -77,7 +77,8 @@ impl<'a> Options<'a> {
     /// Sets what the option at the start of the words says, and gives how many words it is; `None` where the words begin
     /// with no option.
     pub fn take(&mut self, words: &[&'a str]) -> Option<usize>
-        ensures first { Takes (first_setting (texts words.now)) (syntax_of self.old) (texts words.now) result (syntax_of self.new) }
+        ensures first { Takes (first_setting (texts words.now)) (syntax_of self.old)
+            (texts words.now) result (syntax_of self.new) }
         ensures some { IfSome result (λ count. 0 < count) }
         ensures within { IfSome result (λ count. count ≤ length words.now) }
     {
@@ -87,9 +88,10 @@ impl<'a> Options<'a> {
         Some(count + 1)
     }
 
-    /// Sets what an option says with the words behind it, and gives how many it takes; `None` where there are too few.
+    /// Sets what an option says with the words after it, and gives how many it takes; `None` where there are too few.
     fn set(&mut self, name: OptionName, words: &[&'a str]) -> Option<usize>
-        ensures first { Takes (setting_of (Some name) (texts words.now)) (syntax_of self.old) (texts words.now) result (syntax_of self.new) }
+        ensures first { Takes (setting_of (Some name) (texts words.now)) (syntax_of self.old)
+            (texts words.now) result (syntax_of self.new) }
         ensures within { IfSome result (λ count. count ≤ length words.now) }
     {
         match (name, words) {
@@ -133,7 +135,8 @@ impl<'a> Options<'a> {
     pub fn build(&self, alloc: Global) -> Result<SyntaxConfig, Error<'static>>
         ensures value { IfOk result (λ syntax. syntax ≡ syntax_of self.now) }
         ensures refused { IfErr result (λ e. IsInvalidDelimiter e ⊎ IsOutOfMemory e) }
-        ensures invalid { ¬ IsBuildable (syntax_of self.now) → IsErrAnd result (λ e. IsInvalidDelimiter e ⊎ IsOutOfMemory e) }
+        ensures invalid { ¬ IsBuildable (syntax_of self.now) → IsErrAnd result
+            (λ e. IsInvalidDelimiter e ⊎ IsOutOfMemory e) }
         ensures valid { IsBuildable (syntax_of self.now) → IfErr result IsOutOfMemory }
     {
         let mut builder = SyntaxConfig::builder();

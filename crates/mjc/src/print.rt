@@ -28,7 +28,7 @@ impl fmt::Display for PrintedToken<'_, '_> {
     }
 }
 
-/// Writes a token on a line, behind its span.
+/// Writes a token on a line, after its span.
 fn print_token<W: Write>(out: &mut W, token: &Token<'_>, span: Span) -> io::Result<()> {
     let Span {
         start_line,
@@ -156,7 +156,7 @@ impl fmt::Display for Printed<'_, '_> {
     }
 }
 
-/// Writes each instruction on a line, behind its index.
+/// Writes each instruction on a line, after its index.
 fn print_instructions<W: Write>(
     out: &mut W,
     instructions: &Instructions<'_, Value>,

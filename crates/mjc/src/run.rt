@@ -19,7 +19,7 @@ use std::alloc::Global;
 use std::io::{self, Read, Write};
 
 /// Runs a command and gives the status of the process: 0 when all went well, 1 when the syntax or the text is refused or
-/// memory runs out, and 2 for bad usage and for what cannot be read or written. `args` are the words behind the program's name, `file`
+/// memory runs out, and 2 for bad usage and for what cannot be read or written. `args` are the words after the program's name, `file`
 /// is the file that they name, and no command reads `answers`. What went wrong is one line on `err`, and a failing write
 /// there changes nothing.
 pub fn run<R: Read, Q: Read, W: Write, X: Write>(
@@ -91,8 +91,10 @@ fn run_command<'a, R: Read, W: Write>(
 
 /// The syntax that the options of a command ask for.
 fn syntax_of<'a>(alloc: Global, command: &FileCommand<'a>) -> Result<SyntaxConfig, Fault<'a>>
-    ensures syntax { (request : Request) → IsCommandFor request command.now → IfOk result (λ syntax. syntax ≡ syntax_with request.settings) }
-    ensures unbuilt { (request : Request) → IsCommandFor request command.now → ¬ IsBuildable (syntax_with request.settings) → IsErrAnd result (λ fault. status_of fault ≡ 1) }
+    ensures syntax { (request : Request) → IsCommandFor request command.now → IfOk result
+        (λ syntax. syntax ≡ syntax_with request.settings) }
+    ensures unbuilt { (request : Request) → IsCommandFor request command.now → ¬ IsBuildable
+        (syntax_with request.settings) → IsErrAnd result (λ fault. status_of fault ≡ 1) }
 {
     let syntax = command
         .options
@@ -103,7 +105,8 @@ fn syntax_of<'a>(alloc: Global, command: &FileCommand<'a>) -> Result<SyntaxConfi
 
 /// The whole of a reader, which has to be UTF-8.
 fn read_text<R: Read>(alloc: Global, reader: &mut R) -> io::Result<String>
-    ensures text { IfOk result (λ text. IfSome (R.remaining reader.old) (λ bytes. string_bytes text ≡ bytes)) }
+    ensures text { IfOk result
+        (λ text. IfSome (R.remaining reader.old) (λ bytes. string_bytes text ≡ bytes)) }
     ensures unreadable { IsNoText (R.remaining reader.old) → IsErr result }
     ensures whole { OnOk result (IsAtEnd (R.remaining reader.new)) }
 {
@@ -119,9 +122,12 @@ fn run_on_file<'a, R: Read, W: Write>(
     file: &mut R,
     out: &mut W,
 ) -> Result<(), Fault<'a>>
-    ensures unbuilt { (request : Request) → IsCommandFor request command.now → ¬ IsBuildable (syntax_with request.settings) → IsErrAnd result (λ fault. status_of fault ≡ 1) }
-    ensures unbuilt_unread { (request : Request) → IsCommandFor request command.now → ¬ IsBuildable (syntax_with request.settings) → file.new ≡ file.old }
-    ensures unbuilt_unwritten { (request : Request) → IsCommandFor request command.now → ¬ IsBuildable (syntax_with request.settings) → out.new ≡ out.old }
+    ensures unbuilt { (request : Request) → IsCommandFor request command.now → ¬ IsBuildable
+        (syntax_with request.settings) → IsErrAnd result (λ fault. status_of fault ≡ 1) }
+    ensures unbuilt_unread { (request : Request) → IsCommandFor request command.now → ¬ IsBuildable
+        (syntax_with request.settings) → file.new ≡ file.old }
+    ensures unbuilt_unwritten { (request : Request) → IsCommandFor request command.now → ¬
+        IsBuildable (syntax_with request.settings) → out.new ≡ out.old }
     ensures unreadable { IsNoText (R.remaining file.old) → IsErr result }
     ensures unprinted { IsNoText (R.remaining file.old) → out.new ≡ out.old }
     ensures whole { OnOk result (IsAtEnd (R.remaining file.new)) }

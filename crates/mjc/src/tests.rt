@@ -18,7 +18,7 @@ const GREETING_CODE: &str =
 const USAGE: &str =
     "usage: mjc tokens|code|names|replay [OPTION..] FILE [ANSWERS], mjc expr TEXT\n";
 
-/// Gives one byte at a time, and ends or fails behind the last.
+/// Gives one byte at a time, and ends or fails after the last.
 #[derive(Drop)]
 struct Trickle<'b> {
     rest: &'b [u8],

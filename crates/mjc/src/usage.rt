@@ -62,10 +62,13 @@ fn words_from<'w, 'a>(words: &'w [&'a str], start: usize) -> &'w [&'a str]
     &words[start..]
 }
 
-/// Heeds the options that the words begin with, and gives the words behind them.
+/// Heeds the options that the words begin with, and gives the words after them.
 fn read_options<'w, 'a>(options: &mut Options<'a>, words: &'w [&'a str]) -> &'w [&'a str]
-    ensures heeded { (settings : List Setting) → (file : Text) → IsFile file → texts words.now ≡ option_words settings file → (texts result.now ≡ file ∷ []) × (syntax_of options.new ≡ fold with_setting (syntax_of options.old) settings) }
-    ensures behind { (file : Text) → IsFile file → texts result.now ≡ file ∷ [] → (settings : List Setting) × (texts words.now ≡ option_words settings file) }
+    ensures heeded { (settings : List Setting) → (file : Text) → IsFile file → texts words.now ≡
+        option_words settings file → (texts result.now ≡ file ∷ []) ×
+        (syntax_of options.new ≡ fold with_setting (syntax_of options.old) settings) }
+    ensures behind { (file : Text) → IsFile file → texts result.now ≡ file ∷ [] →
+        (settings : List Setting) × (texts words.now ≡ option_words settings file) }
 {
     let mut start = 0;
     while let Some(count) = options.take(words_from(words, start)) {
@@ -89,7 +92,8 @@ fn lone_file<'a>(words: &[&'a str]) -> Option<&'a str>
 /// repeated one the last counts.
 fn parse_file_command<'a>(args: &[&'a str]) -> Option<FileCommand<'a>>
     ensures usage { IsSome result ↔ IsFileUsage args.now }
-    ensures asked { (request : Request) → Asks args.now request → IsSomeAnd result (IsCommandFor request) }
+    ensures asked { (request : Request) → Asks args.now request → IsSomeAnd result
+        (IsCommandFor request) }
 {
     let (word, rest) = args.split_first()?;
     let action = Action::of_word(*word)?;
@@ -116,8 +120,10 @@ fn parse_expr_command<'a>(args: &[&'a str]) -> Option<&'a str>
 /// The command that the words are: `expr` and a text, or what is asked of a file.
 pub fn parse<'a>(args: &[&'a str]) -> Option<Command<'a>>
     ensures usage { IsSome result ↔ IsUsage args.now }
-    ensures file { (request : Request) → Asks args.now request → IsSomeAnd result (IsFileCommandFor request) }
-    ensures expr { (text : Text) → AsksExpr args.now text → IsSomeAnd result (IsExprCommandFor text) }
+    ensures file { (request : Request) → Asks args.now request → IsSomeAnd result
+        (IsFileCommandFor request) }
+    ensures expr { (text : Text) → AsksExpr args.now text → IsSomeAnd result
+        (IsExprCommandFor text) }
 {
     match parse_expr_command(args) {
         Some(text) => Some(Command::Expr(text)),
@@ -128,7 +134,8 @@ pub fn parse<'a>(args: &[&'a str]) -> Option<Command<'a>>
 /// The file that the words name.
 pub fn file_named<'a>(args: &[&'a str]) -> Option<&'a str>
     ensures usage { IsSome result ↔ IsFileUsage args.now }
-    ensures file { (request : Request) → Asks args.now request → IsSomeAnd result (λ path. path.now ≡ request.file) }
+    ensures file { (request : Request) → Asks args.now request → IsSomeAnd result
+        (λ path. path.now ≡ request.file) }
 {
     let command = parse_file_command(args)?;
     Some(command.file)

@@ -14,7 +14,7 @@ use Rattle.minijinja_code.specs.declared.instructions.Instructions.{Instructions
 abbrev pub generated : {V F C : Type 0} → (V → C) → CodeGenerator V F → List (Instr C)
 generated c g = (made_of c g.code).code
 
--- the place behind them, and the names of filters and tests that have an id
+-- the place after them, and the names of filters and tests that have an id
 abbrev pub here_so_far : {V F C : Type 0} → (V → C) → CodeGenerator V F → Here
 here_so_far c g = here_of (made_of c g.code)
 

@@ -29,17 +29,17 @@ AreBelow ps n = EachIndex ps (λ k. slice_index ps k < n)
 abbrev pub operand_then : {C : Type 0} → Piece C → Failing C → Failing C
 operand_then p r = record { past = λ h. r.past (p.past h); code = λ failed h. p.code h ++ r.code failed (p.past h) }
 
--- comparisons behind their first operand
+-- comparisons after their first operand
 abbrev pub behind_one : {C F : Type 0} → Functions C F → Comparisons C → Failing C
 behind_one f compared = last nothing
 behind_one f (against o e cs) = operand_then (expr f e) (comparisons f o cs)
 
--- comparisons behind their first two operands
+-- comparisons after their first two operands
 abbrev pub behind_two : {C F : Type 0} → Functions C F → Comparisons C → Failing C
 behind_two f compared = last nothing
 behind_two f (against o e cs) = comparisons f o cs
 
--- what is left of comparisons behind the operand of so many of them
+-- what is left of comparisons after the operand of so many of them
 abbrev pub ahead : {V K C F : Type 0} → Functions C F → (V → C) → List (Comparison V K) → ℕ → Failing C
 ahead f c xs zero = behind_one f (comparisons_of c xs)
 ahead f c xs (suc i) = behind_two f (comparisons_of c (drop i xs))

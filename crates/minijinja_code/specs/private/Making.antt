@@ -34,11 +34,11 @@ texts_of names = map (λ x. x.now) names.names.items
 abbrev pub made_of : {V F C : Type 0} → (V → C) → Emitter V F → Made C
 made_of c e = record { code = map (instr_of c) e.list.items; filters = texts_of e.filters; tests = texts_of e.tests }
 
--- the place behind it
+-- the place after it
 abbrev pub here_of : {C : Type 0} → Made C → Here
 here_of m = record { place = length m.code; filters = m.filters; tests = m.tests }
 
--- with these instructions behind it
+-- with these instructions after it
 abbrev pub followed : {C : Type 0} → Made C → List (Instr C) → Made C
 followed m is = record m { code = m.code ++ is }
 
@@ -85,7 +85,7 @@ operator_of (Makes o) = Operate o
 operator_of Divides = Do Div [] 2
 operator_of _ = hole
 
--- all the arguments of a call, behind so many operands
+-- all the arguments of a call, after so many operands
 abbrev pub given : {C F : Type 0} → Functions C F → Args C → (front : ℕ) → Piece C
 given f args front = arguments f args front (positional f args front) (keyword f args 0)
 

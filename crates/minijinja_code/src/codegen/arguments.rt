@@ -35,7 +35,7 @@ impl Count {
         }
     }
 
-    /// Those that wait are a batch, where there are any, and one more batch stands behind it.
+    /// Those that wait are a batch, where there are any, and one more batch stands after it.
     fn batch(self) -> Self
         requires { (count_of self).batches < 2 ^ 16 }
         ensures { count_of result ≡ count_batch (count_of self) }
@@ -59,7 +59,7 @@ impl Count {
     }
 }
 
-/// Adds the code of the arguments of a call behind so many operands, and answers how many operands the call has then, or nothing where
+/// Adds the code of the arguments of a call after so many operands, and answers how many operands the call has then, or nothing where
 /// their count is on top of them.
 #[cycle(expr)]
 pub(super) fn arguments<'s, V: TemplateValue>(
@@ -70,15 +70,18 @@ pub(super) fn arguments<'s, V: TemplateValue>(
     requires whole { AreArguments (args_of V.contents args.now) }
     requires few { arg_count (args_of V.contents args.now) ≤ most_arguments }
     requires front { front ≤ 1 }
-    ensures count { IfOk result (λ n. n ≡ layout.argument_count (args_of V.contents args.now) front) }
-    ensures added { IsAdded (made_of V.contents code.old) (given V.functions (args_of V.contents args.now) front) result (made_of V.contents code.new) }
+    ensures count { IfOk result
+        (λ n. n ≡ layout.argument_count (args_of V.contents args.now) front) }
+    ensures added { IsAdded (made_of V.contents code.old)
+        (given V.functions (args_of V.contents args.now) front) result
+        (made_of V.contents code.new) }
 {
     let count = positional_arguments(code, args, front)?;
     let map = keyword_arguments(code, args)?;
     spread(code, count, map)
 }
 
-/// Adds the code of the positional and `*` arguments behind so many operands.
+/// Adds the code of the positional and `*` arguments after so many operands.
 #[cycle(expr)]
 fn positional_arguments<'s, V: TemplateValue>(
     code: &mut Emitter<'s, V>,
@@ -88,8 +91,11 @@ fn positional_arguments<'s, V: TemplateValue>(
     requires whole { AreArguments (args_of V.contents args.now) }
     requires few { arg_count (args_of V.contents args.now) ≤ most_arguments }
     requires front { front ≤ 1 }
-    ensures counted { IfOk result (λ c. count_of c ≡ count_positional (args_of V.contents args.now) (operands front)) }
-    ensures added { IsAdded (made_of V.contents code.old) (layout.positional V.functions (args_of V.contents args.now) front) result (made_of V.contents code.new) }
+    ensures counted { IfOk result
+        (λ c. count_of c ≡ count_positional (args_of V.contents args.now) (operands front)) }
+    ensures added { IsAdded (made_of V.contents code.old)
+        (layout.positional V.functions (args_of V.contents args.now) front) result
+        (made_of V.contents code.new) }
 {
     let mut count = Count {
         batches: 0,
@@ -110,8 +116,11 @@ fn positional_argument<'s, V: TemplateValue>(
 ) -> Result<Count, Error<'static>>
     requires whole { AreArguments (arg_tree V.contents arg.now no_args) }
     requires few { (count_of count).batches + (count_of count).waiting < 2 ^ 16 }
-    ensures counted { IfOk result (λ c. count_of c ≡ count_positional (arg_tree V.contents arg.now no_args) (count_of count)) }
-    ensures added { IsAdded (made_of V.contents code.old) (layout.positional V.functions (arg_tree V.contents arg.now no_args) (count_of count).waiting) result (made_of V.contents code.new) }
+    ensures counted { IfOk result (λ c. count_of c ≡ count_positional
+        (arg_tree V.contents arg.now no_args) (count_of count)) }
+    ensures added { IsAdded (made_of V.contents code.old) (layout.positional V.functions
+        (arg_tree V.contents arg.now no_args) (count_of count).waiting) result
+        (made_of V.contents code.new) }
 {
     match arg {
         CallArg::Pos(expr) => {
@@ -136,8 +145,11 @@ fn keyword_arguments<'s, V: TemplateValue>(
 ) -> Result<usize, Error<'static>>
     requires whole { AreArguments (args_of V.contents args.now) }
     requires few { arg_count (args_of V.contents args.now) ≤ most_arguments }
-    ensures count { IfOk result (λ n. let k = count_keyword (args_of V.contents args.now) (operands 0) in n ≡ map_count k.batches k.waiting) }
-    ensures added { IsAdded (made_of V.contents code.old) (keyword_map V.functions (args_of V.contents args.now)) result (made_of V.contents code.new) }
+    ensures count { IfOk result (λ n. let k = count_keyword (args_of V.contents args.now)
+        (operands 0) in n ≡ map_count k.batches k.waiting) }
+    ensures added { IsAdded (made_of V.contents code.old)
+        (keyword_map V.functions (args_of V.contents args.now)) result
+        (made_of V.contents code.new) }
 {
     if let Some(map) = constant_kwargs(code.alloc(), args)? {
         code.add(Instruction::LoadConst(map))?;
@@ -155,8 +167,11 @@ fn keyword_pairs<'s, V: TemplateValue>(
 ) -> Result<Count, Error<'static>>
     requires whole { AreArguments (args_of V.contents args.now) }
     requires few { arg_count (args_of V.contents args.now) ≤ most_arguments }
-    ensures counted { IfOk result (λ c. count_of c ≡ count_keyword (args_of V.contents args.now) (operands 0)) }
-    ensures added { IsAdded (made_of V.contents code.old) (layout.keyword V.functions (args_of V.contents args.now) 0) result (made_of V.contents code.new) }
+    ensures counted { IfOk result
+        (λ c. count_of c ≡ count_keyword (args_of V.contents args.now) (operands 0)) }
+    ensures added { IsAdded (made_of V.contents code.old)
+        (layout.keyword V.functions (args_of V.contents args.now) 0) result
+        (made_of V.contents code.new) }
 {
     let mut count = Count {
         batches: 0,
@@ -177,8 +192,11 @@ fn keyword_argument<'s, V: TemplateValue>(
 ) -> Result<Count, Error<'static>>
     requires whole { AreArguments (arg_tree V.contents arg.now no_args) }
     requires few { (count_of count).batches + (count_of count).waiting < 2 ^ 16 }
-    ensures counted { IfOk result (λ c. count_of c ≡ count_keyword (arg_tree V.contents arg.now no_args) (count_of count)) }
-    ensures added { IsAdded (made_of V.contents code.old) (layout.keyword V.functions (arg_tree V.contents arg.now no_args) (count_of count).waiting) result (made_of V.contents code.new) }
+    ensures counted { IfOk result
+        (λ c. count_of c ≡ count_keyword (arg_tree V.contents arg.now no_args) (count_of count)) }
+    ensures added { IsAdded (made_of V.contents code.old)
+        (layout.keyword V.functions (arg_tree V.contents arg.now no_args) (count_of count).waiting)
+        result (made_of V.contents code.new) }
 {
     match arg {
         CallArg::Kwarg(name, expr) => {
@@ -200,10 +218,13 @@ fn keyword_argument<'s, V: TemplateValue>(
 /// Makes one map of batches and of the pairs that wait, where there are any, and answers how many maps that is.
 fn merge<V: TemplateValue>(code: &mut Emitter<'_, V>, count: Count) -> Result<usize, Error<'static>>
     requires { (count_of count).batches < 2 ^ 16 }
-    ensures count { IfOk result (λ n. n ≡ map_count (count_of count).batches (count_of count).waiting) }
-    ensures added { OnOk result (Adds (made_of V.contents code.old) (made_of V.contents code.new) (merged (count_of count).batches (count_of count).waiting)) }
-    ensures refused { IfErr result (λ e. Refuses e
-        ((merged {C = V.Contents} (count_of count).batches (count_of count).waiting).past (here_of (made_of V.contents code.old)))) }
+    ensures count { IfOk result
+        (λ n. n ≡ map_count (count_of count).batches (count_of count).waiting) }
+    ensures added { OnOk result (Adds (made_of V.contents code.old) (made_of V.contents code.new)
+        (merged (count_of count).batches (count_of count).waiting)) }
+    ensures refused { IfErr result (λ e. Refuses e (
+        (merged {C = V.Contents} (count_of count).batches (count_of count).waiting).past
+        (here_of (made_of V.contents code.old)))) }
 {
     close_map(code, count.waiting)?;
     if count.batches == 0 {
@@ -213,7 +234,7 @@ fn merge<V: TemplateValue>(code: &mut Emitter<'_, V>, count: Count) -> Result<us
     Ok(1)
 }
 
-/// Spreads the batches, where there are any: behind those that wait stand so many more. Answers how many arguments there are
+/// Spreads the batches, where there are any: after those that wait stand so many more. Answers how many arguments there are
 /// then, or nothing where their count is on top of them.
 fn spread<V: TemplateValue>(
     code: &mut Emitter<'_, V>,
@@ -222,11 +243,13 @@ fn spread<V: TemplateValue>(
 ) -> Result<Option<u16>, Error<'static>>
     requires batches { (count_of count).batches < 2 ^ 16 }
     requires waiting { (count_of count).waiting + more < 2 ^ 16 }
-    ensures count { IfOk result (λ n. n ≡ counted (count_of count).batches ((count_of count).waiting + more)) }
+    ensures count { IfOk result
+        (λ n. n ≡ counted (count_of count).batches ((count_of count).waiting + more)) }
     ensures added { OnOk result (Adds (made_of V.contents code.old) (made_of V.contents code.new)
         (spreading (count_of count).batches ((count_of count).waiting + more))) }
-    ensures refused { IfErr result (λ e. Refuses e
-        ((spreading {C = V.Contents} (count_of count).batches ((count_of count).waiting + more)).past (here_of (made_of V.contents code.old)))) }
+    ensures refused { IfErr result (λ e. Refuses e ((spreading {C = V.Contents}
+        (count_of count).batches ((count_of count).waiting + more)).past
+        (here_of (made_of V.contents code.old)))) }
 {
     let count = Count {
         batches: count.batches,
@@ -245,8 +268,10 @@ fn close_list<V: TemplateValue>(
     code: &mut Emitter<'_, V>,
     waiting: usize,
 ) -> Result<(), Error<'static>>
-    ensures added { OnOk result (Adds (made_of V.contents code.old) (made_of V.contents code.new) (list_batch waiting)) }
-    ensures refused { IfErr result (λ e. Refuses e ((list_batch {C = V.Contents} waiting).past (here_of (made_of V.contents code.old)))) }
+    ensures added { OnOk result
+        (Adds (made_of V.contents code.old) (made_of V.contents code.new) (list_batch waiting)) }
+    ensures refused { IfErr result (λ e. Refuses e
+        ((list_batch {C = V.Contents} waiting).past (here_of (made_of V.contents code.old)))) }
 {
     if waiting > 0 {
         code.add(Instruction::BuildList(Some(waiting)))?;
@@ -259,8 +284,10 @@ fn close_map<V: TemplateValue>(
     code: &mut Emitter<'_, V>,
     waiting: usize,
 ) -> Result<(), Error<'static>>
-    ensures added { OnOk result (Adds (made_of V.contents code.old) (made_of V.contents code.new) (map_batch waiting)) }
-    ensures refused { IfErr result (λ e. Refuses e ((map_batch {C = V.Contents} waiting).past (here_of (made_of V.contents code.old)))) }
+    ensures added { OnOk result
+        (Adds (made_of V.contents code.old) (made_of V.contents code.new) (map_batch waiting)) }
+    ensures refused { IfErr result (λ e. Refuses e
+        ((map_batch {C = V.Contents} waiting).past (here_of (made_of V.contents code.old)))) }
 {
     if waiting > 0 {
         code.add(Instruction::BuildKwargs(waiting))?;

@@ -25,7 +25,8 @@ pub(super) fn begin<'s, V: TemplateValue>(code: &Emitter<'s, V>, _node: &Compare
     ensures place { result ≡ length (made_of V.contents code.now).code }
     ensures first { IsWhole (expr_tree V.contents (out-Compare _ _ _node.now).expr) }
     ensures some { 0 < length (out-Compare _ _ _node.now).ops.items }
-    ensures operands { AreCompared (comparisons_of V.contents (out-Compare _ _ _node.now).ops.items) }
+    ensures operands { AreCompared
+        (comparisons_of V.contents (out-Compare _ _ _node.now).ops.items) }
 {
     code.place()
 }
@@ -35,8 +36,10 @@ pub(super) fn keep_constant<V: TemplateValue>(
     code: &mut Emitter<'_, V>,
     constant: Option<V>,
 ) -> Result<Option<usize>, Error<'static>>
-    ensures holds { IfOk result (λ place. Holds (made_of V.contents code.new).code place (option_map V.contents constant)) }
-    ensures kept { OnOk result (made_of V.contents code.new ≡ loaded (made_of V.contents code.old) (option_map V.contents constant)) }
+    ensures holds { IfOk result
+        (λ place. Holds (made_of V.contents code.new).code place (option_map V.contents constant)) }
+    ensures kept { OnOk result (made_of V.contents code.new ≡ loaded (made_of V.contents code.old)
+        (option_map V.contents constant)) }
     ensures memory { IfErr result IsOutOfMemory }
 {
     let place = code.place();
@@ -58,9 +61,11 @@ pub(super) fn keep_operand<V: TemplateValue>(
     operand: Option<V>,
 ) -> Result<Option<bool>, Error<'static>>
     requires { (value : Option V.Contents) × Holds (made_of V.contents code.old).code last value }
-    ensures known { IfOk result (λ holds. (value : Option V.Contents) → Holds (made_of V.contents code.old).code last value
-        → holds ≡ known V.functions (compare_op op) value (option_map V.contents operand)) }
-    ensures kept { OnOk result (made_of V.contents code.new ≡ loaded (made_of V.contents code.old) (option_map V.contents operand)) }
+    ensures known { IfOk result (λ holds. (value : Option V.Contents) → Holds
+        (made_of V.contents code.old).code last value → holds ≡ known V.functions
+        (compare_op op) value (option_map V.contents operand)) }
+    ensures kept { OnOk result (made_of V.contents code.new ≡ loaded (made_of V.contents code.old)
+        (option_map V.contents operand)) }
     ensures memory { IfErr result IsOutOfMemory }
 {
     match operand {
@@ -81,8 +86,9 @@ fn compare_held<V: TemplateValue>(
     right: &V,
 ) -> Result<Option<bool>, Error<'static>>
     requires { (value : Option V.Contents) × Holds (made_of V.contents code.now).code last value }
-    ensures known { IfOk result (λ holds. (value : Option V.Contents) → Holds (made_of V.contents code.now).code last value
-        → holds ≡ known V.functions (compare_op op) value (Some (V.contents right.now))) }
+    ensures known { IfOk result (λ holds. (value : Option V.Contents) → Holds
+        (made_of V.contents code.now).code last value → holds ≡ known V.functions
+        (compare_op op) value (Some (V.contents right.now))) }
     ensures memory { IfErr result IsOutOfMemory }
 {
     match last {
@@ -99,11 +105,14 @@ pub(super) fn add_comparison_before<'s, V: TemplateValue>(
     places: &mut Vec<usize>,
 ) -> Result<(), Error<'static>>
     requires { i < length ops.now }
-    ensures leads { OnOk result (Leads (made_of V.contents code.old) places.old.items (ahead V.functions V.contents ops.now i)
-        (made_of V.contents code.new) places.new.items (behind_one V.functions (comparisons_of V.contents (drop i ops.now)))) }
-    ensures below { OnOk result (AreBelow places.old.items (length (made_of V.contents code.old).code)
-        → AreBelow places.new.items (length (made_of V.contents code.new).code)) }
-    ensures kept { OnOk result ((more : List (Instr V.Contents)) × (made_of V.contents code.new ≡ followed (made_of V.contents code.old) more)) }
+    ensures leads { OnOk result (Leads (made_of V.contents code.old) places.old.items
+        (ahead V.functions V.contents ops.now i) (made_of V.contents code.new) places.new.items
+        (behind_one V.functions (comparisons_of V.contents (drop i ops.now)))) }
+    ensures below { OnOk result (AreBelow places.old.items
+        (length (made_of V.contents code.old).code) → AreBelow places.new.items
+        (length (made_of V.contents code.new).code)) }
+    ensures kept { OnOk result ((more : List (Instr V.Contents)) ×
+        (made_of V.contents code.new ≡ followed (made_of V.contents code.old) more)) }
     ensures memory { IfErr result IsOutOfMemory }
 {
     if i == 0 {
@@ -119,9 +128,11 @@ fn add_comparison<V: TemplateValue>(
     op: CompareOpKind,
     places: &mut Vec<usize>,
 ) -> Result<(), Error<'static>>
-    ensures places { OnOk result (places.new.items ≡ places.old.items ++ (length (made_of V.contents code.old).code + 1) ∷ []) }
-    ensures kept { OnOk result (made_of V.contents code.new
-        ≡ followed (followed (made_of V.contents code.old) (CompareAndPreserve (compare_op op) ∷ [])) (JumpIfFalseOrPop 0 ∷ [])) }
+    ensures places { OnOk result (places.new.items ≡ places.old.items ++
+        (length (made_of V.contents code.old).code + 1) ∷ []) }
+    ensures kept { OnOk result (made_of V.contents code.new ≡ followed
+        (followed (made_of V.contents code.old) (CompareAndPreserve (compare_op op) ∷ []))
+        (JumpIfFalseOrPop 0 ∷ [])) }
     ensures memory { IfErr result IsOutOfMemory }
 {
     code.keep(Instruction::CompareAndPreserve(comparison_operator(op)))?;
@@ -137,8 +148,11 @@ pub(super) fn close<V: TemplateValue>(
     places: &[usize],
 ) -> Result<(), Error<'static>>
     requires { AreBelow places.now (length (made_of V.contents code.old).code) }
-    ensures closed { OnOk result (Closes (made_of V.contents code.old) places.now (layout.last (comparison (compare_op op))) (made_of V.contents code.new)) }
-    ensures refused { IfErr result (λ e. Refuses e ((leaving {C = V.Contents}).past ((comparison {C = V.Contents} (compare_op op)).past (here_of (made_of V.contents code.old))))) }
+    ensures closed { OnOk result (Closes (made_of V.contents code.old) places.now
+        (layout.last (comparison (compare_op op))) (made_of V.contents code.new)) }
+    ensures refused { IfErr result (λ e. Refuses e ((leaving {C = V.Contents}).past
+        ((comparison {C = V.Contents} (compare_op op)).past
+        (here_of (made_of V.contents code.old))))) }
 {
     last_comparison(code, op)?;
     let failed = leave(code)?;
@@ -148,9 +162,12 @@ pub(super) fn close<V: TemplateValue>(
 
 /// Adds the end of a chain, and answers where it goes on where a comparison fails.
 fn leave<V: TemplateValue>(code: &mut Emitter<'_, V>) -> Result<u32, Error<'static>>
-    ensures failed { IfOk result (λ failed. failed ≡ length (made_of V.contents code.old).code + 1) }
-    ensures added { OnOk result (Adds (made_of V.contents code.old) (made_of V.contents code.new) leaving) }
-    ensures refused { IfErr result (λ e. Refuses e (behind 1 (behind 1 (behind 1 (here_of (made_of V.contents code.old)))))) }
+    ensures failed { IfOk result
+        (λ failed. failed ≡ length (made_of V.contents code.old).code + 1) }
+    ensures added { OnOk result
+        (Adds (made_of V.contents code.old) (made_of V.contents code.new) leaving) }
+    ensures refused { IfErr result
+        (λ e. Refuses e (behind 1 (behind 1 (behind 1 (here_of (made_of V.contents code.old)))))) }
 {
     let jump = code.reserve()?;
     code.keep(Instruction::Swap)?;
@@ -163,7 +180,8 @@ fn leave<V: TemplateValue>(code: &mut Emitter<'_, V>) -> Result<u32, Error<'stat
 /// Puts a jump at each of these places.
 fn fill_jumps<V: TemplateValue>(code: &mut Emitter<'_, V>, places: &[usize], target: u32)
     requires { AreBelow places.now (length (made_of V.contents code.old).code) }
-    ensures { made_of V.contents code.new ≡ jumping places.now target (made_of V.contents code.old) }
+    ensures { made_of V.contents code.new ≡ jumping places.now target
+        (made_of V.contents code.old) }
 {
     for place in places {
         code.fill(*place, Instruction::JumpIfFalseOrPop(target));

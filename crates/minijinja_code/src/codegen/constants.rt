@@ -23,10 +23,13 @@ pub(super) fn unary_constant<V: TemplateValue>(
     op: UnaryOpKind,
     operand: V,
 ) -> Result<Option<V>, Error<'static>>
-    ensures folds { IfOk result (λ r. option_map V.contents r ≡ fold_unary V.functions (unary_op op) (V.contents operand)) }
-    ensures added { IfOk result (λ r. AddsUnless r (made_of V.contents code.old) (made_of V.contents code.new)
+    ensures folds { IfOk result
+        (λ r. option_map V.contents r ≡ fold_unary V.functions (unary_op op) (V.contents operand)) }
+    ensures added { IfOk result (λ r. AddsUnless r (made_of V.contents code.old)
+        (made_of V.contents code.new)
         (one (Load (V.contents operand)) ▸ one (unary_instr (unary_op op)))) }
-    ensures refused { IfErr result (λ e. RefusesUnfolded e (fold_unary V.functions (unary_op op) (V.contents operand))
+    ensures refused { IfErr result (λ e. RefusesUnfolded e
+        (fold_unary V.functions (unary_op op) (V.contents operand))
         (behind 1 (behind 1 (here_of (made_of V.contents code.old))))) }
 {
     if let Some(value) = op.fold(code.alloc(), &operand)? {
@@ -44,11 +47,16 @@ pub(super) fn binary_constants<V: TemplateValue>(
     left: V,
     right: V,
 ) -> Result<Option<V>, Error<'static>>
-    ensures folds { IfOk result (λ r. option_map V.contents r ≡ fold_binary V.functions (working (bin_op op)) (V.contents left) (V.contents right)) }
-    ensures added { IfOk result (λ r. AddsUnless r (made_of V.contents code.old) (made_of V.contents code.new)
-        (one (Load (V.contents left)) ▸ operation (working (bin_op op)) (one (Load (V.contents right))))) }
-    ensures refused { IfErr result (λ e. RefusesUnfolded e (fold_binary V.functions (working (bin_op op)) (V.contents left) (V.contents right))
-        ((one (Load (V.contents left)) ▸ operation (working (bin_op op)) (one (Load (V.contents right)))).past (here_of (made_of V.contents code.old)))) }
+    ensures folds { IfOk result (λ r. option_map V.contents r ≡ fold_binary V.functions
+        (working (bin_op op)) (V.contents left) (V.contents right)) }
+    ensures added { IfOk result (λ r. AddsUnless r (made_of V.contents code.old)
+        (made_of V.contents code.new) (one (Load (V.contents left)) ▸ operation
+        (working (bin_op op)) (one (Load (V.contents right))))) }
+    ensures refused { IfErr result (λ e. RefusesUnfolded e
+        (fold_binary V.functions (working (bin_op op)) (V.contents left) (V.contents right))
+        ((one (Load (V.contents left)) ▸ operation (working (bin_op op))
+        (one (Load (V.contents right)))).past
+        (here_of (made_of V.contents code.old)))) }
 {
     if is_lazy(op) {
         return op.fold(code.alloc(), left, right);
@@ -69,8 +77,9 @@ pub(super) fn operate_on<V: TemplateValue>(
 ) -> Result<(), Error<'static>>
     ensures added { OnOk result (Adds (made_of V.contents code.old) (made_of V.contents code.new)
         (operation (working (bin_op op)) (one (Load (V.contents right))))) }
-    ensures refused { IfErr result (λ e. Refuses e
-        ((operation (working (bin_op op)) (one (Load (V.contents right)))).past (here_of (made_of V.contents code.old)))) }
+    ensures refused { IfErr result (λ e. Refuses e (
+        (operation (working (bin_op op)) (one (Load (V.contents right)))).past
+        (here_of (made_of V.contents code.old)))) }
 {
     if is_lazy(op) {
         let jump = code.reserve()?;
@@ -159,8 +168,11 @@ pub(super) fn last_comparison<V: TemplateValue>(
     code: &mut Emitter<'_, V>,
     op: CompareOpKind,
 ) -> Result<(), Error<'static>>
-    ensures added { OnOk result (Adds (made_of V.contents code.old) (made_of V.contents code.new) (comparison (compare_op op))) }
-    ensures refused { IfErr result (λ e. Refuses e ((comparison {C = V.Contents} (compare_op op)).past (here_of (made_of V.contents code.old)))) }
+    ensures added { OnOk result (Adds (made_of V.contents code.old) (made_of V.contents code.new)
+        (comparison (compare_op op))) }
+    ensures refused { IfErr result (λ e. Refuses e (
+        (comparison {C = V.Contents} (compare_op op)).past
+        (here_of (made_of V.contents code.old)))) }
 {
     match op {
         CompareOpKind::Eq => code.add(Instruction::Eq),

@@ -56,15 +56,18 @@ impl<'s, V: TemplateValue> Emitter<'s, V> {
 
     /// Adds an instruction.
     pub(super) fn add(&mut self, instruction: Instruction<'s, V>) -> Result<(), Error<'static>>
-        ensures added { OnOk result (Adds (made_of V.contents self.old) (made_of V.contents self.new) (one (instr_of V.contents instruction.entry))) }
-        ensures refused { IfErr result (λ e. Refuses e (behind 1 (here_of (made_of V.contents self.old)))) }
+        ensures added { OnOk result (Adds (made_of V.contents self.old)
+            (made_of V.contents self.new) (one (instr_of V.contents instruction.entry))) }
+        ensures refused { IfErr result
+            (λ e. Refuses e (behind 1 (here_of (made_of V.contents self.old)))) }
     {
         push_within(&mut self.list, instruction)
     }
 
     /// Adds an instruction that may be taken back. It may stand past the limit: the next one that stays is refused then.
     pub(super) fn keep(&mut self, instruction: Instruction<'s, V>) -> Result<(), Error<'static>>
-        ensures kept { OnOk result (made_of V.contents self.new ≡ followed (made_of V.contents self.old) (instr_of V.contents instruction.entry ∷ [])) }
+        ensures kept { OnOk result (made_of V.contents self.new ≡ followed
+            (made_of V.contents self.old) (instr_of V.contents instruction.entry ∷ [])) }
         ensures memory { IfErr result IsOutOfMemory }
     {
         self.list.push(instruction)?;
@@ -74,7 +77,8 @@ impl<'s, V: TemplateValue> Emitter<'s, V> {
     /// Leaves a place for an instruction that is not known yet, and answers the place.
     pub(super) fn reserve(&mut self) -> Result<usize, Error<'static>>
         ensures place { IfOk result (λ place. place ≡ length (made_of V.contents self.old).code) }
-        ensures kept { OnOk result (made_of V.contents self.new ≡ followed (made_of V.contents self.old) (hole ∷ [])) }
+        ensures kept { OnOk result
+            (made_of V.contents self.new ≡ followed (made_of V.contents self.old) (hole ∷ [])) }
         ensures memory { IfErr result IsOutOfMemory }
     {
         let place = self.list.len();
@@ -86,7 +90,8 @@ impl<'s, V: TemplateValue> Emitter<'s, V> {
     pub(super) fn fill(&mut self, place: usize, instruction: Instruction<'s, V>)
         requires { place < length (made_of V.contents self.old).code }
         ensures { made_of V.contents self.new ≡ record (made_of V.contents self.old) {
-          code = slice_set (made_of V.contents self.old).code place (instr_of V.contents instruction.entry);
+          code = slice_set (made_of V.contents self.old).code place
+              (instr_of V.contents instruction.entry);
         } }
     {
         self.list[place] = instruction;
@@ -94,8 +99,10 @@ impl<'s, V: TemplateValue> Emitter<'s, V> {
 
     /// The constant that is loaded at a place.
     pub(super) fn constant(&self, place: usize) -> &V
-        requires { (c : V.Contents) × (slice_get (made_of V.contents self.now).code place ≡ Some (Load c)) }
-        ensures { slice_get (made_of V.contents self.now).code place ≡ Some (Load (V.contents result.now)) }
+        requires { (c : V.Contents) ×
+            (slice_get (made_of V.contents self.now).code place ≡ Some (Load c)) }
+        ensures { slice_get (made_of V.contents self.now).code place ≡ Some
+            (Load (V.contents result.now)) }
     {
         match &self.list[place] {
             Instruction::LoadConst(value) => value,
@@ -105,7 +112,8 @@ impl<'s, V: TemplateValue> Emitter<'s, V> {
 
     /// Takes back what stands from a place on.
     pub(super) fn cut(&mut self, place: usize)
-        ensures { made_of V.contents self.new ≡ record (made_of V.contents self.old) { code = take place (made_of V.contents self.old).code } }
+        ensures { made_of V.contents self.new ≡ record (made_of V.contents self.old)
+            { code = take place (made_of V.contents self.old).code } }
     {
         self.list.truncate(place);
     }
@@ -113,8 +121,9 @@ impl<'s, V: TemplateValue> Emitter<'s, V> {
     /// The id of a filter's name, which is noted.
     pub(super) fn filter_id(&mut self, name: &'s str) -> Result<LocalId, Error<'static>>
         ensures id { IfOk result (λ id. id ≡ id_of name.now (made_of V.contents self.old).filters) }
-        ensures noted { OnOk result (made_of V.contents self.new
-            ≡ record (made_of V.contents self.old) { filters = noted name.now (made_of V.contents self.old).filters }) }
+        ensures noted { OnOk result (made_of V.contents self.new ≡ record
+            (made_of V.contents self.old)
+            { filters = noted name.now (made_of V.contents self.old).filters }) }
         ensures memory { IfErr result IsOutOfMemory }
     {
         self.filters.id(name)
@@ -123,8 +132,9 @@ impl<'s, V: TemplateValue> Emitter<'s, V> {
     /// The id of a test's name, which is noted.
     pub(super) fn test_id(&mut self, name: &'s str) -> Result<LocalId, Error<'static>>
         ensures id { IfOk result (λ id. id ≡ id_of name.now (made_of V.contents self.old).tests) }
-        ensures noted { OnOk result (made_of V.contents self.new
-            ≡ record (made_of V.contents self.old) { tests = noted name.now (made_of V.contents self.old).tests }) }
+        ensures noted { OnOk result (made_of V.contents self.new ≡ record
+            (made_of V.contents self.old)
+            { tests = noted name.now (made_of V.contents self.old).tests }) }
         ensures memory { IfErr result IsOutOfMemory }
     {
         self.tests.id(name)

@@ -31,7 +31,8 @@ pub(super) fn expression<'s, V: TemplateValue>(
     expr: &Expr<'s, V>,
 ) -> Result<(), Error<'static>>
     requires { IsWhole (expr_tree V.contents expr.now) }
-    ensures { IsExpr V.functions (made_of V.contents code.old) (expr_tree V.contents expr.now) result (made_of V.contents code.new) }
+    ensures { IsExpr V.functions (made_of V.contents code.old) (expr_tree V.contents expr.now)
+        result (made_of V.contents code.new) }
 {
     match part(code, expr)? {
         Some(value) => {
@@ -49,7 +50,8 @@ fn part<'s, V: TemplateValue>(
     expr: &Expr<'s, V>,
 ) -> Result<Option<V>, Error<'static>>
     requires { IsWhole (expr_tree V.contents expr.now) }
-    ensures { IsExprPart V.functions V.contents (made_of V.contents code.old) (expr_tree V.contents expr.now) result (made_of V.contents code.new) }
+    ensures { IsExprPart V.functions V.contents (made_of V.contents code.old)
+        (expr_tree V.contents expr.now) result (made_of V.contents code.new) }
 {
     match expr {
         Expr::Var(variable) => {
@@ -107,7 +109,9 @@ fn operate_one<'s, V: TemplateValue>(
     node: &UnaryOp<'s, V>,
 ) -> Result<Option<V>, Error<'static>>
     requires { IsWhole (expr_tree V.contents node.now.expr) }
-    ensures { IsExprPart V.functions V.contents (made_of V.contents code.old) (tree.unary (unary_op node.now.op) (expr_tree V.contents node.now.expr)) result (made_of V.contents code.new) }
+    ensures { IsExprPart V.functions V.contents (made_of V.contents code.old)
+        (tree.unary (unary_op node.now.op) (expr_tree V.contents node.now.expr)) result
+        (made_of V.contents code.new) }
 {
     match part(code, &node.expr)? {
         Some(operand) => unary_constant(code, node.op, operand),
@@ -125,7 +129,9 @@ fn operate<'s, V: TemplateValue>(
 ) -> Result<Option<V>, Error<'static>>
     requires left { IsWhole (expr_tree V.contents node.now.left) }
     requires right { IsWhole (expr_tree V.contents node.now.right) }
-    ensures { IsExprPart V.functions V.contents (made_of V.contents code.old) (tree.binary (bin_op node.now.op) (expr_tree V.contents node.now.left) (expr_tree V.contents node.now.right)) result (made_of V.contents code.new) }
+    ensures { IsExprPart V.functions V.contents (made_of V.contents code.old)
+        (tree.binary (bin_op node.now.op) (expr_tree V.contents node.now.left)
+        (expr_tree V.contents node.now.right)) result (made_of V.contents code.new) }
 {
     match part(code, &node.left)? {
         Some(left) => {
@@ -159,8 +165,10 @@ fn behind_left<'s, V: TemplateValue>(
     right: &Expr<'s, V>,
 ) -> Result<Option<V>, Error<'static>>
     requires { IsWhole (expr_tree V.contents right.now) }
-    ensures { IsPart V.contents (fold V.functions (expr_tree V.contents right.now)) (made_of V.contents code.old)
-        (operation (working (bin_op op)) (layout.expr V.functions (expr_tree V.contents right.now))) result (made_of V.contents code.new) }
+    ensures { IsPart V.contents (fold V.functions (expr_tree V.contents right.now))
+        (made_of V.contents code.old)
+        (operation (working (bin_op op)) (layout.expr V.functions (expr_tree V.contents right.now)))
+        result (made_of V.contents code.new) }
 {
     if !is_lazy(op) {
         return match part(code, right)? {
@@ -193,7 +201,8 @@ fn compare<'s, V: TemplateValue>(
     node: &Compare<'s, V>,
 ) -> Result<Option<V>, Error<'static>>
     requires { IsWhole (compare_tree V.contents node.now) }
-    ensures { IsExprPart V.functions V.contents (made_of V.contents code.old) (compare_tree V.contents node.now) result (made_of V.contents code.new) }
+    ensures { IsExprPart V.functions V.contents (made_of V.contents code.old)
+        (compare_tree V.contents node.now) result (made_of V.contents code.new) }
 {
     let start = begin(code, node);
     let mut places = Vec::new(code.alloc());
@@ -230,7 +239,10 @@ fn range<'s, V: TemplateValue>(
     requires start { IsWholeIfAny (optional_of V.contents node.now.start) }
     requires stop { IsWholeIfAny (optional_of V.contents node.now.stop) }
     requires step { IsWholeIfAny (optional_of V.contents node.now.step) }
-    ensures { IsExpr V.functions (made_of V.contents code.old) (tree.slice (expr_tree V.contents node.now.expr) (optional_of V.contents node.now.start) (optional_of V.contents node.now.stop) (optional_of V.contents node.now.step)) result (made_of V.contents code.new) }
+    ensures { IsExpr V.functions (made_of V.contents code.old)
+        (tree.slice (expr_tree V.contents node.now.expr) (optional_of V.contents node.now.start)
+        (optional_of V.contents node.now.stop) (optional_of V.contents node.now.step)) result
+        (made_of V.contents code.new) }
 {
     expression(code, &node.expr)?;
     optional(code, &node.start, V::none())?;
@@ -248,7 +260,9 @@ fn optional<'s, V: TemplateValue>(
     absent: V,
 ) -> Result<(), Error<'static>>
     requires { IsWholeIfAny (optional_of V.contents expr.now) }
-    ensures { IsAdded (made_of V.contents code.old) (layout.optional V.functions (V.contents absent) (optional_of V.contents expr.now)) result (made_of V.contents code.new) }
+    ensures { IsAdded (made_of V.contents code.old)
+        (layout.optional V.functions (V.contents absent) (optional_of V.contents expr.now)) result
+        (made_of V.contents code.new) }
 {
     match expr {
         Some(expr) => {
@@ -270,7 +284,10 @@ fn choose<'s, V: TemplateValue>(
     requires test { IsWhole (expr_tree V.contents node.now.test_expr) }
     requires yes { IsWhole (expr_tree V.contents node.now.true_expr) }
     requires no { IsWholeIfAny (optional_of V.contents node.now.false_expr) }
-    ensures { IsExpr V.functions (made_of V.contents code.old) (tree.if_expr (expr_tree V.contents node.now.test_expr) (expr_tree V.contents node.now.true_expr) (optional_of V.contents node.now.false_expr)) result (made_of V.contents code.new) }
+    ensures { IsExpr V.functions (made_of V.contents code.old)
+        (tree.if_expr (expr_tree V.contents node.now.test_expr)
+        (expr_tree V.contents node.now.true_expr) (optional_of V.contents node.now.false_expr))
+        result (made_of V.contents code.new) }
 {
     expression(code, &node.test_expr)?;
     let jump = code.reserve()?;
@@ -290,8 +307,11 @@ fn filter<'s, V: TemplateValue>(
     code: &mut Emitter<'s, V>,
     node: &Filter<'s, V>,
 ) -> Result<(), Error<'static>>
-    requires { IsWhole (tree.filter (optional_of V.contents node.now.expr) node.now.name.now (args_of V.contents node.now.args.items)) }
-    ensures { IsExpr V.functions (made_of V.contents code.old) (tree.filter (optional_of V.contents node.now.expr) node.now.name.now (args_of V.contents node.now.args.items)) result (made_of V.contents code.new) }
+    requires { IsWhole (tree.filter (optional_of V.contents node.now.expr) node.now.name.now
+        (args_of V.contents node.now.args.items)) }
+    ensures { IsExpr V.functions (made_of V.contents code.old)
+        (tree.filter (optional_of V.contents node.now.expr) node.now.name.now
+        (args_of V.contents node.now.args.items)) result (made_of V.contents code.new) }
 {
     let Some(operand) = &node.expr else {
         unreachable!();
@@ -311,7 +331,9 @@ fn test<'s, V: TemplateValue>(
     requires operand { IsWhole (expr_tree V.contents node.now.expr) }
     requires args { AreArguments (args_of V.contents node.now.args.items) }
     requires few { arg_count (args_of V.contents node.now.args.items) ≤ most_arguments }
-    ensures { IsExpr V.functions (made_of V.contents code.old) (tree.test (expr_tree V.contents node.now.expr) node.now.name.now (args_of V.contents node.now.args.items)) result (made_of V.contents code.new) }
+    ensures { IsExpr V.functions (made_of V.contents code.old)
+        (tree.test (expr_tree V.contents node.now.expr) node.now.name.now
+        (args_of V.contents node.now.args.items)) result (made_of V.contents code.new) }
 {
     expression(code, &node.expr)?;
     let count = arguments(code, &node.args, 1)?;
@@ -326,7 +348,9 @@ fn get_attr<'s, V: TemplateValue>(
     node: &GetAttr<'s, V>,
 ) -> Result<(), Error<'static>>
     requires { IsWhole (expr_tree V.contents node.now.expr) }
-    ensures { IsExpr V.functions (made_of V.contents code.old) (tree.attribute (expr_tree V.contents node.now.expr) node.now.name.now) result (made_of V.contents code.new) }
+    ensures { IsExpr V.functions (made_of V.contents code.old)
+        (tree.attribute (expr_tree V.contents node.now.expr) node.now.name.now) result
+        (made_of V.contents code.new) }
 {
     expression(code, &node.expr)?;
     code.add(Instruction::GetAttr(node.name))?;
@@ -340,7 +364,9 @@ fn get_item<'s, V: TemplateValue>(
 ) -> Result<(), Error<'static>>
     requires object { IsWhole (expr_tree V.contents node.now.expr) }
     requires key { IsWhole (expr_tree V.contents node.now.subscript_expr) }
-    ensures { IsExpr V.functions (made_of V.contents code.old) (tree.item (expr_tree V.contents node.now.expr) (expr_tree V.contents node.now.subscript_expr)) result (made_of V.contents code.new) }
+    ensures { IsExpr V.functions (made_of V.contents code.old)
+        (tree.item (expr_tree V.contents node.now.expr)
+        (expr_tree V.contents node.now.subscript_expr)) result (made_of V.contents code.new) }
 {
     expression(code, &node.expr)?;
     expression(code, &node.subscript_expr)?;
@@ -356,7 +382,9 @@ fn call<'s, V: TemplateValue>(
     requires callee { IsWhole (expr_tree V.contents node.now.expr) }
     requires args { AreArguments (args_of V.contents node.now.args.items) }
     requires few { arg_count (args_of V.contents node.now.args.items) ≤ most_arguments }
-    ensures { IsExpr V.functions (made_of V.contents code.old) (tree.call (expr_tree V.contents node.now.expr) (args_of V.contents node.now.args.items)) result (made_of V.contents code.new) }
+    ensures { IsExpr V.functions (made_of V.contents code.old)
+        (tree.call (expr_tree V.contents node.now.expr) (args_of V.contents node.now.args.items))
+        result (made_of V.contents code.new) }
 {
     match &node.expr {
         Expr::Var(function) => {
@@ -400,7 +428,8 @@ fn capture_block<'s, V: TemplateValue>(
     code: &mut Emitter<'s, V>,
     name: &'s str,
 ) -> Result<(), Error<'static>>
-    ensures { IsAdded (made_of V.contents code.old) (captured name.now) result (made_of V.contents code.new) }
+    ensures { IsAdded (made_of V.contents code.old) (captured name.now) result
+        (made_of V.contents code.new) }
 {
     code.keep(Instruction::BeginCapture(CaptureMode::Capture))?;
     code.keep(Instruction::CallBlock(name))?;
@@ -414,7 +443,9 @@ fn build_list<'s, V: TemplateValue>(
     node: &List<'s, V>,
 ) -> Result<Option<V>, Error<'static>>
     requires { AreWhole (exprs_of V.contents node.now.items.items) }
-    ensures { IsExprPart V.functions V.contents (made_of V.contents code.old) (tree.list (exprs_of V.contents node.now.items.items)) result (made_of V.contents code.new) }
+    ensures { IsExprPart V.functions V.contents (made_of V.contents code.old)
+        (tree.list (exprs_of V.contents node.now.items.items)) result
+        (made_of V.contents code.new) }
 {
     if let Some(list) = node.as_const(code.alloc())? {
         return Ok(Some(list));
@@ -430,7 +461,9 @@ fn build_tuple<'s, V: TemplateValue>(
     node: &Tuple<'s, V>,
 ) -> Result<Option<V>, Error<'static>>
     requires { AreWhole (exprs_of V.contents node.now.items.items) }
-    ensures { IsExprPart V.functions V.contents (made_of V.contents code.old) (tree.tuple (exprs_of V.contents node.now.items.items)) result (made_of V.contents code.new) }
+    ensures { IsExprPart V.functions V.contents (made_of V.contents code.old)
+        (tree.tuple (exprs_of V.contents node.now.items.items)) result
+        (made_of V.contents code.new) }
 {
     if let Some(tuple) = node.as_const(code.alloc())? {
         return Ok(Some(tuple));
@@ -447,8 +480,11 @@ fn build_map<'s, V: TemplateValue>(
 ) -> Result<Option<V>, Error<'static>>
     requires keys { AreWhole (exprs_of V.contents node.now.keys.items) }
     requires values { AreWhole (exprs_of V.contents node.now.values.items) }
-    requires pairs { expr_count (exprs_of V.contents node.now.keys.items) ≡ expr_count (exprs_of V.contents node.now.values.items) }
-    ensures { IsExprPart V.functions V.contents (made_of V.contents code.old) (tree.map (exprs_of V.contents node.now.keys.items) (exprs_of V.contents node.now.values.items)) result (made_of V.contents code.new) }
+    requires pairs { expr_count (exprs_of V.contents node.now.keys.items) ≡ expr_count
+        (exprs_of V.contents node.now.values.items) }
+    ensures { IsExprPart V.functions V.contents (made_of V.contents code.old)
+        (tree.map (exprs_of V.contents node.now.keys.items)
+        (exprs_of V.contents node.now.values.items)) result (made_of V.contents code.new) }
 {
     if let Some(map) = node.as_const(code.alloc())? {
         return Ok(Some(map));
@@ -468,7 +504,9 @@ fn items<'s, V: TemplateValue>(
     exprs: &[Expr<'s, V>],
 ) -> Result<(), Error<'static>>
     requires { AreWhole (exprs_of V.contents exprs.now) }
-    ensures { IsAdded (made_of V.contents code.old) (layout.items V.functions (exprs_of V.contents exprs.now)) result (made_of V.contents code.new) }
+    ensures { IsAdded (made_of V.contents code.old)
+        (layout.items V.functions (exprs_of V.contents exprs.now)) result
+        (made_of V.contents code.new) }
 {
     for expr in exprs {
         expression(code, expr)?;

@@ -40,7 +40,8 @@ pub(super) fn output_of<'a, 's, V: TemplateValue>(expr: &'a Expr<'s, V>) -> Outp
 }
 
 fn output_of_call<'a, 's, V: TemplateValue>(call: &'a Call<'s, V>) -> Output<'a, 's, V>
-    ensures { output_shown V.contents result ≡ written_call (callee (expr_tree V.contents call.now.expr)) (args_of V.contents call.now.args.items) }
+    ensures { output_shown V.contents result ≡ written_call
+        (callee (expr_tree V.contents call.now.expr)) (args_of V.contents call.now.args.items) }
 {
     match call.identify_call() {
         CallType::Function(name) => output_of_function(name, &call.args),
@@ -53,7 +54,8 @@ fn output_of_function<'a, 's, V: TemplateValue>(
     name: &'s str,
     args: &'a [CallArg<'s, V>],
 ) -> Output<'a, 's, V>
-    ensures { output_shown V.contents result ≡ written_function name.now (args_of V.contents args.now) }
+    ensures { output_shown V.contents result ≡ written_function name.now
+        (args_of V.contents args.now) }
 {
     match args.len() {
         0 => {
@@ -73,7 +75,8 @@ fn output_of_function<'a, 's, V: TemplateValue>(
 }
 
 fn output_of_loop<'a, 's, V: TemplateValue>(arg: &'a CallArg<'s, V>) -> Output<'a, 's, V>
-    ensures { output_shown V.contents result ≡ written_function (codes "loop") (args_of V.contents (arg.now ∷ [])) }
+    ensures { output_shown V.contents result ≡ written_function (codes "loop")
+        (args_of V.contents (arg.now ∷ [])) }
 {
     match arg {
         CallArg::Pos(items) => Output::Recursion(items),

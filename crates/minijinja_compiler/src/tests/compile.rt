@@ -46,6 +46,7 @@ fn refuses_what_the_grammar_does_not_derive(rt: HostRuntime) {
         ("{% set loop = a %}", wrong),
         ("{% set a.b = c %}", wrong),
         ("{% set a = b, c %}", wrong),
+        ("{% set in = a %}", wrong),
         ("{% set a %}", wrong),
         ("{% if a %}", wrong),
         ("{% endraw %}", wrong),
@@ -54,6 +55,8 @@ fn refuses_what_the_grammar_does_not_derive(rt: HostRuntime) {
         ("{{ '\\q' }}", bad_escape),
         ("{{ '\\ud800' }}", bad_escape),
         ("{{ 'a' '\\q' }}", bad_escape),
+        ("{{ a '\\q' }}", bad_escape),
+        ("{{ a b }}{{ '\\q' }}", wrong),
     ];
     for (source, kind) in rows {
         match compile::<Value>(rt.alloc(), source, "page", &syntax) {

@@ -1,5 +1,5 @@
 //! The words of refusals and of places.
-use crate::error::{Detail, Error, ErrorKind};
+use crate::error::{Detail, Error, ErrorKind, Expected};
 use crate::tokens::{Span, Token};
 use std::alloc::AllocError;
 use std::test::Fail;
@@ -65,12 +65,12 @@ fn refusals_are_printed_with_their_place(rt: HostRuntime) -> Result<(), Fail> {
         ),
         (
             syntax,
-            Detail::UnexpectedEnd("end of block"),
+            Detail::UnexpectedEnd(Expected::BlockEnd),
             "syntax error: unexpected end of input, expected end of block",
         ),
         (
             syntax,
-            Detail::UnexpectedToken("identifier"),
+            Detail::UnexpectedToken(Expected::Identifier),
             "syntax error: unexpected token, expected identifier",
         ),
         (
@@ -82,6 +82,21 @@ fn refusals_are_printed_with_their_place(rt: HostRuntime) -> Result<(), Fail> {
             syntax,
             Detail::ReservedName("loop"),
             "syntax error: cannot assign to reserved name loop",
+        ),
+        (
+            syntax,
+            Detail::TooDeep,
+            "syntax error: template exceeds maximum recursion limits",
+        ),
+        (
+            syntax,
+            Detail::TooManyArguments,
+            "syntax error: too many arguments in function call",
+        ),
+        (
+            syntax,
+            Detail::PlainAfterKeyword,
+            "syntax error: non-keyword arg after keyword arg",
         ),
         (
             ErrorKind::OutOfMemory,
@@ -144,6 +159,10 @@ fn tokens_and_details_can_be_compared(rt: HostRuntime) {
     assert!(rt; Token::Ident("a") == Token::Ident("a"));
     assert!(rt; Token::Ident("a") != Token::Str("a"));
     assert!(rt; Token::Int(1) != Token::Int(2));
-    assert!(rt; Detail::UnexpectedEnd("tag") == Detail::UnexpectedEnd("tag"));
-    assert!(rt; Detail::UnexpectedEnd("tag") != Detail::UnexpectedToken("tag"));
+    assert!(rt;
+        Detail::UnexpectedEnd(Expected::BlockEnd) == Detail::UnexpectedEnd(Expected::BlockEnd)
+    );
+    assert!(rt;
+        Detail::UnexpectedEnd(Expected::BlockEnd) != Detail::UnexpectedToken(Expected::BlockEnd)
+    );
 }

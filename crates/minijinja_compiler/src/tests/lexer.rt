@@ -16,7 +16,7 @@ enum View {
     Words,
 }
 
-/// The tokens of a template or of an expression, one behind another.
+/// The tokens of a template or of an expression, one after another.
 fn shown(
     rt: &impl Abort,
     alloc: Global,

@@ -51,6 +51,22 @@ fn accepts_each_kind_of_statement(rt: HostRuntime) -> Result<(), Fail> {
 }
 
 #[test]
+fn names_stand_at_their_own_tokens(rt: HostRuntime) -> Result<(), Fail> {
+    let tree = parsed(&rt, "{{ x }}\n{{ x }}").ok().ok_or("refused")?;
+    let Stmt::Template(template) = &tree else {
+        return Err(Fail::from("a template"));
+    };
+    for (index, line) in [(0, 1), (2, 2)] {
+        let Some(Stmt::EmitExpr(output)) = template.node().children.get(index) else {
+            return Err(Fail::from("an output"));
+        };
+        let span = output.node().expr.span();
+        assert_eq!(rt; (span.start_line, span.start_col), (line, 3));
+    }
+    Ok(())
+}
+
+#[test]
 fn accepts_each_form_of_expression(rt: HostRuntime) {
     for source in [
         "x",
@@ -159,7 +175,7 @@ fn a_refusal_stands(rt: HostRuntime) -> Result<(), Fail> {
 }
 
 #[test]
-fn behind_a_tree_stands_the_empty_template(rt: HostRuntime) -> Result<(), Fail> {
+fn after_a_tree_stands_the_empty_template(rt: HostRuntime) -> Result<(), Fail> {
     let syntax = SyntaxConfig::default();
     let mut parser = Parser::new(rt.alloc(), "page", "name", false, &syntax);
     assert!(rt; parser.filename() == "name");

@@ -7,7 +7,8 @@ use Rattle.minijinja_syntax.specs.Positions.{slice, span_at}
 use Rattle.minijinja_lexer.specs.private.Views.{tag_view, fault_view}
 use Rattle.minijinja_lexer.specs.declared.raw.RawBlock.{RawBlock}
 use Rattle.minijinja_lexer.specs.Faults.{fault_kind}
-use Rattle.minijinja_lexer.specs.Stream.{Stream, finished, refused, before, ended, out_of_memory, NeedsMemory}
+use Rattle.minijinja_syntax.specs.Streams.{Stream, finished, refused, before, ended}
+use Rattle.minijinja_lexer.specs.Stream.{out_of_memory, NeedsMemory}
 use Rattle.minijinja_lexer.specs.private.Place.{Place}
 use Rattle.minijinja_lexer.specs.Slices.{IsBetweenChars, IsTokenText}
 use Rattle.minijinja_lexer.specs.TextTokens.{stream_at, stream_in, behind_expression}
@@ -16,7 +17,7 @@ use Rattle.minijinja_lexer.specs.declared.step.State.TheVariants as state
 use Rattle.minijinja_lexer.specs.declared.step.Step.{Step}
 use Rattle.minijinja_lexer.specs.declared.step.Step.TheVariants as step
 
--- what comes behind a tag, which may be the whole text
+-- what comes after a tag, which may be the whole text
 abbrev pub behind : Syntax → Text → Bool → (stop after : ℕ) → Stream
 behind s text true stop after = behind_expression text stop after
 behind s text false stop after = stream_at s text after
@@ -54,7 +55,7 @@ abbrev pub TakesBetween : Text → Step → Type 0
 TakesBetween text (step.Token t span state) = IsBetweenChars text span
 TakesBetween text _ = Unit {0}
 
--- a step that gives the token of a raw block, and goes on behind it
+-- a step that gives the token of a raw block, and goes on after it
 abbrev pub RawSteps : Text → RawBlock → Step → Place → Type 0
 RawSteps text block (step.Token t span state.Outside) p =
     (tok_of t ≡ template_data (slice text block.start block.stop)) × (span ≡ span_at text block.begin block.end) × (p ≡ record { text = text; at = block.after })

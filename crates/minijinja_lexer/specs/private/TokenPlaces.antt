@@ -26,7 +26,7 @@ pub record TokenPlaces (text : Text) (at stop : ℕ) (sort : Sort) : Type 0 wher
   pub boundary : IsCharBoundary text stop
   pub inside : SortPlaces text at stop sort
 
--- a refusal at the place or behind it
+-- a refusal at the place or after it
 pub record RefusalPlace (text : Text) (at place : ℕ) : Type 0 where
   pub onwards : at ≤ place
   pub boundary : IsCharBoundary text place

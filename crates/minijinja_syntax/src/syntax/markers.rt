@@ -152,12 +152,13 @@ fn default_marker_at(text: &[u8], at: usize) -> Option<StartMarker>
     }
 }
 
-/// The first place at or behind the byte `offset` where a marker begins, or the end of the text, where the start
+/// The first place at or after the byte `offset` where a marker begins, or the end of the text, where the start
 /// delimiters are the default ones.
 #[inline(never)]
 fn next_default_place(text: &[u8], offset: usize) -> usize
     requires { offset ≤ length text.now }
-    ensures place { (s : Syntax) → IsBuildable s → HasDefaultStarts s → result ≡ next_marker s text.now offset }
+    ensures place { (s : Syntax) → IsBuildable s → HasDefaultStarts s → result ≡ next_marker s
+        text.now offset }
     ensures ordered { offset ≤ result }
     ensures within { result ≤ length text.now }
 {
@@ -179,7 +180,8 @@ pub(super) fn find_default_marker(
     offset: usize,
 ) -> Option<(usize, StartMarker, usize)>
     requires { offset ≤ length source.now }
-    ensures { (s : Syntax) → IsBuildable s → HasDefaultStarts s → result ≡ found_marker s source.now offset }
+    ensures { (s : Syntax) → IsBuildable s → HasDefaultStarts s → result ≡ found_marker s source.now
+        offset }
 {
     let text = source.as_bytes();
     // A tag is sought once more where it begins: that is to cost next to nothing.
@@ -207,8 +209,10 @@ impl Settings {
         marker: StartMarker,
     ) -> Option<StartMarker>
         requires within { at ≤ length text.now }
-        requires here { 0 < length (syntax_of self.now).line_statement → line_start ≡ starts_line text.now at }
-        ensures value { result ≡ (if is_eligible (syntax_of self.now) text.now at marker then Some marker else None) }
+        requires here { 0 < length (syntax_of self.now).line_statement → line_start ≡ starts_line
+            text.now at }
+        ensures value { result ≡
+            (if is_eligible (syntax_of self.now) text.now at marker then Some marker else None) }
         ensures place { IfSome result (IsMarkerPlace (syntax_of self.now) text.now at) }
     {
         let start = self.start_of(marker);
@@ -248,7 +252,8 @@ impl Settings {
     #[tactic(auto, unfolding(crate::specs::Markers::marker_at))]
     fn marker_at(&self, text: &str, at: usize, line_start: bool) -> Option<StartMarker>
         requires within { at ≤ length text.now }
-        requires here { 0 < length (syntax_of self.now).line_statement → line_start ≡ starts_line text.now at }
+        requires here { 0 < length (syntax_of self.now).line_statement → line_start ≡ starts_line
+            text.now at }
         ensures value { result ≡ marker_at (syntax_of self.now) text.now at }
         ensures place { IfSome result (IsMarkerPlace (syntax_of self.now) text.now at) }
     {
@@ -287,7 +292,8 @@ impl Settings {
     ) -> Option<StartMarker>
         requires first { first ≡ first_bytes (syntax_of self.now) }
         requires within { at < length text.now }
-        requires here { 0 < length (syntax_of self.now).line_statement → line_start ≡ starts_line text.now at }
+        requires here { 0 < length (syntax_of self.now).line_statement → line_start ≡ starts_line
+            text.now at }
         ensures value { result ≡ marker_at (syntax_of self.now) text.now at }
         ensures place { IfSome result (IsMarkerPlace (syntax_of self.now) text.now at) }
     {
@@ -308,12 +314,13 @@ impl Settings {
         requires { offset ≤ length source.now }
         ensures value { result ≡ found_marker (syntax_of self.now) source.now offset }
         ensures finds { FindsMarker (syntax_of self.now) source.now offset result }
-        ensures place { IfSome result (λ r. IsMarkerPlace (syntax_of self.now) source.now (offset + r.0) r.1) }
+        ensures place { IfSome result
+            (λ r. IsMarkerPlace (syntax_of self.now) source.now (offset + r.0) r.1) }
     {
         let bytes = source.as_bytes();
         let first = self.first_bytes();
         // Only line statements ask where a line starts.
-        let mut line_start = !self.line_statement.is_empty() && starts_line(bytes, offset);
+        let mut line_start = !self.line_statement.as_str().is_empty() && starts_line(bytes, offset);
         let mut place = offset;
         while place < bytes.len() {
             if let Some(marker) = self.candidate_at(first, source, place, line_start) {

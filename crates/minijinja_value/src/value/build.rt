@@ -13,7 +13,8 @@ pub(super) fn distinct(
     alloc: Global,
     pairs: Vec<(Value, Value)>,
 ) -> Result<Vec<(Value, Value)>, AllocError>
-    ensures { IfOk result (λ made. pairs_view made.items ≡ spec.built (map_pairs contents_of pairs.items)) }
+    ensures { IfOk result
+        (λ made. pairs_view made.items ≡ spec.built (map_pairs contents_of pairs.items)) }
 {
     let mut made = Vec::new(alloc);
     for (key, value) in pairs {

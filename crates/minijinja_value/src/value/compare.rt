@@ -47,8 +47,9 @@ fn items_equal(items: &Vec<Value>, others: &Vec<Value>) -> bool
 /// Whether there are as many pairs, each equal to one of the others.
 #[cycle(equals)]
 fn pairs_equal(pairs: &Vec<(Value, Value)>, others: &Vec<(Value, Value)>) -> bool
-    ensures { result ≡ ((spec.pair_count (pairs_view pairs.now.items) == spec.pair_count (pairs_view others.now.items))
-        && spec.are_pairs_in (pairs_view pairs.now.items) (pairs_view others.now.items)) }
+    ensures { result ≡ ((spec.pair_count (pairs_view pairs.now.items) == spec.pair_count
+        (pairs_view others.now.items)) && spec.are_pairs_in (pairs_view pairs.now.items)
+        (pairs_view others.now.items)) }
 {
     if pairs.len() != others.len() {
         return false;

@@ -11,7 +11,8 @@ use std::alloc::{AllocError, Global};
 
 /// The texts of two values, joined.
 pub(super) fn concat(left: &Value, alloc: Global, right: &Value) -> Result<Value, AllocError>
-    ensures { IfOk result (λ v. contents_of v ≡ spec.concat (contents_of left.now) (contents_of right.now)) }
+    ensures { IfOk result
+        (λ v. contents_of v ≡ spec.concat (contents_of left.now) (contents_of right.now)) }
 {
     let mut text = String::new(alloc);
     push_joined(&mut text, left)?;
@@ -21,7 +22,8 @@ pub(super) fn concat(left: &Value, alloc: Global, right: &Value) -> Result<Value
 
 /// Adds what a value stands for in a joined text.
 fn push_joined(text: &mut String, value: &Value) -> Result<(), AllocError>
-    ensures { OnOk result (string_bytes text.new ≡ string_bytes text.old ++ joined_words (contents_of value.now)) }
+    ensures { OnOk result
+        (string_bytes text.new ≡ string_bytes text.old ++ joined_words (contents_of value.now)) }
 {
     match value {
         Value::Undefined | Value::SilentUndefined => Ok(()),
@@ -32,7 +34,8 @@ fn push_joined(text: &mut String, value: &Value) -> Result<(), AllocError>
 
 /// Whether an item is in a value.
 pub(super) fn contains(value: &Value, item: &Value) -> Result<bool, OpError<ValueFault>>
-    ensures outcome { IsOutcome (λ b. b) (λ f. f) (spec.contains (contents_of value.now) (contents_of item.now)) result }
+    ensures outcome { IsOutcome (λ b. b) (λ f. f)
+        (spec.contains (contents_of value.now) (contents_of item.now)) result }
     ensures needs_no_memory { IsNotOutOfMemory result }
 {
     match value {
@@ -89,8 +92,8 @@ pub(super) fn neg(value: &Value) -> Result<Value, OpError<ValueFault>>
 
 /// The sum.
 pub(super) fn add(left: &Value, right: &Value) -> Result<Value, OpError<ValueFault>>
-    ensures outcome { IsOutcome contents_of (λ f. f)
-        (spec.on_integers (λ a b. spec.ranged (a +ℤ b)) (contents_of left.now) (contents_of right.now)) result }
+    ensures outcome { IsOutcome contents_of (λ f. f) (spec.on_integers (λ a b. spec.ranged (a +ℤ b))
+        (contents_of left.now) (contents_of right.now)) result }
     ensures needs_no_memory { IsNotOutOfMemory result }
 {
     match (as_integer(left), as_integer(right)) {
@@ -101,8 +104,8 @@ pub(super) fn add(left: &Value, right: &Value) -> Result<Value, OpError<ValueFau
 
 /// The difference.
 pub(super) fn sub(left: &Value, right: &Value) -> Result<Value, OpError<ValueFault>>
-    ensures outcome { IsOutcome contents_of (λ f. f)
-        (spec.on_integers (λ a b. spec.ranged (a -ℤ b)) (contents_of left.now) (contents_of right.now)) result }
+    ensures outcome { IsOutcome contents_of (λ f. f) (spec.on_integers (λ a b. spec.ranged (a -ℤ b))
+        (contents_of left.now) (contents_of right.now)) result }
     ensures needs_no_memory { IsNotOutOfMemory result }
 {
     match (as_integer(left), as_integer(right)) {
@@ -113,8 +116,8 @@ pub(super) fn sub(left: &Value, right: &Value) -> Result<Value, OpError<ValueFau
 
 /// The product.
 pub(super) fn mul(left: &Value, right: &Value) -> Result<Value, OpError<ValueFault>>
-    ensures outcome { IsOutcome contents_of (λ f. f)
-        (spec.on_integers (λ a b. spec.ranged (a *ℤ b)) (contents_of left.now) (contents_of right.now)) result }
+    ensures outcome { IsOutcome contents_of (λ f. f) (spec.on_integers (λ a b. spec.ranged (a *ℤ b))
+        (contents_of left.now) (contents_of right.now)) result }
     ensures needs_no_memory { IsNotOutOfMemory result }
 {
     match (as_integer(left), as_integer(right)) {

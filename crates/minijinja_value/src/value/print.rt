@@ -56,7 +56,8 @@ fn show<W: fmt::Write>(value: &Value, f: &mut fmt::Formatter<W>) -> fmt::Result
 /// The items with `, ` between them.
 #[cycle(show)]
 fn show_items<W: fmt::Write>(items: &Vec<Value>, f: &mut fmt::Formatter<W>) -> fmt::Result
-    ensures { WritesOnOk W.write_str_gives f.old result (joined (each_words (items_view items.now.items))) f.new }
+    ensures { WritesOnOk W.write_str_gives f.old result
+        (joined (each_words (items_view items.now.items))) f.new }
 {
     for (i, item) in items.iter().enumerate() {
         if i > 0 {
@@ -70,7 +71,8 @@ fn show_items<W: fmt::Write>(items: &Vec<Value>, f: &mut fmt::Formatter<W>) -> f
 /// The pairs with `, ` between them.
 #[cycle(show)]
 fn show_pairs<W: fmt::Write>(pairs: &Vec<(Value, Value)>, f: &mut fmt::Formatter<W>) -> fmt::Result
-    ensures { WritesOnOk W.write_str_gives f.old result (joined (pair_words (pairs_view pairs.now.items))) f.new }
+    ensures { WritesOnOk W.write_str_gives f.old result
+        (joined (pair_words (pairs_view pairs.now.items))) f.new }
 {
     for (i, pair) in pairs.iter().enumerate() {
         if i > 0 {
@@ -129,7 +131,8 @@ impl fmt::Display for Quoted<'_> {
 
 /// What stands for a byte between quotes, if that is not the byte itself.
 fn escape_of(byte: u8) -> Option<&'static str>
-    ensures text { MatchOption result (escaped byte ≡ byte ∷ []) (λ escape. escaped byte ≡ escape.now) }
+    ensures text { MatchOption result (escaped byte ≡ byte ∷ [])
+        (λ escape. escaped byte ≡ escape.now) }
     ensures ascii { OnSome result (byte < 128) }
 {
     match byte {

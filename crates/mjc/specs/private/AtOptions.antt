@@ -37,7 +37,7 @@ option_named word =
     else (if bytes_eq word (codes "--keep-newline") then Some KeepNewline
     else None)))))))
 
--- what an option says with the words behind it, and the words left
+-- what an option says with the words after it, and the words left
 abbrev pub setting_of : Option OptionName → List Text → Option (Setting × List Text)
 setting_of (Some Block) (start ∷ stop ∷ rest) = Some (block start stop, rest)
 setting_of (Some Variable) (start ∷ stop ∷ rest) = Some (variable start stop, rest)
@@ -49,7 +49,7 @@ setting_of (Some LstripBlocks) rest = Some (lstrip_blocks, rest)
 setting_of (Some KeepNewline) rest = Some (keep_newline, rest)
 setting_of _ _ = None
 
--- the option that words begin with, and the words behind it
+-- the option that words begin with, and the words after it
 abbrev pub first_setting : List Text → Option (Setting × List Text)
 first_setting [] = None
 first_setting (word ∷ rest) = setting_of (option_named word) rest

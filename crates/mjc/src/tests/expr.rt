@@ -442,7 +442,7 @@ fn constants_fold(rt: HostRuntime) {
 }
 
 /// The places are the upstream program's but in three rows: it reads the first, and gives no place for a float and a bad
-/// escape, which stand behind the integer digits and at the string.
+/// escape, which stand after the integer digits and at the string.
 #[test]
 fn refusals_name_their_place(rt: HostRuntime) {
     let rows = [

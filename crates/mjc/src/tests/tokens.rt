@@ -60,7 +60,7 @@ fn heeds_options(rt: HostRuntime) {
             "«é»",
             "1:0-1:1 VariableStart\n1:1-1:2 Ident(\"é\")\n1:2-1:3 VariableEnd\n",
         ),
-        // An end that begins with whitespace is met behind a control byte alone.
+        // An end that begins with whitespace is met after a control byte alone.
         (
             &["tokens", "--variable", "{{", " }", "-"],
             "{{ x- }y",
@@ -168,7 +168,7 @@ fn prints_the_tokens_before_a_refusal(rt: HostRuntime) {
     assert_run(&rt, rt.alloc(), &["tokens", "-"], file, 1, printed, said);
 }
 
-/// Where the tokens cannot be written, the refusal behind them is not found.
+/// Where the tokens cannot be written, the refusal after them is not found.
 #[test]
 fn ends_at_a_failing_write_of_tokens(rt: HostRuntime) {
     let (mut out, mut err) = (Short::new(rt.alloc(), 0), Vec::new(rt.alloc()));

@@ -1,11 +1,16 @@
-use Rattle.std.proofs.Common.{◌∙◌, sym}
+use Rattle.std.proofs.Common.{◌≡◌, ◌≤◌, ◌^◌, ◌∙◌, length, sym, ap, subst}
+use Rattle.std.proofs.lemmas.Result.{err_from_is_err_and}
 use Rattle.minijinja_tree.specs.Erasure.{stmt_tree}
+use Rattle.minijinja_tree.specs.SpannedTrees.{bare_stmt}
+use Rattle.minijinja_tree.specs.SpannedErasure.{stmt_node}
+use Rattle.minijinja_tree.proofs.Bare.{stmt_is}
+use Rattle.minijinja_code.specs.Pieces.{start}
 use Rattle.minijinja_code.specs.Instructions.{code_of}
 use Rattle.minijinja_code.specs.Layout.{stmt_code}
 use Rattle.minijinja_code.specs.Correct.{Does}
 use Rattle.minijinja_code.specs.private.AtGenerator.{generated, here_so_far}
-use Rattle.minijinja_code.specs.Hint.{data_bytes}
-use Rattle.minijinja_compiler.proofs.Parts.{whole_code, whole_does, never_refusal, never_another, hint_of_all}
+use Rattle.minijinja_code.specs.Hint.{IsHint, data_bytes}
+use Rattle.minijinja_compiler.proofs.Parts.{whole_code, whole_does, limit_of_parser, never_refusal, never_another, too_long_list, unkept, hint_of_all}
 use Rattle.minijinja_compiler.proofs.compile.compile.Goals as goal
 
 pub returns-clause-compiled : goal.returns-clause-compiled
@@ -13,6 +18,7 @@ returns-clause-compiled g c =
     let v = g.V.TemplateValue.contents in
     let f = g.V.TemplateValue.functions in
     let tree = stmt_tree v c.in_ok-template.template in
+    let bare : bare_stmt (stmt_node v c.in_ok-template.template) ≡ tree = stmt_is v c.in_ok-template.template in
     let made = c.new-generator.result in
     let before = generated v made in
     let after = generated v c.compile_stmt.new.self in
@@ -22,12 +28,12 @@ returns-clause-compiled g c =
     let empty = c.new-generator.ensures.empty in
     let finished = c.finish-instructions.ensures.code in
     record {
-      tree = tree;
+      tree = stmt_node v c.in_ok-template.template;
       derived = parsed.found;
       only = λ t d. sym (parsed.only t d);
-      code = whole_code before after code (here_so_far v made) (stmt_code f tree) empty c.new-generator.ensures.here done.added finished;
-      does = whole_does (λ is from to. Does f is from to tree) before after code empty done.does finished;
-      hint = hint_of_all (data_bytes tree) _ _ c.buffer_size_hint-buffer_size_hint.result c.new-generator.ensures.bytes done.counted c.buffer_size_hint-buffer_size_hint.ensures;
+      code = whole_code before after code (here_so_far v made) (stmt_code f tree) empty c.new-generator.ensures.here done.added finished ∙ ap (λ t. stmt_code f t start) (sym bare);
+      does = subst (λ t. Does f code 0 (length code) t) (sym bare) (whole_does (λ is from to. Does f is from to tree) before after code empty done.does finished);
+      hint = subst (λ t. IsHint (data_bytes t) c.buffer_size_hint-buffer_size_hint.result) (sym bare) (hint_of_all (data_bytes tree) _ _ c.buffer_size_hint-buffer_size_hint.result c.new-generator.ensures.bytes done.counted c.buffer_size_hint-buffer_size_hint.ensures);
       no_blocks = rw (c.finish-instructions.ensures.blocks, done.blocks) c.new-generator.ensures.blocks;
       name = c.finish-instructions.ensures.name ∙ done.name ∙ c.new-generator.ensures.name;
       text = c.finish-instructions.ensures.source ∙ done.source ∙ c.new-generator.ensures.source;
@@ -40,3 +46,30 @@ returns-in_err-compile_stmt-clause-refused g c =
 pub returns-in_err-compile_stmt-clause-named : goal.returns-in_err-compile_stmt-clause-named
 returns-in_err-compile_stmt-clause-named g c =
     never_another _ _ c.in_err-compile_stmt.field-0.0 _ c.new-generator.ensures.refusal c.in_err-compile_stmt.ensures.causes c.from_residual-in_err-compile_stmt.ensures.1
+
+-- a refusal of the parser
+pub returns-in_err-template-clause-refused : goal.returns-in_err-template-clause-refused
+returns-in_err-template-clause-refused g c =
+    let p = err_from_is_err_and c.from_residual.result c.from_residual.ensures.1 in
+    rw (p.1, p.2) c.in_err-template.ensures.refused
+
+pub returns-in_err-template-clause-accepted : goal.returns-in_err-template-clause-accepted
+returns-in_err-template-clause-accepted g c = λ t d.
+    let p = err_from_is_err_and c.from_residual.result c.from_residual.ensures.1 in
+    rw (p.1, p.2) (limit_of_parser c.in_err-template.field-0.0 (c.in_err-template.ensures.only t d))
+
+pub returns-in_err-compile_stmt-clause-too_many_only : goal.returns-in_err-compile_stmt-clause-too_many_only
+returns-in_err-compile_stmt-clause-too_many_only g c =
+    let v = g.V.TemplateValue.contents in
+    let f = g.V.TemplateValue.functions in
+    let tree = stmt_tree v c.in_ok-template.template in
+    let bare : bare_stmt (stmt_node v c.in_ok-template.template) ≡ tree = stmt_is v c.in_ok-template.template in
+    let made = c.new-generator.result in
+    let p = err_from_is_err_and c.from_residual-in_err-compile_stmt.result c.from_residual-in_err-compile_stmt.ensures.1 in
+    rw (p.1, p.2) (λ k. record {
+      tree = stmt_node v c.in_ok-template.template;
+      derived = c.in_ok-template.ensures.found;
+      long = subst (λ t. 2 ^ 32 ≤ length (stmt_code f t start)) (sym bare)
+          (too_long_list (generated v made) (here_so_far v made) (stmt_code f tree) c.in_err-compile_stmt.field-0.0 c.new-generator.ensures.empty c.new-generator.ensures.here
+          (unkept _ c.new-generator.ensures.refusal c.in_err-compile_stmt.ensures.too_many) k);
+    })

@@ -1,10 +1,15 @@
-use Rattle.std.proofs.Common.{◌∙◌, sym}
+use Rattle.std.proofs.Common.{◌≡◌, ◌≤◌, ◌^◌, ◌∙◌, length, sym, ap, subst}
+use Rattle.std.proofs.lemmas.Result.{err_from_is_err_and}
 use Rattle.minijinja_tree.specs.Erasure.{expr_tree}
+use Rattle.minijinja_tree.specs.SpannedTrees.{bare_expr}
+use Rattle.minijinja_tree.specs.SpannedErasure.{expr_node}
+use Rattle.minijinja_tree.proofs.Bare.{expr_is}
+use Rattle.minijinja_code.specs.Pieces.{start}
 use Rattle.minijinja_code.specs.Instructions.{code_of}
 use Rattle.minijinja_code.specs.Layout.{expr_code}
 use Rattle.minijinja_code.specs.Correct.{DoesExpr}
 use Rattle.minijinja_code.specs.private.AtGenerator.{generated, here_so_far}
-use Rattle.minijinja_compiler.proofs.Parts.{whole_code, whole_does, never_refusal, never_another}
+use Rattle.minijinja_compiler.proofs.Parts.{whole_code, whole_does, limit_of_parser, never_refusal, never_another, too_long_list, unkept}
 use Rattle.minijinja_compiler.proofs.compile.compile_expression.Goals as goal
 
 pub returns-clause-compiled : goal.returns-clause-compiled
@@ -12,6 +17,7 @@ returns-clause-compiled g c =
     let v = g.V.TemplateValue.contents in
     let f = g.V.TemplateValue.functions in
     let tree = expr_tree v c.in_ok-expr.expr in
+    let bare : bare_expr (expr_node v c.in_ok-expr.expr) ≡ tree = expr_is v c.in_ok-expr.expr in
     let made = c.new-generator.result in
     let before = generated v made in
     let after = generated v c.compile_expr.new.self in
@@ -21,11 +27,11 @@ returns-clause-compiled g c =
     let empty = c.new-generator.ensures.empty in
     let finished = c.finish-instructions.ensures.code in
     record {
-      tree = tree;
+      tree = expr_node v c.in_ok-expr.expr;
       derived = parsed.found;
       only = λ t d. sym (parsed.only t d);
-      code = whole_code before after code (here_so_far v made) (expr_code f tree) empty c.new-generator.ensures.here done.added finished;
-      does = whole_does (λ is from to. DoesExpr f is from to tree) before after code empty done.does finished;
+      code = whole_code before after code (here_so_far v made) (expr_code f tree) empty c.new-generator.ensures.here done.added finished ∙ ap (λ t. expr_code f t start) (sym bare);
+      does = subst (λ t. DoesExpr f code 0 (length code) t) (sym bare) (whole_does (λ is from to. DoesExpr f is from to tree) before after code empty done.does finished);
       name = c.finish-instructions.ensures.name ∙ done.name ∙ c.new-generator.ensures.name;
       text = c.finish-instructions.ensures.source ∙ done.source ∙ c.new-generator.ensures.source;
     }
@@ -37,3 +43,30 @@ returns-in_err-compile_expr-clause-refused g c =
 pub returns-in_err-compile_expr-clause-named : goal.returns-in_err-compile_expr-clause-named
 returns-in_err-compile_expr-clause-named g c =
     never_another _ _ c.in_err-compile_expr.field-0.0 _ c.new-generator.ensures.refusal c.in_err-compile_expr.ensures.causes c.from_residual-in_err-compile_expr.ensures.1
+
+-- a refusal of the parser
+pub returns-in_err-expr-clause-refused : goal.returns-in_err-expr-clause-refused
+returns-in_err-expr-clause-refused g c =
+    let p = err_from_is_err_and c.from_residual.result c.from_residual.ensures.1 in
+    rw (p.1, p.2) c.in_err-expr.ensures.refused
+
+pub returns-in_err-expr-clause-accepted : goal.returns-in_err-expr-clause-accepted
+returns-in_err-expr-clause-accepted g c = λ t d.
+    let p = err_from_is_err_and c.from_residual.result c.from_residual.ensures.1 in
+    rw (p.1, p.2) (limit_of_parser c.in_err-expr.field-0.0 (c.in_err-expr.ensures.only t d))
+
+pub returns-in_err-compile_expr-clause-too_many_only : goal.returns-in_err-compile_expr-clause-too_many_only
+returns-in_err-compile_expr-clause-too_many_only g c =
+    let v = g.V.TemplateValue.contents in
+    let f = g.V.TemplateValue.functions in
+    let tree = expr_tree v c.in_ok-expr.expr in
+    let bare : bare_expr (expr_node v c.in_ok-expr.expr) ≡ tree = expr_is v c.in_ok-expr.expr in
+    let made = c.new-generator.result in
+    let p = err_from_is_err_and c.from_residual-in_err-compile_expr.result c.from_residual-in_err-compile_expr.ensures.1 in
+    rw (p.1, p.2) (λ k. record {
+      tree = expr_node v c.in_ok-expr.expr;
+      derived = c.in_ok-expr.ensures.found;
+      long = subst (λ t. 2 ^ 32 ≤ length (expr_code f t start)) (sym bare)
+          (too_long_list (generated v made) (here_so_far v made) (expr_code f tree) c.in_err-compile_expr.field-0.0 c.new-generator.ensures.empty c.new-generator.ensures.here
+          (unkept _ c.new-generator.ensures.refusal c.in_err-compile_expr.ensures.too_many) k);
+    })

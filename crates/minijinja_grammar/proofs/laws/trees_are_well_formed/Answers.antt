@@ -1,9 +1,8 @@
-use Rattle.minijinja_lexer.specs.TextTokens.{text_of}
-use Rattle.minijinja_grammar.proofs.WholeTrees.{expr_whole, template_well_formed}
+use Rattle.minijinja_grammar.proofs.Trees.{template_formed, expression_whole}
 use Rattle.minijinja_grammar.proofs.laws.trees_are_well_formed.Goals as goal
 
-pub returns : goal.returns
-returns g c = record {
-  template = λ s source t d. template_well_formed _ (text_of s source) _ t d.derived;
-  expression = λ s source t d. expr_whole _ (text_of s source) _ t d.derived;
-}
+pub returns-clause-template : goal.returns-clause-template
+returns-clause-template g c = template_formed g.V.TemplateValue.functions
+
+pub returns-clause-expression : goal.returns-clause-expression
+returns-clause-expression g c = expression_whole g.V.TemplateValue.functions

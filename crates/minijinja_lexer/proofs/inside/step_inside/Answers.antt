@@ -1,7 +1,8 @@
 use Rattle.std.proofs.Common.{◌≡◌, ◌<◌, ◌+◌, length, ap, sym, ◌∙◌, arith, subst, inr}
 use Rattle.minijinja_lexer.specs.private.Place.{Place}
 use Rattle.minijinja_lexer.specs.private.Views.{tag_view, lexeme_view, close_view, turn_view}
-use Rattle.minijinja_lexer.specs.Stream.{Stream, OwnsMemory}
+use Rattle.minijinja_syntax.specs.Streams.{Stream}
+use Rattle.minijinja_lexer.specs.Stream.{OwnsMemory}
 use Rattle.minijinja_lexer.specs.Cut.{turn_at, close_over}
 use Rattle.minijinja_lexer.specs.TextTokens.{lexeme_tok, close_stream}
 use Rattle.minijinja_lexer.specs.private.States.{Steps, behind}

@@ -3,7 +3,7 @@ use Rattle.minijinja_syntax.specs.Texts.{Text}
 use Rattle.minijinja_syntax.specs.Positions.{span_at}
 use Rattle.minijinja_lexer.specs.private.Place.{Place}
 use Rattle.minijinja_lexer.specs.private.Views.{tag_view, fault_view}
-use Rattle.minijinja_lexer.specs.Stream.{Stream}
+use Rattle.minijinja_syntax.specs.Streams.{Stream}
 use Rattle.minijinja_lexer.specs.private.States.{Steps, RawSteps, Takes, TakesBetween}
 use Rattle.minijinja_lexer.specs.TextTokens.{stream_at, refusal_span}
 use Rattle.minijinja_lexer.proofs.Steps.{stream_at-over}

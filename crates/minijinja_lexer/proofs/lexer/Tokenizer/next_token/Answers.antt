@@ -1,6 +1,7 @@
 use Rattle.std.proofs.Common.{◌≡◌, ap, sym, ◌∙◌, subst, inl}
 use Rattle.std.specs.Prelude.{◌⊎◌}
-use Rattle.minijinja_lexer.specs.Stream.{Stream, Lexing, out_of_memory, NeedsMemory}
+use Rattle.minijinja_syntax.specs.Streams.{Stream}
+use Rattle.minijinja_lexer.specs.Stream.{Lexing, out_of_memory, NeedsMemory}
 use Rattle.minijinja_lexer.proofs.Answering.{refuses, runs_out}
 use Rattle.minijinja_lexer.proofs.lexer.Tokenizer.next_token.Goals as goal
 

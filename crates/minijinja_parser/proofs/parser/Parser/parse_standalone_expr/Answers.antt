@@ -1,64 +1,64 @@
-use Rattle.std.proofs.Common.{◌∙◌, sym, ap, refl}
-use Rattle.std.proofs.lemmas.Result.{err_from_is_err_and}
-use Rattle.minijinja_lexer.specs.Stream.{Stream}
-use Rattle.minijinja_tree.specs.Erasure.{expr_tree}
-use Rattle.minijinja_grammar.proofs.Claims.{expr-found, expr-one, expr-starved, expr-none, unescaped, unread-before, fails-before, failure_kind, bad_escape, not_memory, spent, not_both, one_refusal, refused_so, not_refused}
-use Rattle.minijinja_grammar.proofs.WholeTrees.{expr_whole}
+use Rattle.std.proofs.Common.{◌≡◌, ◌∙◌, sym, ap, subst}
+use Rattle.minijinja_tree.specs.SpannedErasure.{expr_node}
+use Rattle.minijinja_tree.specs.WellFormed.{IsWhole}
+use Rattle.minijinja_grammar.specs.Grammar.{expr_at, max_depth}
+use Rattle.minijinja_grammar.proofs.Trees.{expression_whole, expression_stands}
+use Rattle.minijinja_tree.proofs.Bare.{expr_is}
+use Rattle.minijinja_parser.proofs.NoTokens.{no_expr}
+use Rattle.minijinja_parser.proofs.Wholes.{whole_of, only_whole, unrefused, refused_whole, memory_at, not_derived, answers, escapes, at_fault}
 use Rattle.minijinja_parser.proofs.parser.Parser.parse_standalone_expr.Goals as goal
 
--- the refusal that stood
-pub returns-in_err-unrefused : goal.returns-in_err-unrefused
-returns-in_err-unrefused g c =
-    let p = err_from_is_err_and c.from_residual.result c.from_residual.ensures.1 in
-    record {
-      found = rw p.1 tt;
-      refused = rw (p.1, p.2) (λ k t d. absurd (not_both c.args.self.now.inner.stream.stream _ _ c.in_err-unrefused.ensures.stands d.unrefused));
-      only = λ t d. absurd (not_both c.args.self.now.inner.stream.stream _ _ c.in_err-unrefused.ensures.stands d.unrefused);
-      causes = rw (p.1, p.2) c.in_err-unrefused.ensures.causes;
-      named = rw (p.1, p.2) c.in_err-unrefused.ensures.named;
-      filename = refl;
-      bad_escape = rw (p.1, p.2) (λ k. refused_so c.args.self.now.inner.stream.stream _ _ _ c.in_err-unrefused.ensures.stands k);
-      well_formed = rw p.1 tt;
-      spans = λ ts h. rw p.1 tt;
-      spent = rw p.1 tt;
-      kept = rw (p.1, p.2) c.in_err-unrefused.ensures.stands;
-      again = λ kind span h. rw (p.1, p.2) (one_refusal c.args.self.now.inner.stream.stream _ kind _ span c.in_err-unrefused.ensures.stands h);
-      nothing = λ e. absurd (not_both c.args.self.now.inner.stream.stream _ _ c.in_err-unrefused.ensures.stands (ap (λ (u : Stream). u.ending) e));
-    }
+-- a tree
+pub returns-in-Ok-clause-found : goal.returns-in-Ok-clause-found
+returns-in-Ok-clause-found g c =
+    whole_of (expr_at g.V.TemplateValue.functions max_depth) c.args.self.now.place c.whole_expr.new.self.place (expr_node g.V.TemplateValue.contents c.in-Ok.expr) c.in-Ok.ensures.read.0 c.in-Ok.ensures.read.1
 
-pub returns-in-Ok : goal.returns-in-Ok
-returns-in-Ok g c = record {
-  found = expr-found g.V.TemplateValue.functions c.args.self.now.inner.stream.source c.args.self.now.inner.stream.stream (expr_tree g.V.TemplateValue.contents c.in-Ok.expr) c.in-Ok.ensures.read.0 (sym c.in-Ok.ensures.keeps.ending ∙ c.in-Ok.ensures.read.1);
-  refused = tt;
-  only = λ t d. expr-one g.V.TemplateValue.functions c.args.self.now.inner.stream.source c.args.self.now.inner.stream.stream (expr_tree g.V.TemplateValue.contents c.in-Ok.expr) t c.in-Ok.ensures.read.0 d;
-  causes = tt;
-  named = tt;
-  filename = c.in-Ok.ensures.filename;
-  bad_escape = tt;
-  well_formed = expr_whole g.V.TemplateValue.functions c.args.self.now.inner.stream.source c.args.self.now.inner.stream.stream.tokens (expr_tree g.V.TemplateValue.contents c.in-Ok.expr) (expr-found g.V.TemplateValue.functions c.args.self.now.inner.stream.source c.args.self.now.inner.stream.stream (expr_tree g.V.TemplateValue.contents c.in-Ok.expr) c.in-Ok.ensures.read.0 (sym c.in-Ok.ensures.keeps.ending ∙ c.in-Ok.ensures.read.1)).derived;
-  spans = c.in-Ok.ensures.spans;
-  spent = spent c.whole_expr.new.self.inner.stream.stream c.in-Ok.ensures.whole c.in-Ok.ensures.read.1;
-  kept = tt;
-  again = λ kind span h. absurd (c.in_ok-unrefused.ensures.none kind span h);
-  nothing = λ e. absurd (expr-none g.V.TemplateValue.functions c.args.self.now.inner.stream.source c.args.self.now.inner.stream.stream (expr_tree g.V.TemplateValue.contents c.in-Ok.expr) c.in-Ok.ensures.read.0 e);
-}
+pub returns-in-Ok-clause-only : goal.returns-in-Ok-clause-only
+returns-in-Ok-clause-only g c = λ t d.
+    only_whole (expr_at g.V.TemplateValue.functions max_depth) c.args.self.now.place c.whole_expr.new.self.place (expr_node g.V.TemplateValue.contents c.in-Ok.expr) t c.in-Ok.ensures.read.0 c.in-Ok.ensures.read.1 d
 
-pub returns-in-Err : goal.returns-in-Err
-returns-in-Err g c = record {
-  found = tt;
-  refused = rw c.named-refusal.ensures.kind (λ k t d. not_memory c.in-Err.refusal k (expr-starved g.V.TemplateValue.functions c.args.self.now.inner.stream.source c.args.self.now.inner.stream.stream c.in-Err.refusal (unread-before c.args.self.now.inner.stream c.whole_expr.new.self.inner.stream _ c.in-Err.refusal c.in-Err.ensures.keeps c.in-Err.ensures.read) t d));
-  only = rw c.named-refusal.ensures.kind (λ t d. expr-starved g.V.TemplateValue.functions c.args.self.now.inner.stream.source c.args.self.now.inner.stream.stream c.in-Err.refusal (unread-before c.args.self.now.inner.stream c.whole_expr.new.self.inner.stream _ c.in-Err.refusal c.in-Err.ensures.keeps c.in-Err.ensures.read) t d);
-  causes = rw c.named-refusal.ensures.kind (failure_kind _ c.in-Err.refusal c.in-Err.ensures.cause);
-  named = rw (sym c.in-Err.ensures.filename) c.named-refusal.ensures.named;
-  filename = c.in-Err.ensures.filename;
-  bad_escape = rw (c.named-refusal.ensures.kind, c.named-refusal.ensures.span) (bad_escape c.args.self.now.inner.stream.stream.ending c.in-Err.refusal (fails-before c.args.self.now.inner.stream c.whole_expr.new.self.inner.stream c.in-Err.refusal c.in-Err.ensures.keeps c.in-Err.ensures.cause));
-  well_formed = tt;
-  spans = λ ts h. tt;
-  spent = tt;
-  kept = c.refuse.ensures;
-  again = λ kind span h. absurd (c.in_ok-unrefused.ensures.none kind span h);
-  nothing = rw c.named-refusal.ensures.kind (λ e. unescaped c.args.self.now.inner.stream.stream c.in-Err.refusal (fails-before c.args.self.now.inner.stream c.whole_expr.new.self.inner.stream c.in-Err.refusal c.in-Err.ensures.keeps c.in-Err.ensures.cause) e);
-}
+pub returns-in-Ok-clause-first : goal.returns-in-Ok-clause-first
+returns-in-Ok-clause-first g c = λ kind span e h.
+    unrefused (expr_at g.V.TemplateValue.functions max_depth) c.args.self.now.place c.whole_expr.new.self.place (expr_node g.V.TemplateValue.contents c.in-Ok.expr) kind span c.in-Ok.ensures.read.0 c.in-Ok.ensures.read.1 e
 
-pub refuse-requires : goal.refuse-requires
-refuse-requires g c = rw c.named-refusal.ensures.kind (failure_kind _ c.in-Err.refusal c.in-Err.ensures.cause)
+pub returns-in-Ok-clause-well_formed : goal.returns-in-Ok-clause-well_formed
+returns-in-Ok-clause-well_formed g c =
+    subst (λ t. IsWhole t) (expr_is g.V.TemplateValue.contents c.in-Ok.expr)
+    (expression_whole g.V.TemplateValue.functions c.args.self.now.place (expr_node g.V.TemplateValue.contents c.in-Ok.expr)
+    (whole_of (expr_at g.V.TemplateValue.functions max_depth) c.args.self.now.place c.whole_expr.new.self.place (expr_node g.V.TemplateValue.contents c.in-Ok.expr) c.in-Ok.ensures.read.0 c.in-Ok.ensures.read.1))
+
+pub returns-in-Ok-clause-spans : goal.returns-in-Ok-clause-spans
+returns-in-Ok-clause-spans g c =
+    expression_stands g.V.TemplateValue.functions c.args.self.now.place (expr_node g.V.TemplateValue.contents c.in-Ok.expr)
+    (whole_of (expr_at g.V.TemplateValue.functions max_depth) c.args.self.now.place c.whole_expr.new.self.place (expr_node g.V.TemplateValue.contents c.in-Ok.expr) c.in-Ok.ensures.read.0 c.in-Ok.ensures.read.1)
+
+pub returns-in-Ok-clause-again : goal.returns-in-Ok-clause-again
+returns-in-Ok-clause-again g c = λ kind span h. c.in_ok-unrefused.ensures.none kind span h
+
+pub returns-in-Ok-clause-nothing : goal.returns-in-Ok-clause-nothing
+returns-in-Ok-clause-nothing g c = λ e.
+    no_expr g.V.TemplateValue.functions max_depth c.args.self.now.place c.whole_expr.new.self.place (expr_node g.V.TemplateValue.contents c.in-Ok.expr) (ap (λ s. s.tokens) e) c.in-Ok.ensures.read.0
+
+-- a refusal
+pub returns-in-Err-clause-refused : goal.returns-in-Err-clause-refused
+returns-in-Err-clause-refused g c = λ fault t d.
+    not_derived (expr_at g.V.TemplateValue.functions max_depth) (expr_node {F = g.row.V-Fault.Denot} g.V.TemplateValue.contents) c.args.self.now.place c.whole_expr.new.self.place c.in-Err.refusal c.refuse.result t c.in-Err.ensures.read c.refuse.ensures.is fault d
+
+pub returns-in-Err-clause-only : goal.returns-in-Err-clause-only
+returns-in-Err-clause-only g c = λ t d.
+    memory_at c.whole_expr.new.self.place c.in-Err.refusal c.refuse.result (refused_whole (expr_at g.V.TemplateValue.functions max_depth) (expr_node {F = g.row.V-Fault.Denot} g.V.TemplateValue.contents) c.args.self.now.place c.whole_expr.new.self.place c.in-Err.refusal t c.in-Err.ensures.read d) c.refuse.ensures.is
+
+pub returns-in-Err-clause-bad_escape : goal.returns-in-Err-clause-bad_escape
+returns-in-Err-clause-bad_escape g c = λ k.
+    escapes (expr_at g.V.TemplateValue.functions max_depth) (expr_node {F = g.row.V-Fault.Denot} g.V.TemplateValue.contents) c.args.self.now.place c.whole_expr.new.self.place c.in-Err.refusal c.refuse.result c.in-Err.ensures.read c.refuse.ensures.is k
+
+pub returns-in-Err-clause-first : goal.returns-in-Err-clause-first
+returns-in-Err-clause-first g c = λ kind span e h.
+    answers (expr_at g.V.TemplateValue.functions max_depth) (expr_node {F = g.row.V-Fault.Denot} g.V.TemplateValue.contents) c.args.self.now.place c.whole_expr.new.self.place c.in-Err.refusal c.refuse.result c.in-Err.ensures.read c.refuse.ensures.is kind span e h
+
+pub returns-in-Err-clause-again : goal.returns-in-Err-clause-again
+returns-in-Err-clause-again g c = λ kind span h. absurd (c.in_ok-unrefused.ensures.none kind span h)
+
+pub returns-in-Err-clause-nothing : goal.returns-in-Err-clause-nothing
+returns-in-Err-clause-nothing g c = λ e.
+    at_fault (expr_at g.V.TemplateValue.functions max_depth) (expr_node {F = g.row.V-Fault.Denot} g.V.TemplateValue.contents) c.args.self.now.place c.whole_expr.new.self.place c.in-Err.refusal c.refuse.result c.in-Err.ensures.read c.refuse.ensures.is (ap (λ s. s.ending) e)

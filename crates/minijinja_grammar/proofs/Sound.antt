@@ -1,0 +1,477 @@
+-- Trees of the grammar stand at tokens, and are whole.
+use Rattle.std.specs.Prelude.{◌&&◌, not, nat_lt}
+use Rattle.std.proofs.lemmas.Bool.{ltb-true}
+use Rattle.std.proofs.Common.{arith, ◌≤◌, ◌≡◌, ℕ, zero, suc, List, [], ◌∷◌, ◌++◌, map, length, Bool, true, false, if◌then◌else◌, Option, Some, None, refl, sym, ap, ◌∙◌, subst}
+use Rattle.minijinja_syntax.specs.Texts.{Text}
+use Rattle.minijinja_value.specs.Values.{Functions}
+use Rattle.minijinja_syntax.specs.Tokens.{Tok, ident, str, string, int, int128, minus, mul, pow, dot, comma, colon, assign, pipe, bracket_open, bracket_close, paren_open, paren_close, brace_open, brace_close}
+use Rattle.minijinja_syntax.specs.declared.tokens.Span.{Span}
+use Rattle.minijinja_tree.specs.BinOps.{BinOp}
+use Rattle.minijinja_tree.specs.CompareOps as cmp
+use Rattle.minijinja_tree.specs.CompareOps.{CompareOp}
+use Rattle.minijinja_grammar.specs.Words.{else_word, not_word, compare_op, or_op, and_op, sum_op, cat_op, term_op, pow_op, is, is_true_word, is_false_word, is_none_word, begins_expr, begins_primary, begins_postfix, begins_suffix, begins_arg}
+use Rattle.minijinja_syntax.specs.Streams.{SpannedTok}
+use Rattle.minijinja_grammar.specs.Forms.{Turn, go_on, over, Form, pure, nothing, one, either, many, and_then, ◌>>=◌, ◌>>◌}
+use Rattle.minijinja_tree.specs.Tree.{logical_not, negation}
+use Rattle.minijinja_tree.specs.SpannedTrees as tree
+use Rattle.minijinja_tree.specs.SpannedTrees.{Expr, Arg, positional, starred, keyword, double_starred, exprs_of, args_of, comparisons_of, optional_of, variable, constant, bare_exprs, bare_args}
+use Rattle.minijinja_tree.specs.WellFormed.{arg_count, expr_count, most_arguments}
+use Rattle.minijinja_grammar.specs.Grammar as g
+use Rattle.minijinja_grammar.specs.Grammar.{expanded}
+use Rattle.minijinja_grammar.specs.private.Ensured.{Holds, Kept, Ensured}
+use Rattle.minijinja_grammar.specs.private.Sound.{IsSound, IsSoundIfAny, AreSound, AreComparedSound, AreArgsSound}
+use Rattle.minijinja_grammar.proofs.Ensured.{weaker}
+
+both : {X Y : Type 0} → X → Y → Holds (X × Y)
+both x y = record { it = (x, y) }
+
+pair : {X Y : Type 1} → X → Y → X × Y
+pair x y = (x, y)
+
+pub alone : {X : Type 0} → X → Holds X
+alone x = record { it = x }
+
+all_three : {X Y Z : Type 0} → X → Y → Z → Holds (X × Y × Z)
+all_three x y z = record { it = (x, y, z) }
+
+abbrev span_or : Span → Option (Text × Span) → Span
+span_or s None = s
+span_or s (Some x) = x.1
+
+module _ (T : SpannedTok → Type 0) (S : Span → Type 0) (spans : (t : SpannedTok) → T t → S t.1)
+    (joins : (s to : Span) → S s → S to → S (expanded s to)) where
+  -- what is made with a span
+  pub spanned : {A : Type 0} (from : Span) (make : Span → A) (P : A → Type 1) → S from → ((s : Span) → S s → P (make s)) → Ensured T S (g.spanned from make) P
+  spanned from make P h k = λ to i. k (expanded from to) (joins from to h i)
+
+  next : (m : Tok) (P : Span → Type 1) → ((s : Span) → S s → P s) → Ensured T S (g.next m) P
+  next m P k = λ t x i j. k x (go t (is m t.0) x (spans t i) j)
+    where
+      go : (t : SpannedTok) (b : Bool) (x : Span) → S t.1 → (if b then Some t.1 else None) ≡ Some x → S x
+      go t true x i j = subst S (some_is t.1 x j) i
+        where
+          some_is : (y x : Span) → Some y ≡ Some x → y ≡ x
+          some_is y x e = cc
+      go t false x i j = cc
+
+  behind : {A : Type 0} (m : Tok) (f h : Form A) (P : A → Type 1) → Ensured T S f P → Ensured T S h P → Ensured T S (g.behind m f h) P
+  behind m f h P i j = (next m (λ s. Ensured T S f P) (λ s k. i), j)
+
+  items : {A : Type 0} (begins : Tok → Bool) (part : A → Form A) (I : A → Type 0) (P : A → Type 1) →
+      ((x : A) → I x → Ensured T S (part x) (λ y. Holds (I y))) → ((x : A) → I x → P x) → (x : A) → I x → Ensured T S (g.items begins part x) P
+  items begins part I P k l x i = (
+    weaker T S (part x) (λ y. Holds (I y)) _
+        (λ y j. (I, j, (λ z u h m n o. (weaker T S (part z) (λ w. Holds (I w)) _ (λ w r. r) (k z m), record { it = m })), l))
+        (k x i),
+    l x i,
+  )
+
+  -- each of these is such a span
+  abbrev AllSpans : List Span → Type 0
+  AllSpans [] = Unit {0}
+  AllSpans (s ∷ ss) = S s × AllSpans ss
+
+  pub mark_span : (m : Tok) (t : SpannedTok) (x : Span) → T t → g.span_of_mark m t ≡ Some x → S x
+  mark_span m t x i j = go (is m t.0) j
+    where
+      go : (b : Bool) → (if b then Some t.1 else None) ≡ Some x → S x
+      go true k = subst S (same t.1 x k) (spans t i)
+        where
+          same : (y x : Span) → Some y ≡ Some x → y ≡ x
+          same y x e = ap (λ o. elim o [ None ↦ y | Some v ↦ v ]) e
+      go false k = cc
+
+  pub of_kind_is : (begins : Tok → Bool) (t u : SpannedTok) → T t → g.of_kind begins t ≡ Some u → T u
+  of_kind_is begins t u i j = go (begins t.0) j
+    where
+      go : (b : Bool) → (if b then Some t else None) ≡ Some u → T u
+      go true k = subst T (same t u k) i
+        where
+          same : (t u : SpannedTok) → Some t ≡ Some u → t ≡ u
+          same t u e = ap (λ o. elim o [ None ↦ t | Some v ↦ v ]) e
+      go false k = cc
+
+  module _ {C : Type 0} where
+    -- ---- lists
+
+    all_append : (es : List (Expr C)) (e : Expr C) → AreSound T S (exprs_of es) → IsSound T S e → AreSound T S (exprs_of (es ++ e ∷ []))
+    all_append [] e h k = (k, tt)
+    all_append (x ∷ es) e h k = (h.0, all_append es e h.1 k)
+
+    abbrev IsOne : Expr C → Type 1
+    IsOne e = Holds (IsSound T S e)
+
+    abbrev Are : List (Expr C) → Type 1
+    Are es = Holds (AreSound T S (exprs_of es))
+
+    module _ (expr : Form (Expr C)) (he : Ensured T S expr IsOne) where
+      exprs : (es : List (Expr C)) (P : List (Expr C) → Type 1) → AreSound T S (exprs_of es) → ((fs : List (Expr C)) → AreSound T S (exprs_of fs) → P fs) → Ensured T S (g.exprs expr es) P
+      unfolding g.exprs g.also
+      exprs es P h k = items begins_expr (g.also expr) (λ fs. AreSound T S (exprs_of fs)) P
+          (λ fs i. weaker T S expr IsOne _ (λ e j. record { it = all_append fs e i j.it }) he) k es h
+
+      -- a node that ends with the token
+      closed : (m : Tok) (from : Span) (make : Span → Expr C) → S from → ((s : Span) → S s → IsSound T S (make s)) → Ensured T S (g.next m >> g.spanned from make) IsOne
+      closed m from make i k = next m (λ s. Ensured T S (g.spanned from make) IsOne) (λ s j. spanned from make IsOne i (λ u l. alone (k u l)))
+
+      in_brackets : (from : Span) → S from → Ensured T S (g.in_brackets expr from) IsOne
+      unfolding g.in_brackets
+      in_brackets from i = exprs [] _ tt (λ es h. closed bracket_close from (tree.list (exprs_of es)) i (λ s l. (l, h)))
+
+      rest_of_group : (from : Span) (e : Expr C) → S from → IsSound T S e → Ensured T S (g.rest_of_group expr from e) IsOne
+      unfolding g.rest_of_group
+      rest_of_group from e i h = (
+        λ t u j k. exprs (e ∷ []) _ (h, tt) (λ es l. closed paren_close from (tree.tuple (exprs_of es)) i (λ s m. (m, l))),
+        λ t u j k. alone h,
+      )
+
+      group : (from : Span) → S from → Ensured T S (g.group expr from) IsOne
+      unfolding g.group
+      group from i = (
+        λ t u j k. spanned from (tree.tuple (exprs_of [])) IsOne i (λ s l. alone (l, tt)),
+        weaker T S expr IsOne _ (λ e h. rest_of_group from e i h.it) he,
+      )
+
+      -- the keys and the values
+      abbrev Pairs : List (Expr C) × List (Expr C) → Type 0
+      Pairs kvs = AreSound T S (exprs_of kvs.0) × AreSound T S (exprs_of kvs.1) × (length kvs.0 ≡ length kvs.1)
+
+      one_more : (es : List (Expr C)) (e : Expr C) → length (es ++ e ∷ []) ≡ suc (length es)
+      one_more [] e = refl
+      one_more (x ∷ es) e = ap suc (one_more es e)
+
+      count_is : (es : List (Expr C)) → expr_count (bare_exprs (exprs_of es)) ≡ length es
+      count_is [] = refl
+      count_is (e ∷ es) = ap suc (count_is es)
+
+      pairs_append : (kvs : List (Expr C) × List (Expr C)) (k v : Expr C) → Pairs kvs → IsSound T S k → IsSound T S v → Pairs (kvs.0 ++ k ∷ [], kvs.1 ++ v ∷ [])
+      pairs_append kvs k v h i j =
+          (all_append kvs.0 k h.0 i, all_append kvs.1 v h.1 j, one_more kvs.0 k ∙ ap suc h.2 ∙ sym (one_more kvs.1 v))
+
+      entry : (kvs : List (Expr C) × List (Expr C)) → Pairs kvs → Ensured T S (g.entry expr kvs) (λ x. Holds (Pairs x))
+      unfolding g.entry
+      entry kvs h = weaker T S expr IsOne _ (λ k i. λ t u j l. weaker T S expr IsOne _ (λ v m. alone (pairs_append kvs k v h i.it m.it)) he) he
+
+      in_braces : (from : Span) → S from → Ensured T S (g.in_braces expr from) IsOne
+      unfolding g.in_braces g.entries
+      in_braces from i = items begins_expr (g.entry expr) Pairs _ (λ kvs h. entry kvs h)
+          (λ kvs h. closed brace_close from (tree.map (exprs_of kvs.0) (exprs_of kvs.1)) i (λ s l. (l, h.0, h.1, count_is kvs.0 ∙ h.2 ∙ sym (count_is kvs.1)))) ([], []) (tt, tt, refl)
+
+      word : {F : Type 0} (f : Functions C F) (x : Text) (s : Span) → S s → T (ident x, s) → IsSound T S (g.word f x s)
+      unfolding g.word
+      word f x s i j = go (is_true_word x) (is_false_word x) (is_none_word x)
+        where
+          go : (a b c : Bool) → IsSound T S (if a then constant (f.of_bool true) s else if b then constant (f.of_bool false) s else if c then constant f.none s else variable x s)
+          go true b c = i
+          go false true c = i
+          go false false true = i
+          go false false false = j
+
+      texts : {F : Type 0} (f : Functions C F) (from : Span) (t : Text) → S from → Ensured T S (g.texts f from t) IsOne
+      unfolding g.texts
+      texts f from t i = ((λ _. Unit {0}), alone tt, (λ y u h j k l. alone tt), (λ y j. spanned from (constant (f.of_str y)) IsOne i (λ s l. alone l)))
+
+      begun : {F : Type 0} (f : Functions C F) (t : SpannedTok) → T t → Ensured T S (g.begun expr f t) IsOne
+      begun f (ident x, s) i = alone (word f x s (spans (ident x, s) i) i)
+      begun f (str t, s) i = texts f s t (spans (str t, s) i)
+      begun f (string t, s) i = texts f s t (spans (string t, s) i)
+      begun f (int n, s) i = alone (spans (int n, s) i)
+      begun f (int128 n, s) i = alone (spans (int128 n, s) i)
+      begun f (paren_open, s) i = group s (spans (paren_open, s) i)
+      begun f (bracket_open, s) i = in_brackets s (spans (bracket_open, s) i)
+      begun f (brace_open, s) i = in_braces s (spans (brace_open, s) i)
+      begun f _ i = alone tt
+
+      primary : {F : Type 0} (f : Functions C F) → Ensured T S (g.primary expr f) IsOne
+      unfolding g.primary
+      primary f = λ t u i j. begun f u (of_kind_is begins_primary t u i j)
+
+      -- ---- arguments
+
+      abbrev IsArgSound : Arg C → Type 0
+      IsArgSound (positional e) = IsSound T S e
+      IsArgSound (starred e) = IsSound T S e
+      IsArgSound (keyword x e) = IsSound T S e
+      IsArgSound (double_starred e) = IsSound T S e
+
+      args_append : (xs : List (Arg C)) (x : Arg C) → AreArgsSound T S (args_of xs) → IsArgSound x → AreArgsSound T S (args_of (xs ++ x ∷ []))
+      args_append [] (positional e) h k = (k, tt)
+      args_append [] (starred e) h k = (k, tt)
+      args_append [] (keyword x e) h k = (k, tt)
+      args_append [] (double_starred e) h k = (k, tt)
+      args_append (positional e ∷ xs) x h k = (h.0, args_append xs x h.1 k)
+      args_append (starred e ∷ xs) x h k = (h.0, args_append xs x h.1 k)
+      args_append (keyword y e ∷ xs) x h k = (h.0, args_append xs x h.1 k)
+      args_append (double_starred e ∷ xs) x h k = (h.0, args_append xs x h.1 k)
+
+      rest_of_arg : (e : Expr C) → IsSound T S e → Ensured T S (g.rest_of_arg expr e) (λ x. Holds (IsArgSound x))
+      rest_of_arg (variable x s) h = ((λ t u i j. weaker T S expr IsOne _ (λ e k. alone k.it) he), alone h)
+      rest_of_arg e h = alone h
+
+      arg : Ensured T S (g.arg expr) (λ x. Holds (IsArgSound x))
+      unfolding g.arg
+      arg = (
+        λ t u i j. weaker T S expr IsOne _ (λ e k. alone k.it) he,
+        (
+          λ t u i j. weaker T S expr IsOne _ (λ e k. alone k.it) he,
+          weaker T S expr IsOne _ (λ e k. rest_of_arg e k.it) he,
+        ),
+      )
+
+      count_append : (xs : List (Arg C)) (x : Arg C) → arg_count (bare_args (args_of (xs ++ x ∷ []))) ≡ suc (length xs)
+      count_append [] (positional e) = refl
+      count_append [] (starred e) = refl
+      count_append [] (keyword x e) = refl
+      count_append [] (double_starred e) = refl
+      count_append (positional e ∷ xs) x = ap suc (count_append xs x)
+      count_append (starred e ∷ xs) x = ap suc (count_append xs x)
+      count_append (keyword y e ∷ xs) x = ap suc (count_append xs x)
+      count_append (double_starred e ∷ xs) x = ap suc (count_append xs x)
+
+      abbrev AreArgs : List (Arg C) → Type 0
+      AreArgs xs = AreArgsSound T S (args_of xs) × (arg_count (bare_args (args_of xs)) ≤ most_arguments)
+
+      also_arg : (xs : List (Arg C)) → AreArgs xs → Ensured T S (g.also_arg expr xs) (λ ys. Holds (AreArgs ys))
+      unfolding g.also_arg
+      also_arg xs h = weaker T S (g.arg expr) (λ x. Holds (IsArgSound x)) _ (λ x k. given (not (g.is_plain x && g.has_named xs)) (nat_lt (length xs) most_arguments) x refl k.it) arg
+        where
+          given : (b c : Bool) (x : Arg C) → nat_lt (length xs) most_arguments ≡ c → IsArgSound x → Ensured T S (g.when (b && c) (pure (xs ++ x ∷ []))) (λ zs. Holds (AreArgs zs))
+          given true true x i k = alone (args_append xs x h.0 k, omega (arith, ltb-true _ _ i, count_append xs x))
+          given true false x i k = alone tt
+          given false c x i k = alone tt
+
+      args : Ensured T S (g.args expr) (λ xs. Holds (AreArgs xs))
+      unfolding g.args g.arg_items
+      args = items begins_arg (g.also_arg expr) AreArgs _ also_arg (λ xs h. λ t u i j. alone h) [] (tt, omega arith)
+
+      -- ---- operands
+
+      chosen : {A : Type 0} (m : Tok) (f h : Form A) (P : A → Type 1) → Ensured T S f P → Ensured T S h P → Ensured T S (g.behind m f h) P
+      chosen m f h P i j = ((λ t u k l. i), j)
+
+      abbrev IsOptionSound : Option (Expr C) → Type 0
+      IsOptionSound o = IsSoundIfAny T S (optional_of o)
+
+      maybe_expr : (P : Option (Expr C) → Type 1) → ((o : Option (Expr C)) → IsOptionSound o → P o) → Ensured T S (g.maybe_expr expr) P
+      maybe_expr P k = (weaker T S expr IsOne _ (λ e h. k (Some e) h.it) he, k None tt)
+
+      step : (P : Option (Expr C) → Type 1) → ((o : Option (Expr C)) → IsOptionSound o → P o) → Ensured T S (g.step expr) P
+      step P k = ((λ t u i j. maybe_expr P k), k None tt)
+
+      range : (e : Expr C) (from : Span) (o : Option (Expr C)) → IsSound T S e → S from → IsOptionSound o → Ensured T S (g.range expr e from o) IsOne
+      unfolding g.range
+      range e from o h i j = maybe_expr _ (λ stop k. step _ (λ by l. closed bracket_close from (tree.slice e (optional_of o) (optional_of stop) (optional_of by)) i (λ s m. (m, h, j, k, l))))
+
+      rest_of_subscript : (e : Expr C) (from : Span) (x : Expr C) → IsSound T S e → S from → IsSound T S x → Ensured T S (g.rest_of_subscript expr e from x) IsOne
+      unfolding g.rest_of_subscript
+      rest_of_subscript e from x h i j = chosen colon (g.range expr e from (Some x)) (g.next bracket_close >> g.spanned from (tree.item e x)) IsOne (range e from (Some x) h i j) (closed bracket_close from (tree.item e x) i (λ s m. (m, h, j)))
+
+      subscript : (e : Expr C) (from : Span) → IsSound T S e → S from → Ensured T S (g.subscript expr e from) IsOne
+      unfolding g.subscript
+      subscript e from h i = chosen colon (g.range expr e from None) (expr >>= g.rest_of_subscript expr e from) IsOne (range e from None h i tt) (weaker T S expr IsOne _ (λ x k. rest_of_subscript e from x h i k.it) he)
+
+      module _ {F : Type 0} (f : Functions C F) where
+        member_of : (e : Expr C) (from : Span) (t : SpannedTok) → T t → IsSound T S e → S from → Ensured T S (g.member_of expr f e from t) IsOne
+        member_of e from (ident x, s) i h j = spanned from (tree.attribute e x) IsOne j (λ s m. alone (m, h))
+        member_of e from (int n, s) i h j = spanned from (tree.item e (constant (f.of_u64 n) s)) IsOne j (λ u m. alone (m, h, spans (int n, s) i))
+        member_of e from (int128 n, s) i h j = spanned from (tree.item e (constant (f.of_u128 n) s)) IsOne j (λ u m. alone (m, h, spans (int128 n, s) i))
+        member_of e from _ i h j = alone tt
+
+        member : (e : Expr C) (from : Span) → IsSound T S e → S from → Ensured T S (g.member expr f e from) IsOne
+        unfolding g.member
+        member e from h j = λ t u i k. member_of e from u (of_kind_is (g.begins_member expr) t u i k) h j
+
+        called : (e : Expr C) (from : Span) → IsSound T S e → S from → Ensured T S (g.args expr >>= (λ xs. g.spanned from (tree.call e (args_of xs)))) IsOne
+        called e from h i = weaker T S (g.args expr) (λ xs. Holds (AreArgs xs)) _ (λ xs k. spanned from (tree.call e (args_of xs)) IsOne i (λ s m. alone (m, h, k.it.0, k.it.1))) args
+
+        postfix : (e : Expr C) (from : Span) (t : Tok) → IsSound T S e → S from → Ensured T S (g.postfix expr f e from t) IsOne
+        postfix e from dot h i = member e from h i
+        postfix e from bracket_open h i = subscript e from h i
+        postfix e from _ h i = called e from h i
+
+      -- ---- operators before an operand
+
+      wrapped : (o : _) (to : Span) (ss : List Span) (e : Expr C) → S to → AllSpans ss → IsSound T S e → IsSound T S (g.wrapped o to ss e)
+      wrapped o to [] e i h k = k
+      wrapped o to (s ∷ ss) e i h k = wrapped o to ss (tree.unary o e (expanded s to)) i h.1 (joins s to h.0 i, k)
+
+      prefixed : (m : Tok) (o : _) (f : Form (Expr C)) → Ensured T S f IsOne → Ensured T S (g.prefixed m o f) IsOne
+      prefixed m o f h = (
+        AllSpans,
+        alone tt,
+        (λ ss t s i j k. alone (mark_span m t s j k, i)),
+        λ ss i. weaker T S f IsOne _ (λ e k. λ to l. alone (wrapped o to ss e l i k.it)) h,
+      )
+
+      module _ {F : Type 0} (f : Functions C F) (prim : Form (Expr C)) (hp : Ensured T S prim IsOne) where
+        -- an operand so far, and where the next postfix begins the node that it makes
+        abbrev IsBase : Expr C × Span → Type 0
+        IsBase e = IsSound T S e.0 × S e.1
+
+        postfixed : Ensured T S (g.postfixed f expr prim) IsOne
+        unfolding g.postfixed
+        postfixed = λ from i. weaker T S prim IsOne _ (λ e h. (
+          IsBase,
+          alone (h.it, i),
+          (λ y t u j k l. weaker T S (g.postfix expr f y.0 y.1 u.0) IsOne _ (λ x m. alone (m.it, spans u (of_kind_is begins_postfix t u k l))) (postfix f y.0 y.1 u.0 j.0 j.1)),
+          λ y j. alone j.0,
+        )) hp
+
+        operand : Ensured T S (g.operand f expr prim) IsOne
+        unfolding g.operand
+        operand = prefixed minus negation (g.postfixed f expr prim) postfixed
+
+        test_args : Ensured T S (g.test_args f expr prim) (λ xs. Holds (AreArgs xs))
+        unfolding g.test_args
+        test_args = (
+          (λ t u i j. args),
+          (weaker T S (g.operand f expr prim) IsOne _ (λ e h. alone ((h.it, tt), omega arith)) operand, alone (tt, omega arith)),
+        )
+
+        abbrev IsName : Text → Type 1
+        IsName x = Holds (Unit {0})
+
+        ident_span : (t : SpannedTok) (x : Text × Span) → T t → g.ident_and_span t ≡ Some x → S x.1
+        ident_span (ident y, s) x i e = subst S (ap (span_or s) e) (spans (ident y, s) i)
+        ident_span _ x i e = cc
+
+        name : Ensured T S g.name IsName
+        unfolding g.name g.name_part g.name_parts
+        name = λ t x i j. (((λ _. Unit {0}), alone tt, (λ y u h k l m. λ v z n o. alone tt), (λ y k. λ z. alone tt)), alone tt)
+
+        named_test : (e : Expr C) → IsSound T S e → Ensured T S (g.named_test f expr prim e) IsOne
+        unfolding g.named_test
+        named_test e h = λ from i. weaker T S g.name IsName _
+            (λ x j. weaker T S (g.test_args f expr prim) (λ xs. Holds (AreArgs xs)) _ (λ xs k. spanned from (tree.test e x (args_of xs)) IsOne i (λ s m. alone (m, h, k.it.0, k.it.1))) test_args) name
+
+        negated_test : (from : Span) (e : Expr C) → S from → IsSound T S e → Ensured T S (g.named_test f expr prim e >>= (λ t. g.spanned from (tree.unary logical_not t))) IsOne
+        negated_test from e i h = weaker T S (g.named_test f expr prim e) IsOne _ (λ t k. spanned from (tree.unary logical_not t) IsOne i (λ s m. alone (m, k.it))) (named_test e h)
+
+        any_test : (e : Expr C) → IsSound T S e → Ensured T S (g.any_test f expr prim e) IsOne
+        unfolding g.any_test
+        any_test e h = ((λ t u i j. λ from k. negated_test from e k h), named_test e h)
+
+        filtered : (e : Expr C) → IsSound T S e → Ensured T S (g.filtered f expr prim e) IsOne
+        unfolding g.filtered
+        filtered e h = λ from i. weaker T S g.name IsName _ (λ x j. chosen paren_open (g.args expr) (pure []) _
+            (weaker T S (g.args expr) (λ xs. Holds (AreArgs xs)) _ (λ xs k. spanned from (tree.filter (tree.present e) x (args_of xs)) IsOne i (λ s m. alone (m, h, k.it.0, k.it.1))) args)
+            (spanned from (tree.filter (tree.present e) x (args_of [])) IsOne i (λ s m. alone (m, h, tt, omega arith)))) name
+
+        suffix : (e : Expr C) (t : Tok) → IsSound T S e → Ensured T S (g.suffix f expr prim e t) IsOne
+        suffix e pipe h = filtered e h
+        suffix e _ h = any_test e h
+
+        unary_level : Ensured T S (g.unary_level f expr prim) IsOne
+        unfolding g.unary_level
+        unary_level = weaker T S (g.operand f expr prim) IsOne _ (λ e h. (
+          IsSound T S,
+          h,
+          (λ y t u i j k. weaker T S (g.suffix f expr prim y u.0) IsOne _ (λ x m. alone m.it) (suffix y u.0 i)),
+          λ y i. alone i,
+        )) operand
+
+    -- ---- operators of two sides
+
+    level : (op : Tok → Option BinOp) (f : Form (Expr C)) → Ensured T S f IsOne → Ensured T S (g.level op f) IsOne
+    unfolding g.level
+    level op f h = λ from i. weaker T S f IsOne _ (λ l j. (
+      IsSound T S,
+      j,
+      (λ y t o k m n. weaker T S f IsOne _ (λ r p. spanned from (λ s. go_on (tree.binary o y r s)) (λ z. Holds (Kept (IsSound T S) z)) i (λ s q. alone (q, k, p.it))) h),
+      λ y k. alone k,
+    )) h
+
+    compare_two : (s : Span) (o : CompareOp) (l r : Expr C) → S s → IsSound T S l → IsSound T S r → IsSound T S (g.compare_two s o l r)
+    compare_two s cmp.eq l r i h k = (i, h, k)
+    compare_two s cmp.ne l r i h k = (i, h, k)
+    compare_two s cmp.lt l r i h k = (i, h, k)
+    compare_two s cmp.lte l r i h k = (i, h, k)
+    compare_two s cmp.gt l r i h k = (i, h, k)
+    compare_two s cmp.gte l r i h k = (i, h, k)
+    compare_two s cmp.is_in l r i h k = (i, h, k)
+    compare_two s cmp.not_in l r i h k = (i, (i, h, k))
+
+    compare_all : (e : Expr C) (cs : List (CompareOp × Expr C)) (s : Span) → S s → IsSound T S e → AreComparedSound T S (comparisons_of cs) → IsSound T S (g.compare_all e cs s)
+    compare_all e [] s i h k = h
+    compare_all e (c ∷ []) s i h k = compare_two s c.0 e c.1 i h k.0
+    compare_all e (c ∷ d ∷ cs) s i h k = (i, h, k, tt)
+
+    compared_append : (cs : List (CompareOp × Expr C)) (c : CompareOp × Expr C) → AreComparedSound T S (comparisons_of cs) → IsSound T S c.1 → AreComparedSound T S (comparisons_of (cs ++ c ∷ []))
+    compared_append [] c h k = (k, tt)
+    compared_append (x ∷ cs) c h k = (h.0, compared_append cs c h.1 k)
+
+    abbrev AreCompared : List (CompareOp × Expr C) → Type 0
+    AreCompared cs = AreComparedSound T S (comparisons_of cs)
+
+    comparison : (f : Form (Expr C)) → Ensured T S f IsOne → (cs : List (CompareOp × Expr C)) (t : SpannedTok) → AreCompared cs → Ensured T S (g.comparison f cs t) (λ z. Holds (Kept AreCompared z))
+    unfolding g.comparison
+    comparison f h cs t k = go (compare_op t.0)
+      where
+        after : (o : CompareOp) → Ensured T S (f >>= (λ e. pure (go_on (cs ++ (o, e) ∷ [])))) (λ z. Holds (Kept AreCompared z))
+        after o = weaker T S f IsOne _ (λ e j. alone (compared_append cs (o, e) k j.it)) h
+
+        go : (o : Option CompareOp) → Ensured T S (g.compare_operator o >>= (λ p. f >>= (λ e. pure (go_on (cs ++ (p, e) ∷ []))))) (λ z. Holds (Kept AreCompared z))
+        go (Some o) = after o
+        go None = λ u s i j. after cmp.not_in
+
+    compared_level : (f : Form (Expr C)) → Ensured T S f IsOne → Ensured T S (g.compared_level f) IsOne
+    unfolding g.compared_level
+    compared_level f h = λ from i. weaker T S f IsOne _ (λ e j. (
+      AreCompared,
+      alone tt,
+      (λ cs t u k l m. comparison f h cs u k),
+      λ cs k. spanned from (g.compare_all e cs) IsOne i (λ s m. alone (compare_all e cs s m j.it k)),
+    )) h
+
+    -- ---- if expressions
+
+    abbrev AreWaiting : List (Span × Expr C × Expr C) → Type 0
+    AreWaiting [] = Unit {0}
+    AreWaiting (w ∷ ws) = S w.0 × IsSound T S w.1 × IsSound T S w.2 × AreWaiting ws
+
+    abbrev AreIfs : g.Ifs C → Type 0
+    AreIfs c = AreWaiting c.waiting × IsSound T S c.now × S c.from
+
+    closed_ifs : (to : Span) (ws : List (Span × Expr C × Expr C)) (e : Expr C) → S to → AreWaiting ws → IsSound T S e → IsSound T S (g.closed to ws e)
+    closed_ifs to [] e i h k = k
+    closed_ifs to (w ∷ ws) e i h k = closed_ifs to ws (tree.if_expr w.2 w.1 (tree.present e) (expanded w.0 to)) i h.3 (joins w.0 to h.0 i, h.2, h.1, k)
+
+    if_turn : (f : Form (Expr C)) → Ensured T S f IsOne → (c : g.Ifs C) (at : Span) → AreIfs c → Ensured T S (g.if_turn f c at) (λ z. Holds (Kept AreIfs z))
+    unfolding g.if_turn
+    if_turn f h c at k = weaker T S f IsOne _ (λ t i. λ to j. pair
+        (λ u s l m. weaker T S f IsOne _ (λ e n. alone ((k.2, k.1, i.it, k.0), n.it, mark_span else_word u s l m)) h)
+        (alone (k.0, (joins c.from to k.2 j, i.it, k.1, tt), j))) h
+
+    cond : (f : Form (Expr C)) → Ensured T S f IsOne → Ensured T S (g.cond f) IsOne
+    unfolding g.cond
+    cond f h = λ from i. weaker T S f IsOne _ (λ e j. (
+      AreIfs,
+      alone (tt, j.it, i),
+      (λ c t u k l m. if_turn f h c u k),
+      λ c k. λ to l. alone (closed_ifs to c.waiting c.now l k.0 k.1),
+    )) h
+
+    -- ---- the levels
+
+    module _ {F : Type 0} (f : Functions C F) where
+      or_level : (expr prim : Form (Expr C)) → Ensured T S expr IsOne → Ensured T S prim IsOne → Ensured T S (g.or_level f expr prim) IsOne
+      or_level expr prim he hp =
+          let unaries = unary_level expr he f prim hp in
+          let powers = level pow_op (g.unary_level f expr prim) unaries in
+          let terms = level term_op (g.pow_level f expr prim) powers in
+          let cats = level cat_op (g.term_level f expr prim) terms in
+          let sums = level sum_op (g.cat_level f expr prim) cats in
+          let compares = compared_level (g.sum_level f expr prim) sums in
+          let nots = prefixed expr he not_word logical_not (g.compared_level (g.sum_level f expr prim)) compares in
+          level or_op (g.and_level f expr prim) (level and_op (g.not_level f expr prim) nots)
+
+      mutual
+        unfolding g.expr_at
+
+        pub expr_sound : (d : ℕ) → Ensured T S (g.expr_at f d) IsOne
+        expr_sound zero = alone tt
+        expr_sound (suc d) = cond (g.or_level f (g.expr_at f d) (g.primary_at f d)) (or_level (g.expr_at f d) (g.primary_at f d) (expr_sound d) (primary_sound d))
+
+        pub primary_sound : (d : ℕ) → Ensured T S (g.primary_at f d) IsOne
+        primary_sound zero = alone tt
+        primary_sound (suc d) = primary (g.expr_at f d) (expr_sound d) f

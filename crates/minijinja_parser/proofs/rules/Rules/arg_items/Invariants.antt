@@ -1,0 +1,19 @@
+use Rattle.std.proofs.Common.{◌≡◌, [], length}
+use Rattle.minijinja_grammar.specs.Forms.{reads}
+use Rattle.minijinja_grammar.specs.Grammar as form
+use Rattle.minijinja_grammar.specs.Grammar.{expr_at, has_named}
+use Rattle.minijinja_tree.specs.SpannedErasure.{args_view}
+use Rattle.minijinja_parser.proofs.rules.Rules.arg_items.Given as goal
+
+-- reading the others after those so far comes to what reading all comes to
+abbrev pub invariant-loop-tokens : goal.invariant-loop-tokens
+invariant-loop-tokens g l =
+    let args = args_view g.V.TemplateValue.contents l.args.items in
+    let items = form.arg_items (expr_at g.V.TemplateValue.functions l.self.depth) in
+    record {
+      read : reads (items []) l.initial.tokens ≡ reads (items args) l.tokens;
+      named : has_named args ≡ l.named;
+    }
+
+abbrev pub decreases-loop-tokens : goal.decreases-loop-tokens
+decreases-loop-tokens g l = length l.tokens.tokens

@@ -1,0 +1,11 @@
+-- What proofs and the contracts of private functions cite.
+pub mod AtTokenStream
+pub mod Marks
+pub mod Reads
+pub mod Nests
+pub mod Primaries
+pub mod Texts
+pub mod Levels
+pub mod Conditions
+pub mod Parts
+pub mod Wholes

@@ -1,0 +1,197 @@
+//! Names, constants and other parts in which no expression is nested.
+ghost use Rattle.std.specs.Prelude.{◌≡◌, ◌≤◌, IfOk};
+ghost use Rattle.std.specs.String.{string_bytes};
+ghost use Rattle.minijinja_syntax.specs.Positions.{slice};
+ghost use Rattle.minijinja_syntax.specs.Tokens.{tok_of};
+ghost use Rattle.minijinja_lexer.specs.Slices.{IsBetweenChars};
+ghost use Rattle.minijinja_grammar.specs.Forms.{nothing, reads};
+ghost use Rattle.minijinja_grammar.specs.Grammar as form;
+ghost use Rattle.minijinja_parser.specs.private.Reads.{Reads};
+ghost use Rattle.minijinja_parser.specs.private.Texts.{Joins};
+ghost use Rattle.minijinja_tree.specs.SpannedErasure.{expr_node};
+ghost use Rattle.minijinja_tree.specs.SpannedTrees as tree;
+
+use crate::context::Context;
+use crate::marks::{Mark, Part};
+use crate::nodes;
+use crate::refusal::{Refusal, Wanted};
+use crate::token_stream::TokenStream;
+use crate::words::{is_false_word, is_none_word, is_true_word};
+use minijinja_base::error::Expected;
+use minijinja_base::tokens::{Span, Token};
+use minijinja_base::value::TemplateValue;
+use minijinja_tree::ast::Expr;
+use std::alloc::AllocError;
+
+/// A constant or a variable.
+#[tactic(auto, unfolding(minijinja_grammar::specs::Grammar::word))]
+pub fn word<'s, V: TemplateValue>(
+    context: Context<V>,
+    word: &'s str,
+    span: Span,
+) -> Result<Expr<'s, V>, AllocError>
+    ensures { IfOk result (λ e. expr_node V.contents e ≡ form.word V.functions word.now span) }
+{
+    if is_true_word(word) {
+        nodes::constant(context.alloc, V::of_bool(true), span)
+    } else if is_false_word(word) {
+        nodes::constant(context.alloc, V::of_bool(false), span)
+    } else if is_none_word(word) {
+        nodes::constant(context.alloc, V::none(), span)
+    } else {
+        nodes::variable(context.alloc, word, span)
+    }
+}
+
+/// An integer under 2^64.
+pub fn integer<'s, V: TemplateValue>(
+    context: Context<V>,
+    value: u64,
+    span: Span,
+) -> Result<Expr<'s, V>, AllocError>
+    ensures { IfOk result
+        (λ e. expr_node V.contents e ≡ tree.constant (V.functions.of_u64 value) span) }
+{
+    nodes::constant(context.alloc, V::of_u64(value), span)
+}
+
+/// An integer from 2^64 on.
+pub fn large_integer<'s, V: TemplateValue>(
+    context: Context<V>,
+    value: u128,
+    span: Span,
+) -> Result<Expr<'s, V>, AllocError>
+    ensures { IfOk result
+        (λ e. expr_node V.contents e ≡ tree.constant (V.functions.of_u128 value) span) }
+{
+    nodes::constant(context.alloc, V::of_u128(context.alloc, value)?, span)
+}
+
+/// The constant of a text.
+fn constant_text<'s, V: TemplateValue>(
+    context: Context<V>,
+    text: &str,
+    span: Span,
+) -> Result<Expr<'s, V>, AllocError>
+    ensures { IfOk result
+        (λ e. expr_node V.contents e ≡ tree.constant (V.functions.of_str text.now) span) }
+{
+    nodes::constant(context.alloc, V::of_str(context.alloc, text)?, span)
+}
+
+/// A string without escapes, joined with its neighbours.
+#[tactic(auto, using(crate::proofs::Strings::texts_done))]
+pub fn text<'s, V: TemplateValue>(
+    context: Context<V>,
+    tokens: &mut TokenStream<'s, '_>,
+    text: &'s str,
+    from: Span,
+) -> Result<Expr<'s, V>, Refusal>
+    ensures { Reads (expr_node V.contents) (reads (form.texts V.functions from text.now) tokens.old)
+        result tokens.new }
+{
+    if !tokens.begins(Part::Text) {
+        return Ok(constant_text(context, text, tokens.expand_span(from))?);
+    }
+    let mut joined = String::new(context.alloc);
+    joined.push_str(text)?;
+    joined_text(context, tokens, joined, from)
+}
+
+/// A decoded string, joined with its neighbours.
+#[tactic(auto, using(crate::proofs::Strings::texts_done, crate::proofs::Strings::texts_more, crate::proofs::Parts::take_shorter))]
+pub fn joined_text<'s, V: TemplateValue>(
+    context: Context<V>,
+    tokens: &mut TokenStream<'s, '_>,
+    text: String,
+    from: Span,
+) -> Result<Expr<'s, V>, Refusal>
+    ensures { Reads (expr_node V.contents)
+        (reads (form.texts V.functions from (string_bytes text)) tokens.old) result tokens.new }
+{
+    let mut joined = text;
+    while tokens.begins(Part::Text) {
+        let (token, _) = tokens.take(Wanted::Part(Expected::String))?;
+        push_text(&mut joined, &token)?;
+    }
+    Ok(constant_text(context, joined.as_str(), tokens.expand_span(from))?)
+}
+
+/// Adds the text of a string.
+fn push_text(joined: &mut String, token: &Token<'_>) -> Result<(), AllocError>
+    ensures { IfOk result
+        (λ _. Joins (tok_of token.now) (string_bytes joined.old) (string_bytes joined.new)) }
+{
+    match token {
+        Token::Str(text) => joined.push_str(text)?,
+        Token::String(text) => joined.push_str(text.as_str())?,
+        _ => {}
+    }
+    Ok(())
+}
+
+/// The name of a filter or a test: the source from its first part to its last.
+#[tactic(auto, using(crate::proofs::Names::name_is, crate::proofs::Names::still_between))]
+pub fn name<'s>(tokens: &mut TokenStream<'s, '_>) -> Result<&'s str, Refusal>
+    ensures { Reads (λ x. x.now) (reads form.name tokens.old) result tokens.new }
+{
+    let (name, first) = tokens.ident(Wanted::Part(Expected::Identifier))?;
+    if !tokens.at(Mark::Dot) {
+        return Ok(name);
+    }
+    let last = name_parts(tokens, first)?;
+    Ok(source_between(tokens.source(), first, last))
+}
+
+/// Where the last part of a name stands, after the first one.
+#[tactic(auto, using(crate::proofs::Names::parts_done, crate::proofs::Names::parts_more, crate::proofs::Names::still_between, crate::proofs::Turned::next_shorter, crate::proofs::Turned::read_no_longer))]
+fn name_parts(tokens: &mut TokenStream<'_, '_>, first: Span) -> Result<Span, Refusal>
+    requires { IsBetweenChars tokens.old.source first }
+    ensures read { Reads (λ s. s) (reads (form.name_parts first) tokens.old) result tokens.new }
+    ensures between { IfOk result (IsBetweenChars tokens.new.source) }
+{
+    let mut last = first;
+    while tokens.at(Mark::Dot) {
+        tokens.expect(Mark::Dot)?;
+        let (_, part) = tokens.ident(Wanted::Part(Expected::Identifier))?;
+        last = part;
+    }
+    Ok(last)
+}
+
+/// The source from the start of a span to the end of another.
+fn source_between<'s>(source: &'s str, first: Span, last: Span) -> &'s str
+    requires first { IsBetweenChars source.now first }
+    requires last { IsBetweenChars source.now last }
+    ensures { result.now ≡ slice source.now first.start_offset last.end_offset }
+{
+    let start = first.start_offset as usize;
+    // The last part never ends before the first begins; a slice has to be told.
+    let end = start.max(last.end_offset as usize);
+    &source[start..end]
+}
+
+/// What follows the `.` after an operand: an attribute, or an item at a number.
+#[tactic(auto, using(crate::proofs::Members::name_member, crate::proofs::Members::int_member, crate::proofs::Members::large_member, crate::proofs::Members::short_member, crate::proofs::Members::wrong_member, crate::proofs::Members::no_member))]
+pub fn member<'s, V: TemplateValue>(
+    context: Context<V>,
+    tokens: &mut TokenStream<'s, '_>,
+    expr: Expr<'s, V>,
+    from: Span,
+) -> Result<Expr<'s, V>, Refusal>
+    ensures { Reads (expr_node V.contents)
+        (reads (form.member nothing V.functions (expr_node V.contents expr.entry) from) tokens.old)
+        result tokens.new }
+{
+    let (token, at) = tokens.take(Wanted::Part(Expected::Identifier))?;
+    let index = match token {
+        Token::Ident(name) => {
+            let span = tokens.expand_span(from);
+            return Ok(nodes::attribute(context.alloc, expr, name, span)?);
+        }
+        Token::Int(value) => integer(context, value, at)?,
+        Token::Int128(value) => large_integer(context, *value, at)?,
+        _ => return Err(Refusal::Wrong(Wanted::Part(Expected::Identifier))),
+    };
+    Ok(nodes::item(context.alloc, expr, index, tokens.expand_span(from))?)
+}

@@ -1,0 +1,369 @@
+//! Nodes, each on the heap. Refused memory is the only error.
+ghost use Rattle.std.specs.Prelude.{◌≡◌, ◌≤◌, length, map, reverse, IfOk};
+ghost use Rattle.std.specs.Option.{option_map};
+ghost use Rattle.minijinja_tree.specs.Erasure.{bin_op, compare_op, unary_op};
+ghost use Rattle.minijinja_tree.specs.SpannedErasure.{expr_node, stmt_node};
+ghost use Rattle.minijinja_tree.specs.Nodes.{node_of, span_of};
+ghost use Rattle.minijinja_tree.specs.BinOps as bin;
+ghost use Rattle.minijinja_tree.specs.Tree.{logical_not};
+ghost use Rattle.minijinja_tree.specs.SpannedTrees as tree;
+ghost use Rattle.minijinja_tree.specs.SpannedTrees.{present, stmts_of, args_of, exprs_of, optional_of};
+ghost use Rattle.minijinja_grammar.specs.Grammar as form;
+ghost use Rattle.minijinja_grammar.specs.Grammar.{compare_all, compare_two, name_of_variable};
+ghost use Rattle.minijinja_tree.specs.SpannedErasure.{all_compared, any_tree, args_view, trees};
+
+use minijinja_base::tokens::Span;
+use minijinja_base::value::TemplateValue;
+use minijinja_tree::ast::{
+    BinOp, BinOpKind, Call, CallArg, Compare, CompareOp, CompareOpKind, Const, EmitExpr, EmitRaw,
+    Expr, Filter, GetAttr, GetItem, IfExpr, List, Map, Set, Slice, Spanned, Stmt, Template, Test,
+    Tuple, UnaryOp, UnaryOpKind, Var,
+};
+use std::alloc::{AllocError, Global};
+
+fn spanned<T: Drop>(alloc: Global, node: T, span: Span) -> Result<Spanned<T>, AllocError>
+    ensures node { IfOk result (λ s. node_of s ≡ node) }
+    ensures span { IfOk result (λ s. span_of s ≡ span) }
+{
+    match Spanned::new(alloc, node, span) {
+        Ok(spanned) => Ok(spanned),
+        // Memory is all that `new` can want.
+        Err(_) => Err(AllocError),
+    }
+}
+
+/// A variable of that name.
+pub fn variable<'s, V: TemplateValue>(
+    alloc: Global,
+    id: &'s str,
+    span: Span,
+) -> Result<Expr<'s, V>, AllocError>
+    ensures tree { IfOk result (λ e. expr_node V.contents e ≡ tree.variable id.now span) }
+{
+    Ok(Expr::Var(spanned(alloc, Var { id }, span)?))
+}
+
+/// The name of an expression that is a variable.
+pub fn variable_name<'s, V: TemplateValue>(expr: &Expr<'s, V>) -> Option<&'s str>
+    ensures { option_map (λ x. x.now) result ≡ name_of_variable (expr_node V.contents expr.now) }
+{
+    match expr {
+        Expr::Var(variable) => Some(variable.node().id),
+        _ => None,
+    }
+}
+
+/// A constant of that value.
+pub fn constant<'s, V: TemplateValue>(
+    alloc: Global,
+    value: V,
+    span: Span,
+) -> Result<Expr<'s, V>, AllocError>
+    ensures tree { IfOk result
+        (λ e. expr_node V.contents e ≡ tree.constant (V.contents value) span) }
+{
+    Ok(Expr::Const(spanned(alloc, Const { value }, span)?))
+}
+
+/// The attribute of that name of an expression.
+pub fn attribute<'s, V: TemplateValue>(
+    alloc: Global,
+    expr: Expr<'s, V>,
+    name: &'s str,
+    span: Span,
+) -> Result<Expr<'s, V>, AllocError>
+    ensures tree { IfOk result (λ e. expr_node V.contents e ≡ tree.attribute
+        (expr_node V.contents expr.entry) name.now span) }
+{
+    Ok(Expr::GetAttr(spanned(alloc, GetAttr { expr, name }, span)?))
+}
+
+/// The item of an expression at a subscript.
+pub fn item<'s, V: TemplateValue>(
+    alloc: Global,
+    expr: Expr<'s, V>,
+    subscript_expr: Expr<'s, V>,
+    span: Span,
+) -> Result<Expr<'s, V>, AllocError>
+    ensures tree { IfOk result (λ e. expr_node V.contents e ≡ tree.item
+        (expr_node V.contents expr.entry) (expr_node V.contents subscript_expr.entry) span) }
+{
+    Ok(Expr::GetItem(spanned(
+        alloc,
+        GetItem {
+            expr,
+            subscript_expr,
+        },
+        span,
+    )?))
+}
+
+/// A slice, whose parts may be absent.
+pub fn slice<'s, V: TemplateValue>(
+    alloc: Global,
+    slice: Slice<'s, V>,
+    span: Span,
+) -> Result<Expr<'s, V>, AllocError>
+    ensures tree { IfOk result (λ e. expr_node V.contents e ≡ tree.slice
+        (expr_node V.contents slice.entry.expr)
+        (optional_of (any_tree V.contents slice.entry.start))
+        (optional_of (any_tree V.contents slice.entry.stop))
+        (optional_of (any_tree V.contents slice.entry.step)) span) }
+{
+    Ok(Expr::Slice(spanned(alloc, slice, span)?))
+}
+
+/// A unary operator on an operand.
+pub fn unary<'s, V: TemplateValue>(
+    alloc: Global,
+    op: UnaryOpKind,
+    expr: Expr<'s, V>,
+    span: Span,
+) -> Result<Expr<'s, V>, AllocError>
+    ensures tree { IfOk result (λ e. expr_node V.contents e ≡ tree.unary (unary_op op)
+        (expr_node V.contents expr.entry) span) }
+{
+    Ok(Expr::UnaryOp(spanned(alloc, UnaryOp { op, expr }, span)?))
+}
+
+/// An expression in operators of one side, which begin at these places, the innermost at the last, and end at one.
+pub fn wrapped<'s, V: TemplateValue>(
+    alloc: Global,
+    op: UnaryOpKind,
+    begins: Vec<Span>,
+    to: Span,
+    expr: Expr<'s, V>,
+) -> Result<Expr<'s, V>, AllocError>
+    ensures tree { IfOk result (λ e. expr_node V.contents e ≡
+        form.wrapped (unary_op op) to (reverse begins.items) (expr_node V.contents expr.entry)) }
+{
+    let mut begins = begins;
+    let mut expr = expr;
+    while let Some(begin) = begins.pop() {
+        let span = Span {
+            end_line: to.end_line,
+            end_col: to.end_col,
+            end_offset: to.end_offset,
+            ..begin
+        };
+        expr = unary(alloc, op, expr, span)?;
+    }
+    Ok(expr)
+}
+
+/// A binary operator on two operands.
+pub fn binary<'s, V: TemplateValue>(
+    alloc: Global,
+    op: BinOpKind,
+    left: Expr<'s, V>,
+    right: Expr<'s, V>,
+    span: Span,
+) -> Result<Expr<'s, V>, AllocError>
+    ensures tree { IfOk result (λ e. expr_node V.contents e ≡ tree.binary (bin_op op)
+        (expr_node V.contents left.entry) (expr_node V.contents right.entry) span) }
+{
+    Ok(Expr::BinOp(spanned(alloc, BinOp { op, left, right }, span)?))
+}
+
+/// `not in`: a negation of `in`.
+fn not_in<'s, V: TemplateValue>(
+    alloc: Global,
+    left: Expr<'s, V>,
+    right: Expr<'s, V>,
+    span: Span,
+) -> Result<Expr<'s, V>, AllocError>
+    ensures tree { IfOk result (λ e. expr_node V.contents e ≡ tree.unary logical_not
+        (tree.binary bin.is_in (expr_node V.contents left.entry)
+        (expr_node V.contents right.entry) span) span) }
+{
+    let inner = binary(alloc, BinOpKind::In, left, right, span)?;
+    unary(alloc, UnaryOpKind::Not, inner, span)
+}
+
+/// One comparison.
+pub fn comparison<'s, V: TemplateValue>(
+    alloc: Global,
+    op: CompareOpKind,
+    left: Expr<'s, V>,
+    right: Expr<'s, V>,
+    span: Span,
+) -> Result<Expr<'s, V>, AllocError>
+    ensures tree { IfOk result (λ e. expr_node V.contents e ≡ compare_two span (compare_op op)
+        (expr_node V.contents left.entry) (expr_node V.contents right.entry)) }
+{
+    match op {
+        CompareOpKind::Eq => binary(alloc, BinOpKind::Eq, left, right, span),
+        CompareOpKind::Ne => binary(alloc, BinOpKind::Ne, left, right, span),
+        CompareOpKind::Lt => binary(alloc, BinOpKind::Lt, left, right, span),
+        CompareOpKind::Lte => binary(alloc, BinOpKind::Lte, left, right, span),
+        CompareOpKind::Gt => binary(alloc, BinOpKind::Gt, left, right, span),
+        CompareOpKind::Gte => binary(alloc, BinOpKind::Gte, left, right, span),
+        CompareOpKind::In => binary(alloc, BinOpKind::In, left, right, span),
+        CompareOpKind::NotIn => not_in(alloc, left, right, span),
+    }
+}
+
+/// A chain of two comparisons or more.
+pub fn compare<'s, V: TemplateValue>(
+    alloc: Global,
+    expr: Expr<'s, V>,
+    ops: Vec<CompareOp<'s, V>>,
+    span: Span,
+) -> Result<Expr<'s, V>, AllocError>
+    ensures tree { IfOk result (λ e. 2 ≤ length ops.entry.items → expr_node V.contents e ≡
+        compare_all (expr_node V.contents expr.entry) (all_compared V.contents ops.entry.items)
+        span) }
+{
+    Ok(Expr::Compare(spanned(alloc, Compare { expr, ops }, span)?))
+}
+
+/// An if expression.
+pub fn if_expr<'s, V: TemplateValue>(
+    alloc: Global,
+    if_expr: IfExpr<'s, V>,
+    span: Span,
+) -> Result<Expr<'s, V>, AllocError>
+    ensures tree { IfOk result (λ e. expr_node V.contents e ≡ tree.if_expr
+        (expr_node V.contents if_expr.entry.test_expr)
+        (expr_node V.contents if_expr.entry.true_expr)
+        (optional_of (any_tree V.contents if_expr.entry.false_expr)) span) }
+{
+    Ok(Expr::IfExpr(spanned(alloc, if_expr, span)?))
+}
+
+/// A filter of that operand.
+pub fn filter<'s, V: TemplateValue>(
+    alloc: Global,
+    name: &'s str,
+    expr: Expr<'s, V>,
+    args: Vec<CallArg<'s, V>>,
+    span: Span,
+) -> Result<Expr<'s, V>, AllocError>
+    ensures tree { IfOk result (λ e. expr_node V.contents e ≡ tree.filter
+        (present (expr_node V.contents expr.entry)) name.now
+        (args_of (args_view V.contents args.entry.items)) span) }
+{
+    Ok(Expr::Filter(spanned(
+        alloc,
+        Filter {
+            name,
+            expr: Some(expr),
+            args,
+        },
+        span,
+    )?))
+}
+
+/// A test of that operand.
+pub fn test<'s, V: TemplateValue>(
+    alloc: Global,
+    name: &'s str,
+    expr: Expr<'s, V>,
+    args: Vec<CallArg<'s, V>>,
+    span: Span,
+) -> Result<Expr<'s, V>, AllocError>
+    ensures tree { IfOk result (λ e. expr_node V.contents e ≡ tree.test
+        (expr_node V.contents expr.entry) name.now
+        (args_of (args_view V.contents args.entry.items)) span) }
+{
+    Ok(Expr::Test(spanned(alloc, Test { name, expr, args }, span)?))
+}
+
+/// A call of an expression.
+pub fn call<'s, V: TemplateValue>(
+    alloc: Global,
+    expr: Expr<'s, V>,
+    args: Vec<CallArg<'s, V>>,
+    span: Span,
+) -> Result<Expr<'s, V>, AllocError>
+    ensures tree { IfOk result (λ e. expr_node V.contents e ≡ tree.call
+        (expr_node V.contents expr.entry) (args_of (args_view V.contents args.entry.items))
+        span) }
+{
+    Ok(Expr::Call(spanned(alloc, Call { expr, args }, span)?))
+}
+
+/// A list of these items.
+pub fn list<'s, V: TemplateValue>(
+    alloc: Global,
+    items: Vec<Expr<'s, V>>,
+    span: Span,
+) -> Result<Expr<'s, V>, AllocError>
+    ensures tree { IfOk result (λ e. expr_node V.contents e ≡ tree.list
+        (exprs_of (trees V.contents items.entry.items)) span) }
+{
+    Ok(Expr::List(spanned(alloc, List { items }, span)?))
+}
+
+/// A tuple of these items.
+pub fn tuple<'s, V: TemplateValue>(
+    alloc: Global,
+    items: Vec<Expr<'s, V>>,
+    span: Span,
+) -> Result<Expr<'s, V>, AllocError>
+    ensures tree { IfOk result (λ e. expr_node V.contents e ≡ tree.tuple
+        (exprs_of (trees V.contents items.entry.items)) span) }
+{
+    Ok(Expr::Tuple(spanned(alloc, Tuple { items }, span)?))
+}
+
+/// A map of these keys to these values.
+pub fn map<'s, V: TemplateValue>(
+    alloc: Global,
+    keys: Vec<Expr<'s, V>>,
+    values: Vec<Expr<'s, V>>,
+    span: Span,
+) -> Result<Expr<'s, V>, AllocError>
+    ensures tree { IfOk result (λ e. expr_node V.contents e ≡ tree.map
+        (exprs_of (trees V.contents keys.entry.items))
+        (exprs_of (trees V.contents values.entry.items)) span) }
+{
+    Ok(Expr::Map(spanned(alloc, Map { keys, values }, span)?))
+}
+
+/// Text as it stands in the source.
+pub fn data<'s, V: TemplateValue>(
+    alloc: Global,
+    raw: &'s str,
+    span: Span,
+) -> Result<Stmt<'s, V>, AllocError>
+    ensures tree { IfOk result (λ s. stmt_node V.contents s ≡ tree.data_text raw.now span) }
+{
+    Ok(Stmt::EmitRaw(spanned(alloc, EmitRaw { raw }, span)?))
+}
+
+/// The output of an expression.
+pub fn output<'s, V: TemplateValue>(
+    alloc: Global,
+    expr: Expr<'s, V>,
+    span: Span,
+) -> Result<Stmt<'s, V>, AllocError>
+    ensures tree { IfOk result
+        (λ s. stmt_node V.contents s ≡ tree.output (expr_node V.contents expr.entry) span) }
+{
+    Ok(Stmt::EmitExpr(spanned(alloc, EmitExpr { expr }, span)?))
+}
+
+/// An assignment.
+pub fn assignment<'s, V: TemplateValue>(
+    alloc: Global,
+    set: Set<'s, V>,
+    span: Span,
+) -> Result<Stmt<'s, V>, AllocError>
+    ensures tree { IfOk result (λ s. stmt_node V.contents s ≡ tree.assignment
+        (expr_node V.contents set.entry.target) (expr_node V.contents set.entry.expr) span) }
+{
+    Ok(Stmt::Set(spanned(alloc, set, span)?))
+}
+
+/// A template of these statements.
+pub fn template<'s, V: TemplateValue>(
+    alloc: Global,
+    children: Vec<Stmt<'s, V>>,
+    span: Span,
+) -> Result<Stmt<'s, V>, AllocError>
+    ensures tree { IfOk result (λ s. stmt_node V.contents s ≡ tree.template
+        (stmts_of (map (stmt_node V.contents) children.entry.items)) span) }
+{
+    Ok(Stmt::Template(spanned(alloc, Template { children }, span)?))
+}
