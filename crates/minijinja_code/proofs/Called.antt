@@ -80,6 +80,6 @@ module _ {C F : Type 0} (f : Functions C F) where
   pub object_piece : {V K : Type 0} (c : V → C) (e : Expr V K) (args : Args C) → ((s : _) → e ≡ expr.Var s → ⊥) → ((s : _) → e ≡ expr.GetAttr s → ⊥) →
       (layout.expr f (expr_tree c e) ▸ given f args 1 ▸ one (Call CallObject [] (argument_count args 1))) ≡ layout.expr f (call (expr_tree c e) args)
   object_piece c (Var s) args n m = absurd (n s refl)
-  object_piece c (GetAttr' p e x s) args n m = absurd (m (record { node = record { value = record { expr = e; name = x }; ptr = p.ptr; alloc = p.alloc }; span = s }) refl)
+  object_piece c (GetAttr' p e x s) args n m = absurd (m (record { place = record { value = record { node = record { expr = e; name = x }; span = s }; ptr = p.ptr; alloc = p.alloc } }) refl)
   object_piece c (Compare' p q s) args n m = compare_piece c q args
   object_piece c e args n m = refl

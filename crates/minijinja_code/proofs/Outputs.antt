@@ -16,7 +16,7 @@ compare_plain : {V F C : Type 0} (c : V → C) (q : block.the_data-4 V F) → wr
 compare_plain c (block.struct-Compare e k ops) = refl
 
 pub comparison_plain : {V F C : Type 0} (c : V → C) (e : Expr V F) (s : _) → e ≡ expr.Compare s → written (expr_tree c e) ≡ Plain
-comparison_plain {V} {F} c e s is = ap (λ (x : Expr V F). written (expr_tree c x)) is ∙ compare_plain {F = F} c s.node.value
+comparison_plain {V} {F} c e s is = ap (λ (x : Expr V F). written (expr_tree c x)) is ∙ compare_plain {F = F} c s.place.value.node
 
 compare_no_target : {V F C : Type 0} (c : V → C) (q : block.the_data-4 V F) → IsTarget (compare_tree c q) → ⊥
 compare_no_target c (block.struct-Compare e k ops) is = is

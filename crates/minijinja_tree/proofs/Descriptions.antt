@@ -29,7 +29,7 @@ compare-attribute c (block.struct-Compare e k ops) n = refl
 pub object-called : {V F C : Type 0} (c : V → C) (e : Expr V F) → ((s : _) → e ≡ expr.Var s → ⊥) → ((s : _) → e ≡ expr.GetAttr s → ⊥) →
     callee (expr_tree c e) ≡ object (expr_tree c e)
 object-called c (Var s) n m = absurd (n s refl)
-object-called c (GetAttr' p e x s) n m = absurd (m (record { node = record { value = record { expr = e; name = x }; ptr = p.ptr; alloc = p.alloc }; span = s }) refl)
+object-called c (GetAttr' p e x s) n m = absurd (m (record { place = record { value = record { node = record { expr = e; name = x }; span = s }; ptr = p.ptr; alloc = p.alloc } }) refl)
 object-called c (Compare' p q s) n m = compare-called c q
 object-called c _ n m = refl
 

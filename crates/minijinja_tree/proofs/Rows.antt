@@ -18,4 +18,4 @@ row_of (Template' p k xs s) = (_, xs)
 row_of _ = (_, end_of-Stmt)
 
 pub template_is : {V F C : Type 0} (c : V → C) (s : Spanned (Template V F)) → stmt_tree c (stmt.Template s) ≡ template (stmts_of (map (stmt_tree c) (node_of s).children.items))
-template_is {V} {F} c s = ap template (row_is c _ (row_of (stmt.Template s)).1 ∙ ap (λ xs. stmts_of (map (stmt_tree c) xs)) (items_hidden-the_row-Stmt-0 V F s.node.value.children))
+template_is {V} {F} c s = ap template (row_is c _ (row_of (stmt.Template s)).1 ∙ ap (λ xs. stmts_of (map (stmt_tree c) xs)) (items_hidden-the_row-Stmt-0 V F s.place.value.node.children))

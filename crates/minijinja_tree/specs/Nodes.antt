@@ -3,7 +3,7 @@ use Rattle.minijinja_syntax.specs.declared.tokens.Span.{Span}
 use Rattle.minijinja_tree.specs.declared.ast.Spanned.{Spanned}
 
 abbrev pub node_of : {T : Type 0} → Spanned T → T
-node_of s = s.node.value
+node_of s = s.place.value.node
 
 abbrev pub span_of : {T : Type 0} → Spanned T → Span
-span_of s = s.span
+span_of s = s.place.value.span

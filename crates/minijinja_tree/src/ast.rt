@@ -8,10 +8,16 @@ use minijinja_base::tokens::Span;
 use minijinja_base::value::{TemplateValue, Value};
 use std::alloc::Global;
 
-/// A node and where it stands.
+/// A node and where it stands: one word, so that a tree is moved as a tag and a word.
 #[derive(Drop)]
 pub struct Spanned<T> {
-    node: Box<T>,
+    place: Box<Placed<T>>,
+}
+
+/// What a `Spanned` keeps on the heap.
+#[derive(Drop)]
+struct Placed<T> {
+    node: T,
     span: Span,
 }
 
@@ -23,8 +29,7 @@ impl<T: Drop> Spanned<T> {
         ensures memory { IfErr result IsOutOfMemory }
     {
         Ok(Spanned {
-            node: Box::new(alloc, node)?,
-            span,
+            place: Box::new(alloc, Placed { node, span })?,
         })
     }
 }
@@ -34,14 +39,14 @@ impl<T> Spanned<T> {
     pub fn span(&self) -> Span
         ensures { result ≡ span_of self.now }
     {
-        self.span
+        self.place.span
     }
 
     /// The node.
     pub fn node(&self) -> &T
         ensures { result.now ≡ node_of self.now }
     {
-        &self.node
+        &self.place.node
     }
 }
 
@@ -82,47 +87,57 @@ impl<'s, V: TemplateValue> Drop for Expr<'s, V> {
     fn drop(mut self) {
         loop {
             match self {
-                Expr::Slice(Spanned { node, .. }) => {
-                    let Slice { expr, .. } = Box::into_inner(node);
+                Expr::Slice(Spanned { place }) => {
+                    let Placed { node, .. } = Box::into_inner(place);
+                    let Slice { expr, .. } = node;
                     self = expr;
                 }
-                Expr::UnaryOp(Spanned { node, .. }) => {
-                    let UnaryOp { expr, .. } = Box::into_inner(node);
+                Expr::UnaryOp(Spanned { place }) => {
+                    let Placed { node, .. } = Box::into_inner(place);
+                    let UnaryOp { expr, .. } = node;
                     self = expr;
                 }
-                Expr::BinOp(Spanned { node, .. }) => {
-                    let BinOp { left, .. } = Box::into_inner(node);
+                Expr::BinOp(Spanned { place }) => {
+                    let Placed { node, .. } = Box::into_inner(place);
+                    let BinOp { left, .. } = node;
                     self = left;
                 }
-                Expr::Compare(Spanned { node, .. }) => {
-                    let Compare { expr, .. } = Box::into_inner(node);
+                Expr::Compare(Spanned { place }) => {
+                    let Placed { node, .. } = Box::into_inner(place);
+                    let Compare { expr, .. } = node;
                     self = expr;
                 }
-                Expr::IfExpr(Spanned { node, .. }) => {
-                    let IfExpr { true_expr, .. } = Box::into_inner(node);
+                Expr::IfExpr(Spanned { place }) => {
+                    let Placed { node, .. } = Box::into_inner(place);
+                    let IfExpr { true_expr, .. } = node;
                     self = true_expr;
                 }
-                Expr::Filter(Spanned { node, .. }) => {
-                    let Filter { expr, .. } = Box::into_inner(node);
+                Expr::Filter(Spanned { place }) => {
+                    let Placed { node, .. } = Box::into_inner(place);
+                    let Filter { expr, .. } = node;
                     match expr {
                         Some(expr) => self = expr,
                         None => return,
                     }
                 }
-                Expr::Test(Spanned { node, .. }) => {
-                    let Test { expr, .. } = Box::into_inner(node);
+                Expr::Test(Spanned { place }) => {
+                    let Placed { node, .. } = Box::into_inner(place);
+                    let Test { expr, .. } = node;
                     self = expr;
                 }
-                Expr::GetAttr(Spanned { node, .. }) => {
-                    let GetAttr { expr, .. } = Box::into_inner(node);
+                Expr::GetAttr(Spanned { place }) => {
+                    let Placed { node, .. } = Box::into_inner(place);
+                    let GetAttr { expr, .. } = node;
                     self = expr;
                 }
-                Expr::GetItem(Spanned { node, .. }) => {
-                    let GetItem { expr, .. } = Box::into_inner(node);
+                Expr::GetItem(Spanned { place }) => {
+                    let Placed { node, .. } = Box::into_inner(place);
+                    let GetItem { expr, .. } = node;
                     self = expr;
                 }
-                Expr::Call(Spanned { node, .. }) => {
-                    let Call { expr, .. } = Box::into_inner(node);
+                Expr::Call(Spanned { place }) => {
+                    let Placed { node, .. } = Box::into_inner(place);
+                    let Call { expr, .. } = node;
                     self = expr;
                 }
                 Expr::Var(_variable) => return,
