@@ -1,16 +1,15 @@
 -- Parsers of whole texts: what holds at the place where a parser begins holds before the first token of the text, or memory was
 -- refused for that token.
-use Rattle.std.proofs.Common.{◌≡◌, ◌⊎◌, inl, inr, [], Option, None, Result, Ok, Err, IfErr, IsErrAnd, MatchResult, refl, sym, ap, subst}
+use Rattle.std.proofs.Common.{◌≡◌, ◌⊎◌, inl, inr, None, Result, Ok, Err, IfErr, IsErrAnd, MatchResult, refl, sym, ap, subst}
 use Rattle.minijinja_syntax.specs.Errors.{kind_of, span_of}
 use Rattle.minijinja_syntax.specs.Texts.{Text}
-use Rattle.minijinja_syntax.specs.Streams.{Stream, refused}
-use Rattle.minijinja_syntax.specs.declared.tokens.Span.{Span}
+use Rattle.minijinja_syntax.specs.Streams.{Stream}
 use Rattle.minijinja_syntax.specs.declared.error.Error.{Error}
-use Rattle.minijinja_syntax.specs.declared.error.ErrorKind.TheVariants.{OutOfMemory, SyntaxError, BadEscape}
+use Rattle.minijinja_syntax.specs.declared.error.ErrorKind.TheVariants.{OutOfMemory}
 use Rattle.minijinja_grammar.specs.Forms.{Form, Place}
 use Rattle.minijinja_grammar.specs.Derived.{IsWholeOf}
 use Rattle.minijinja_parser.specs.Causes.{IsLimit, IsRefusal}
-use Rattle.minijinja_parser.specs.Parsing.{AnswersItsRefusal, HasRefused, IsRefusedSo}
+use Rattle.minijinja_parser.specs.Parsing.{AnswersItsRefusal, HasRefused}
 use Rattle.minijinja_parser.specs.TokenStreams.{Comes, first_place, no_place, stream_at}
 
 module _ {A X : Type 0} (f : Form A) (view : X → A) (text : Text) (s : Stream) (p : Place) (r : Result X Error)

@@ -1,22 +1,19 @@
 -- Operators by climbing, by the operator that the code sees come.
-use Rattle.std.proofs.Common.{◌≡◌, ◌<◌, ◌≤◌, ℕ, ◌+◌, ◌*◌, length, arith, Bool, true, false, ◌||◌, List, [], ◌∷◌, ◌++◌, if◌then◌else◌, Option, Some, None, refl, sym, ap, ◌∙◌, subst}
-use Rattle.std.specs.Prelude.{is_some, codes, nat_lt}
+use Rattle.std.proofs.Common.{◌≡◌, ◌≤◌, ℕ, ◌+◌, ◌*◌, length, arith, Bool, true, false, List, [], ◌∷◌, if◌then◌else◌, Option, Some, None, refl, sym, ap, ◌∙◌}
+use Rattle.std.specs.Prelude.{codes, nat_lt}
 use Rattle.std.specs.Str.{bytes_eq}
 use Rattle.std.specs.Option.{option_map}
-use Rattle.minijinja_syntax.specs.Tokens as tok
 use Rattle.minijinja_syntax.specs.Tokens.{Tok, ident}
-use Rattle.minijinja_syntax.specs.Texts.{Text}
 use Rattle.minijinja_syntax.specs.Streams.{SpannedTok}
 use Rattle.minijinja_syntax.specs.declared.tokens.Span.{Span}
 use Rattle.minijinja_tree.specs.BinOps as bin
-use Rattle.minijinja_tree.specs.CompareOps as cmp
 use Rattle.minijinja_tree.specs.SpannedTrees.{Expr, binary}
 use Rattle.minijinja_tree.specs.Erasure.{bin_op}
 use Rattle.minijinja_tree.specs.declared.ast.BinOpKind.{BinOpKind}
 use Rattle.minijinja_grammar.specs.Grammar.{expanded}
 use Rattle.minijinja_tree.specs.declared.ast.BinOpKind.TheVariants as op
 use Rattle.minijinja_grammar.specs.Words.{is, not_word, begins_comparison}
-use Rattle.minijinja_grammar.specs.Forms.{Place, Form, one, comes, start_at, Read, got, read_then, reads}
+use Rattle.minijinja_grammar.specs.Forms.{Place, Form, one, comes, start_at, got, read_then, reads}
 use Rattle.minijinja_grammar.specs.private.Climbing.{Row, binaries, comparing, Infix, binary_of, comparing_of, or_else, infix_in, next_infix, first_of, rest_of, level_of, operation, comparisons}
 use Rattle.minijinja_grammar.proofs.Climbing.{level_first, rest_over, rest_next}
 use Rattle.minijinja_parser.specs.private.Levels.{rows, tighter, has_not, operator_of, if_as_tight, infix_of, next_operator}

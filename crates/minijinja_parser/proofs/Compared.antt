@@ -1,12 +1,12 @@
 -- Comparisons and negations, one after another.
-use Rattle.std.proofs.Common.{◌≡◌, ◌<◌, ◌≤◌, ℕ, ◌+◌, map, reverse, length, arith, Bool, true, false, List, [], ◌∷◌, ◌++◌, if◌then◌else◌, Option, Some, None, refl, sym, ap, ◌∙◌, subst, length-append}
+use Rattle.std.proofs.Common.{◌≡◌, ◌<◌, ◌≤◌, ℕ, length, arith, Bool, true, false, List, [], ◌∷◌, ◌++◌, if◌then◌else◌, Some, refl, sym, ap, ◌∙◌, length-append}
 use Rattle.minijinja_syntax.specs.Streams.{SpannedTok}
 use Rattle.minijinja_syntax.specs.declared.tokens.Span.{Span}
 use Rattle.minijinja_tree.specs.CompareOps.{CompareOp}
 use Rattle.minijinja_tree.specs.Tree.{logical_not}
-use Rattle.minijinja_tree.specs.SpannedTrees.{Expr, binary}
+use Rattle.minijinja_tree.specs.SpannedTrees.{Expr, binary, compare, comparisons_of}
 use Rattle.minijinja_tree.specs.Erasure.{bin_op}
-use Rattle.minijinja_grammar.specs.Words.{is, not_word, begins_comparison, compare_op}
+use Rattle.minijinja_grammar.specs.Words.{not_word, begins_comparison, compare_op}
 use Rattle.minijinja_grammar.specs.Forms.{Place, Form, Turn, go_on, over, pure, one, many, comes, Turns, no_turn, last_turn, turn, Derives, Read, got, short, wrong, read_then, read_turn, reads}
 use Rattle.minijinja_grammar.specs.Grammar.{of_kind, span_of_mark, wrapped, prefixed, compare_operator, comparison, compare_all, compared_level, expanded}
 use Rattle.minijinja_grammar.specs.private.Climbing.{comparisons, level_of, operation}
@@ -25,6 +25,12 @@ pub op_shorter : (p q : Place) (o : CompareOp) → compare_op_at p ≡ got o q �
 op_shorter p q o e =
     let i : (t : SpannedTok) × (m : Place) × (reads (one (of_kind begins_comparison)) p ≡ got t m) × (reads (compare_operator (compare_op t.0)) m ≡ got o q) = read_then_got _ _ _ _ e in
     omega (arith, takes_shorter (of_kind begins_comparison) p i.1 i.0 (sound (one (of_kind begins_comparison)) p i.1 i.0 i.2), read_no_longer (compare_operator (compare_op i.0.0)) i.1 q o i.3)
+
+-- two comparisons or more are a chain
+pub chain_is : {C : Type 0} (e : Expr C) (cs : List (CompareOp × Expr C)) (s : Span) → 2 ≤ length cs → compare e (comparisons_of cs) s ≡ compare_all e cs s
+chain_is e [] s h = absurd (omega arith)
+chain_is e (c ∷ []) s h = absurd (omega arith)
+chain_is e (c ∷ d ∷ cs) s h = refl
 
 module _ {C : Type 0} (sum : Form (Expr C)) where
   abbrev Compared : Type 0

@@ -1,23 +1,19 @@
 -- What follows an operand, a step at a time.
-use Rattle.std.proofs.Common.{◌≡◌, ◌∙◌, List, [], ◌∷◌, if◌then◌else◌, Option, Some, None, Result, Err, refl, sym, ap, subst}
+use Rattle.std.proofs.Common.{◌≡◌, ◌∙◌, true, false, [], ◌∷◌, if◌then◌else◌, Option, None, Err, refl, ap}
 use Rattle.minijinja_value.specs.Values.{Functions}
-use Rattle.minijinja_syntax.specs.Tokens.{Tok, tok_of, bracket_close, colon, paren_open}
+use Rattle.minijinja_syntax.specs.Tokens.{Tok, bracket_close, bracket_open, colon, dot, paren_open, pipe}
 use Rattle.minijinja_syntax.specs.declared.tokens.Span.{Span}
-use Rattle.minijinja_syntax.specs.declared.tokens.Token.{Token}
-use Rattle.minijinja_syntax.specs.declared.tokens.Token.TheVariants as token
-use Rattle.minijinja_tree.specs.declared.ast.Expr as ast
-use Rattle.minijinja_tree.specs.SpannedErasure.{any_tree, expr_node}
 use Rattle.minijinja_tree.specs.Tree.{logical_not}
 use Rattle.minijinja_tree.specs.SpannedTrees as tree
 use Rattle.minijinja_tree.specs.SpannedTrees.{Expr, Arg, positional, present, args_of, optional_of}
-use Rattle.minijinja_grammar.specs.Words.{begins_bare, not_word}
+use Rattle.minijinja_grammar.specs.Words.{begins_bare, is, not_word}
 use Rattle.minijinja_grammar.specs.Forms.{Place, Form, pure, nothing, start, either, comes, start_at, got, read_then, reads, ◌>>=◌}
 use Rattle.minijinja_grammar.specs.Grammar as form
 use Rattle.minijinja_grammar.specs.Grammar.{next, behind, expanded}
 use Rattle.minijinja_parser.specs.declared.refusal.Refusal.{Refusal}
-use Rattle.minijinja_parser.specs.private.Reads.{Misfits, Reads, eaten}
+use Rattle.minijinja_parser.specs.private.Reads.{Reads, eaten}
 use Rattle.minijinja_parser.proofs.Refused.{refused}
-use Rattle.minijinja_parser.proofs.Turned.{behind_is, under}
+use Rattle.minijinja_parser.proofs.Turned.{behind_is}
 
 -- where the token comes the first form is read, and else the second is there already
 behind_pure : {A : Type 0} (m : Tok) (f : Form A) (x : A) (p : Place) →
@@ -50,24 +46,22 @@ module _ {C : Type 0} (expr : Form (Expr C)) where
     unfolding form.member
     member_same e from p = refl
 
+    pub postfix_member : (t : Tok) (e : Expr C) (from : Span) (p : Place) → is dot t ≡ true → reads (form.postfix expr f e from t) p ≡ reads (form.member nothing f e from) p
+    unfolding form.member
+    postfix_member dot e from p h = refl
+    postfix_member _ e from p h = cc
+
+    pub postfix_subscript : (t : Tok) (e : Expr C) (from : Span) (p : Place) → is bracket_open t ≡ true → reads (form.postfix expr f e from t) p ≡ reads (form.subscript expr e from) p
+    postfix_subscript bracket_open e from p h = refl
+    postfix_subscript _ e from p h = cc
+
     -- after any other token stand arguments
-    call_is : (t : Token) → (t ≡ token.Dot → ⊥) → (t ≡ token.BracketOpen → ⊥) → (e : Expr C) (from : Span) (p : Place) →
-        reads (form.postfix expr f e from (tok_of t)) p ≡ read_then (reads (form.args expr) p) (λ xs q. got (tree.call e (args_of xs) (expanded from q.last)) q)
+    pub postfix_call : (t : Tok) (e : Expr C) (from : Span) (p : Place) → is dot t ≡ false → is bracket_open t ≡ false →
+        reads (form.postfix expr f e from t) p ≡ read_then (reads (form.args expr) p) (λ xs q. got (tree.call e (args_of xs) (expanded from q.last)) q)
     unfolding reads
-    call_is token.Dot n m e from p = absurd (n refl)
-    call_is token.BracketOpen n m e from p = absurd (m refl)
-    call_is _ n m e from p = refl
-
-    pub call_refused : (t : Token) (e : Expr C) (from : Span) (p q : Place) (r : Refusal) → (t ≡ token.Dot → ⊥) → (t ≡ token.BracketOpen → ⊥) → Reads (λ x. x) (reads (form.args expr) p) (Err r) q →
-        Reads (λ x. x) (reads (form.postfix expr f e from (tok_of t)) p) (Err r) q
-    call_refused t e from p q r n m k =
-        refused (reads (form.postfix expr f e from (tok_of t)) p) (reads (form.args expr) p) (λ xs q. got (tree.call e (args_of xs) (expanded from q.last)) q) r q (call_is t n m e from p) k
-
-    pub call_read : (t : Token) (e : Expr C) (from : Span) (p q : Place) (xs : List (Arg C)) (to : Span) (node : Expr C) → (t ≡ token.Dot → ⊥) → (t ≡ token.BracketOpen → ⊥) →
-        reads (form.args expr) p ≡ got xs q → to ≡ expanded from q.last → node ≡ tree.call e (args_of xs) to → reads (form.postfix expr f e from (tok_of t)) p ≡ got node q
-    call_read t e from p q xs to node n m k l j =
-        call_is t n m e from p ∙ ap (λ o. read_then o (λ xs q. got (tree.call e (args_of xs) (expanded from q.last)) q)) k ∙
-        ap (λ s. got (tree.call e (args_of xs) s) q) (sym l) ∙ ap (λ n. got n q) (sym j)
+    postfix_call dot e from p h i = cc
+    postfix_call bracket_open e from p h i = cc
+    postfix_call _ e from p h i = refl
 
 module _ {C F : Type 0} (f : Functions C F) (expr prim : Form (Expr C)) where
   pub filter_is : (e : Expr C) (p : Place) → reads (form.filtered f expr prim e) p ≡
@@ -95,8 +89,11 @@ module _ {C F : Type 0} (f : Functions C F) (expr prim : Form (Expr C)) where
   test_args_is p =
       behind_is paren_open (form.args expr) (either begins_bare (form.operand f expr prim >>= (λ e. pure (positional e ∷ []))) (pure [])) p
 
+  pub suffix_filter : (t : Tok) (e : Expr C) (p : Place) → is pipe t ≡ true → reads (form.suffix f expr prim e t) p ≡ reads (form.filtered f expr prim e) p
+  suffix_filter pipe e p h = refl
+  suffix_filter _ e p h = cc
+
   -- after any token but a `|` stands a test
-  pub suffix_is_test : {X : Type 0} (v : X → Expr C) (t : Token) (e : Expr C) (p q : Place) (r : Result X Refusal) → (t ≡ token.Pipe → ⊥) →
-      Reads v (reads (form.any_test f expr prim e) p) r q → Reads v (reads (form.suffix f expr prim e (tok_of t)) p) r q
-  suffix_is_test v token.Pipe e p q r n h = absurd (n refl)
-  suffix_is_test v _ e p q r n h = h
+  pub suffix_test : (t : Tok) (e : Expr C) (p : Place) → is pipe t ≡ false → reads (form.suffix f expr prim e t) p ≡ reads (form.any_test f expr prim e) p
+  suffix_test pipe e p h = cc
+  suffix_test _ e p h = refl

@@ -1,11 +1,10 @@
 -- If expressions, an if at a time.
-use Rattle.std.proofs.Common.{◌≡◌, ◌<◌, ◌≤◌, length, arith, Bool, true, false, ◌≢◌, ℕ, zero, suc, ◌-◌, List, [], ◌∷◌, if◌then◌else◌, Err, refl, sym, ap, ◌∙◌}
-use Rattle.minijinja_syntax.specs.Streams.{SpannedTok}
+use Rattle.std.proofs.Common.{◌≡◌, arith, Bool, true, false, ◌≢◌, ℕ, zero, suc, ◌-◌, [], ◌∷◌, if◌then◌else◌, Err, refl, ap, ◌∙◌}
 use Rattle.minijinja_value.specs.Values.{Functions}
 use Rattle.minijinja_syntax.specs.declared.tokens.Span.{Span}
 use Rattle.minijinja_tree.specs.SpannedTrees.{Expr, if_expr, absent}
 use Rattle.minijinja_grammar.specs.Words.{is, if_word, else_word}
-use Rattle.minijinja_grammar.specs.Forms.{Place, Form, Turn, go_on, over, many, comes, Read, got, short, wrong, misfit, read_then, read_turn, reads}
+use Rattle.minijinja_grammar.specs.Forms.{Place, Form, go_on, many, comes, Read, got, short, wrong, misfit, read_then, read_turn, reads}
 use Rattle.minijinja_grammar.specs.Grammar.{Ifs, if_turn, cond, expr_at, primary_at, or_level, next, span_of_mark, expanded, closed}
 use Rattle.minijinja_parser.specs.private.Conditions.{ifs_at}
 use Rattle.minijinja_parser.specs.private.Reads.{Misfits, Reads, eaten}

@@ -1,5 +1,5 @@
 -- The token in view.
-use Rattle.std.proofs.Common.{◌≡◌, ◌∷◌, [], Option, Some, None, Result, Ok, refl, sym, ap, ◌∙◌}
+use Rattle.std.proofs.Common.{◌≡◌, ◌∷◌, Option, Some, Ok, refl, sym, ap, ◌∙◌}
 use Rattle.minijinja_syntax.specs.Streams.{spanned_tok}
 use Rattle.minijinja_syntax.specs.declared.tokens.Token.{Token}
 use Rattle.minijinja_syntax.specs.declared.tokens.Span.{Span}

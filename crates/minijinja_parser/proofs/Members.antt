@@ -1,5 +1,5 @@
 -- What follows the `.` after an operand, by the token taken.
-use Rattle.std.proofs.Common.{◌≡◌, ℕ, Bool, true, false, if◌then◌else◌, Option, Some, None, refl, ap, ◌∙◌}
+use Rattle.std.proofs.Common.{◌≡◌, ℕ, Option, Some, refl, ap, ◌∙◌}
 use Rattle.minijinja_syntax.specs.Texts.{Text}
 use Rattle.minijinja_syntax.specs.Tokens.{tok_of, ident, int, int128}
 use Rattle.minijinja_syntax.specs.Streams.{SpannedTok}
@@ -8,7 +8,7 @@ use Rattle.minijinja_syntax.specs.declared.tokens.Token.{Token}
 use Rattle.minijinja_syntax.specs.declared.tokens.Token.TheVariants as token
 use Rattle.minijinja_value.specs.Values.{Functions}
 use Rattle.minijinja_tree.specs.SpannedTrees.{Expr, attribute, item, constant}
-use Rattle.minijinja_grammar.specs.Forms.{Place, Form, nothing, one, Read, got, short, wrong, read_then, held_or_wrong, reads}
+use Rattle.minijinja_grammar.specs.Forms.{Place, nothing, one, Read, got, short, wrong, read_then, held_or_wrong, reads}
 use Rattle.minijinja_grammar.specs.Grammar.{expanded, of_kind, begins_member, member_of, member}
 use Rattle.minijinja_grammar.proofs.Climbing.{after_after}
 use Rattle.minijinja_parser.proofs.Taking.{one_is}

@@ -1,5 +1,5 @@
 -- Names of filters and tests, a part at a time.
-use Rattle.std.proofs.Common.{◌≡◌, Bool, true, false, List, [], ◌∷◌, if◌then◌else◌, Option, Some, None, refl, sym, ap, ◌∙◌, subst}
+use Rattle.std.proofs.Common.{◌≡◌, Bool, true, false, List, [], ◌∷◌, if◌then◌else◌, Some, None, refl, sym, ap, ◌∙◌, subst}
 use Rattle.minijinja_syntax.specs.Positions.{slice}
 use Rattle.minijinja_syntax.specs.Tokens.{dot}
 use Rattle.minijinja_syntax.specs.Texts.{Text}
@@ -7,7 +7,7 @@ use Rattle.minijinja_syntax.specs.Streams.{SpannedTok}
 use Rattle.minijinja_syntax.specs.declared.tokens.Span.{Span}
 use Rattle.minijinja_lexer.specs.Slices.{IsBetweenChars}
 use Rattle.minijinja_grammar.specs.Words.{is}
-use Rattle.minijinja_grammar.specs.Forms.{Place, Turn, go_on, Form, one, many, comes, Read, got, short, wrong, read_then, after, held_or_wrong, read_one, read_turn, if_held, read_any, reads}
+use Rattle.minijinja_grammar.specs.Forms.{Place, go_on, Form, one, comes, Read, got, short, wrong, read_then, after, held_or_wrong, read_one, read_turn, if_held, read_any, reads}
 use Rattle.minijinja_grammar.specs.Grammar.{ident_and_span, name, name_part, name_parts, next, span_of_mark}
 use Rattle.minijinja_grammar.proofs.Forms.{same_read}
 use Rattle.minijinja_grammar.proofs.Staying.{Stays, stays}

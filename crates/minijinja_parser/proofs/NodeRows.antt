@@ -13,7 +13,6 @@ use Rattle.minijinja_tree.specs.declared.ast.CallArg.TheVariants as arg
 use Rattle.minijinja_tree.specs.declared.ast.Spanned.{Spanned}
 use Rattle.minijinja_tree.specs.declared.ast.Call.{Call}
 use Rattle.minijinja_tree.specs.declared.ast.Compare.{Compare, out-Compare}
-use Rattle.minijinja_tree.specs.declared.ast.CompareOp.{CompareOp}
 use Rattle.minijinja_tree.specs.declared.ast.Filter.{Filter}
 use Rattle.minijinja_tree.specs.declared.ast.List.{List}
 use Rattle.minijinja_tree.specs.declared.ast.Map.{Map}
@@ -22,7 +21,6 @@ use Rattle.minijinja_tree.specs.declared.ast.Tuple.{Tuple}
 use Rattle.minijinja_tree.specs.declared.ast.Expr.{Expr, back-Filter-expr}
 use Rattle.minijinja_tree.specs.declared.ast.Expr.TheVariants as expr
 use Rattle.minijinja_tree.specs.declared.ast.Expr.TheVariants.{Compare', List', Tuple', Map', Call', Test', Filter'}
-use Rattle.minijinja_grammar.specs.Grammar.{compare_all}
 use Rattle.minijinja_tree.specs.SpannedTrees.{Arg, args_of, comparisons_of, exprs_of}
 use Rattle.minijinja_tree.specs.SpannedErasure.{trees, arg_view, args_view, all_compared}
 

@@ -1,5 +1,5 @@
 -- Templates, a part at a time.
-use Rattle.std.proofs.Common.{◌≡◌, ◌<◌, ◌≤◌, arith, length, ℕ, Bool, true, false, List, [], ◌∷◌, ◌++◌, if◌then◌else◌, Option, Some, None, refl, sym, ap, ◌∙◌}
+use Rattle.std.proofs.Common.{◌≡◌, ◌<◌, ◌≤◌, length, ℕ, Bool, true, false, List, [], ◌∷◌, ◌++◌, if◌then◌else◌, Option, Some, None, refl, ◌∙◌}
 use Rattle.std.specs.Borrow.{Bor}
 use Rattle.minijinja_syntax.specs.Texts.{Text}
 use Rattle.minijinja_syntax.specs.Tokens.{tok_of}
@@ -9,7 +9,7 @@ use Rattle.minijinja_syntax.specs.declared.tokens.Token.{Token}
 use Rattle.minijinja_syntax.specs.declared.tokens.Token.TheVariants.{TemplateData, VariableStart, BlockStart}
 use Rattle.minijinja_value.specs.Values.{Functions}
 use Rattle.minijinja_tree.specs.SpannedTrees.{Stmt, template, stmts_of}
-use Rattle.minijinja_grammar.specs.Forms.{Place, Turn, go_on, over, Form, pure, one, many, comes, Read, got, short, wrong, read_then, after, held_or_wrong, read_one, read_turn, if_held, read_any, reads, ◌>>=◌}
+use Rattle.minijinja_grammar.specs.Forms.{Place, Turn, go_on, Form, pure, one, comes, Read, got, short, wrong, read_then, after, held_or_wrong, read_one, read_turn, if_held, read_any, reads, ◌>>=◌}
 use Rattle.minijinja_grammar.specs.Grammar.{of_kind, expr_at, expanded}
 use Rattle.minijinja_grammar.specs.Templates.{begins_part, part, stmt_at, template_at}
 use Rattle.minijinja_grammar.proofs.Unrolled.{many_is}

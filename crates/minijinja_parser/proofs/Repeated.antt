@@ -4,7 +4,7 @@ use Rattle.minijinja_syntax.specs.Tokens.{Tok}
 use Rattle.minijinja_syntax.specs.Streams.{SpannedTok}
 use Rattle.minijinja_syntax.specs.declared.tokens.Span.{Span}
 use Rattle.minijinja_grammar.specs.Words.{is}
-use Rattle.minijinja_grammar.specs.Forms.{Place, Turn, go_on, over, Form, pure, one, many, comes, Read, got, short, wrong, read_then, after, held_or_wrong, read_one, read_turn, if_held, read_any, reads}
+use Rattle.minijinja_grammar.specs.Forms.{Place, Turn, go_on, Form, pure, one, many, comes, Read, got, read_then, read_one, read_turn, read_any, reads}
 use Rattle.minijinja_grammar.specs.Grammar.{next, span_of_mark}
 use Rattle.minijinja_grammar.proofs.Unrolled.{many_is}
 

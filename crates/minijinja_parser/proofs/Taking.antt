@@ -1,12 +1,11 @@
 -- Forms of one token, by the token taken.
-use Rattle.std.proofs.Common.{◌≡◌, Bool, true, false, List, [], ◌∷◌, if◌then◌else◌, Option, Some, None, refl, ap, ◌∙◌}
-use Rattle.minijinja_syntax.specs.Tokens.{Tok, ident}
-use Rattle.minijinja_syntax.specs.Texts.{Text}
+use Rattle.std.proofs.Common.{◌≡◌, Bool, true, false, List, [], ◌∷◌, if◌then◌else◌, Option, Some, None, refl, ◌∙◌}
+use Rattle.minijinja_syntax.specs.Tokens.{Tok}
 use Rattle.minijinja_syntax.specs.declared.tokens.Span.{Span}
 use Rattle.minijinja_grammar.specs.Words.{is}
 use Rattle.minijinja_syntax.specs.Streams.{SpannedTok}
-use Rattle.minijinja_grammar.specs.Forms.{Place, Form, one, Read, got, short, wrong, read_then, after, held_or_wrong, read_one, reads}
-use Rattle.minijinja_grammar.specs.Grammar.{next, of_kind, ident_and_span}
+use Rattle.minijinja_grammar.specs.Forms.{Place, one, Read, got, short, wrong, read_then, held_or_wrong, read_one, reads}
+use Rattle.minijinja_grammar.specs.Grammar.{next, ident_and_span}
 
 pub one_is : {A : Type 0} (held : SpannedTok → Option A) (p : Place) → reads (one held) p ≡ read_then (reads (one Some) p) (λ t q. held_or_wrong (held t) q)
 unfolding reads

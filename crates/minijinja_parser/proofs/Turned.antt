@@ -1,10 +1,10 @@
 -- Forms that ask whether a token comes, by what taking it gives.
-use Rattle.std.proofs.Common.{◌≡◌, ◌<◌, ◌≤◌, length, arith, Bool, true, false, List, [], ◌∷◌, if◌then◌else◌, Option, Some, None, refl, sym, ap, ◌∙◌}
+use Rattle.std.proofs.Common.{◌≡◌, ◌<◌, ◌≤◌, length, arith, Bool, true, false, List, [], ◌∷◌, if◌then◌else◌, Some, None, refl, ap, ◌∙◌}
 use Rattle.minijinja_syntax.specs.Tokens.{Tok, comma}
 use Rattle.minijinja_syntax.specs.declared.tokens.Span.{Span}
 use Rattle.minijinja_grammar.specs.Words.{is}
 use Rattle.minijinja_syntax.specs.Streams.{SpannedTok}
-use Rattle.minijinja_grammar.specs.Forms.{Place, Turn, go_on, over, Form, pure, one, and_then, either, many, comes, Read, got, short, wrong, read_then, after, held_or_wrong, read_one, read_turn, if_held, read_any, reads, ◌>>=◌, ◌>>◌}
+use Rattle.minijinja_grammar.specs.Forms.{Place, Turn, go_on, over, Form, pure, either, many, comes, Read, got, short, wrong, read_then, after, held_or_wrong, read_one, read_turn, if_held, read_any, reads, ◌>>=◌}
 use Rattle.minijinja_grammar.specs.Grammar.{next, items, behind, span_of_mark}
 use Rattle.minijinja_parser.specs.private.Reads.{eaten}
 use Rattle.minijinja_grammar.proofs.Unrolled.{many_is}

@@ -1,5 +1,5 @@
 -- Whole texts: what is derived of them where they are read whole, and where they are refused.
-use Rattle.std.proofs.Common.{◌≡◌, ◌≢◌, ◌⊎◌, inl, inr, List, [], ◌∷◌, Some, Result, Ok, Err, Option, refl, sym, ap, ◌∙◌}
+use Rattle.std.proofs.Common.{◌≡◌, ◌⊎◌, inl, inr, List, [], ◌∷◌, Some, Err, Option, refl, sym, ap, ◌∙◌}
 use Rattle.minijinja_syntax.specs.Errors.{kind_of, span_of}
 use Rattle.minijinja_syntax.specs.Streams.{SpannedTok, Ending, finished, refused}
 use Rattle.minijinja_syntax.specs.declared.tokens.Span.{Span}
@@ -13,7 +13,7 @@ use Rattle.minijinja_grammar.proofs.Staying.{Stays, stays}
 use Rattle.minijinja_grammar.proofs.Trees.{one_whole, fits_to_end}
 use Rattle.minijinja_grammar.proofs.Whole.{IsAtEnd}
 use Rattle.minijinja_parser.specs.Causes.{IsRefusal}
-use Rattle.minijinja_parser.specs.private.Wholes.{IsOver, IsRefused, IsCutAt, HasMisfit, ReadsWhole, IsOfEnding, IsErrorAt}
+use Rattle.minijinja_parser.specs.private.Wholes.{IsOver, IsCutAt, HasMisfit, ReadsWhole, IsOfEnding, IsErrorAt}
 use Rattle.minijinja_parser.specs.declared.refusal.Refusal.{Refusal}
 use Rattle.minijinja_parser.specs.declared.refusal.Refusal.TheVariants as refusal
 

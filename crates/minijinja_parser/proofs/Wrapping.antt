@@ -1,5 +1,5 @@
 -- Operators of one side, from the innermost on.
-use Rattle.std.proofs.Common.{◌≡◌, length, arith, List, [], ◌∷◌, ◌++◌, reverse, refl, sym, ap, ◌∙◌}
+use Rattle.std.proofs.Common.{◌≡◌, length, arith, List, [], ◌∷◌, ◌++◌, reverse, refl}
 use Rattle.std.proofs.lemmas.List.{reverse-append}
 use Rattle.minijinja_syntax.specs.declared.tokens.Span.{Span}
 use Rattle.minijinja_tree.specs.Tree.{UnaryOp}

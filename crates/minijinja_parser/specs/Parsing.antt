@@ -1,5 +1,5 @@
 -- What a parser says of itself, and how it ends.
-use Rattle.std.specs.Prelude.{◌≡◌, ◌⊎◌, [], Option, Result, Ok, Err}
+use Rattle.std.specs.Prelude.{◌≡◌, ◌⊎◌, Option, Result, Ok, Err}
 use Rattle.minijinja_syntax.specs.Texts.{Text}
 use Rattle.minijinja_syntax.specs.Errors.{kind_of, span_of}
 use Rattle.minijinja_syntax.specs.Streams.{ended, finished, refused}

@@ -1,5 +1,6 @@
 -- What proofs and the contracts of private functions cite.
 pub mod AtTokenStream
+pub mod Made
 pub mod Marks
 pub mod Reads
 pub mod Nests

@@ -1,17 +1,17 @@
 //! Names, constants and other parts in which no expression is nested.
-ghost use Rattle.std.specs.Prelude.{◌≡◌, ◌≤◌, IfOk};
+ghost use Rattle.std.specs.Prelude.{◌≡◌, IfOk};
 ghost use Rattle.std.specs.String.{string_bytes};
 ghost use Rattle.minijinja_syntax.specs.Positions.{slice};
 ghost use Rattle.minijinja_syntax.specs.Tokens.{tok_of};
 ghost use Rattle.minijinja_lexer.specs.Slices.{IsBetweenChars};
 ghost use Rattle.minijinja_grammar.specs.Forms.{nothing, reads};
 ghost use Rattle.minijinja_grammar.specs.Grammar as form;
+ghost use Rattle.minijinja_parser.specs.private.Primaries.{atom_at};
 ghost use Rattle.minijinja_parser.specs.private.Reads.{Reads};
 ghost use Rattle.minijinja_parser.specs.private.Texts.{Joins};
 ghost use Rattle.minijinja_tree.specs.SpannedErasure.{expr_node};
 ghost use Rattle.minijinja_tree.specs.SpannedTrees as tree;
 
-use crate::context::Context;
 use crate::marks::{Mark, Part};
 use crate::nodes;
 use crate::refusal::{Refusal, Wanted};
@@ -21,68 +21,89 @@ use minijinja_base::error::Expected;
 use minijinja_base::tokens::{Span, Token};
 use minijinja_base::value::TemplateValue;
 use minijinja_tree::ast::Expr;
-use std::alloc::AllocError;
+use std::alloc::{AllocError, Global};
 
 /// A constant or a variable.
 #[tactic(auto, unfolding(minijinja_grammar::specs::Grammar::word))]
-pub fn word<'s, V: TemplateValue>(
-    context: Context<V>,
+fn word<'s, V: TemplateValue>(
+    alloc: Global,
     word: &'s str,
     span: Span,
 ) -> Result<Expr<'s, V>, AllocError>
     ensures { IfOk result (λ e. expr_node V.contents e ≡ form.word V.functions word.now span) }
 {
     if is_true_word(word) {
-        nodes::constant(context.alloc, V::of_bool(true), span)
+        nodes::constant(alloc, V::of_bool(true), span)
     } else if is_false_word(word) {
-        nodes::constant(context.alloc, V::of_bool(false), span)
+        nodes::constant(alloc, V::of_bool(false), span)
     } else if is_none_word(word) {
-        nodes::constant(context.alloc, V::none(), span)
+        nodes::constant(alloc, V::none(), span)
     } else {
-        nodes::variable(context.alloc, word, span)
+        nodes::variable(alloc, word, span)
     }
 }
 
 /// An integer under 2^64.
-pub fn integer<'s, V: TemplateValue>(
-    context: Context<V>,
+fn integer<'s, V: TemplateValue>(
+    alloc: Global,
     value: u64,
     span: Span,
 ) -> Result<Expr<'s, V>, AllocError>
     ensures { IfOk result
         (λ e. expr_node V.contents e ≡ tree.constant (V.functions.of_u64 value) span) }
 {
-    nodes::constant(context.alloc, V::of_u64(value), span)
+    nodes::constant(alloc, V::of_u64(value), span)
 }
 
 /// An integer from 2^64 on.
-pub fn large_integer<'s, V: TemplateValue>(
-    context: Context<V>,
+fn large_integer<'s, V: TemplateValue>(
+    alloc: Global,
     value: u128,
     span: Span,
 ) -> Result<Expr<'s, V>, AllocError>
     ensures { IfOk result
         (λ e. expr_node V.contents e ≡ tree.constant (V.functions.of_u128 value) span) }
 {
-    nodes::constant(context.alloc, V::of_u128(context.alloc, value)?, span)
+    nodes::constant(alloc, V::of_u128(alloc, value)?, span)
 }
 
 /// The constant of a text.
 fn constant_text<'s, V: TemplateValue>(
-    context: Context<V>,
+    alloc: Global,
     text: &str,
     span: Span,
 ) -> Result<Expr<'s, V>, AllocError>
     ensures { IfOk result
         (λ e. expr_node V.contents e ≡ tree.constant (V.functions.of_str text.now) span) }
 {
-    nodes::constant(context.alloc, V::of_str(context.alloc, text)?, span)
+    nodes::constant(alloc, V::of_str(alloc, text)?, span)
+}
+
+/// A constant, a text or a variable, which begins with the token.
+#[tactic(auto, unfolding(minijinja_grammar::specs::Forms::reads, crate::specs::private::Primaries::atom_at))]
+pub fn atom<'s, V: TemplateValue>(
+    alloc: Global,
+    tokens: &mut TokenStream<'s, '_>,
+    first: Token<'s>,
+    from: Span,
+) -> Result<Expr<'s, V>, Refusal>
+    ensures { Reads (expr_node V.contents)
+        (atom_at V.functions (tok_of first.entry, from) tokens.old) result tokens.new }
+{
+    match first {
+        Token::Ident(name) => Ok(word(alloc, name, from)?),
+        Token::Str(plain) => text(alloc, tokens, plain, from),
+        Token::String(decoded) => joined_text(alloc, tokens, decoded, from),
+        Token::Int(value) => Ok(integer(alloc, value, from)?),
+        Token::Int128(value) => Ok(large_integer(alloc, *value, from)?),
+        _ => Err(Refusal::Wrong(Wanted::Part(Expected::Expression))),
+    }
 }
 
 /// A string without escapes, joined with its neighbours.
 #[tactic(auto, using(crate::proofs::Strings::texts_done))]
-pub fn text<'s, V: TemplateValue>(
-    context: Context<V>,
+fn text<'s, V: TemplateValue>(
+    alloc: Global,
     tokens: &mut TokenStream<'s, '_>,
     text: &'s str,
     from: Span,
@@ -91,17 +112,17 @@ pub fn text<'s, V: TemplateValue>(
         result tokens.new }
 {
     if !tokens.begins(Part::Text) {
-        return Ok(constant_text(context, text, tokens.expand_span(from))?);
+        return Ok(constant_text(alloc, text, tokens.expand_span(from))?);
     }
-    let mut joined = String::new(context.alloc);
+    let mut joined = String::new(alloc);
     joined.push_str(text)?;
-    joined_text(context, tokens, joined, from)
+    joined_text(alloc, tokens, joined, from)
 }
 
 /// A decoded string, joined with its neighbours.
 #[tactic(auto, using(crate::proofs::Strings::texts_done, crate::proofs::Strings::texts_more, crate::proofs::Parts::take_shorter))]
-pub fn joined_text<'s, V: TemplateValue>(
-    context: Context<V>,
+fn joined_text<'s, V: TemplateValue>(
+    alloc: Global,
     tokens: &mut TokenStream<'s, '_>,
     text: String,
     from: Span,
@@ -114,7 +135,7 @@ pub fn joined_text<'s, V: TemplateValue>(
         let (token, _) = tokens.take(Wanted::Part(Expected::String))?;
         push_text(&mut joined, &token)?;
     }
-    Ok(constant_text(context, joined.as_str(), tokens.expand_span(from))?)
+    Ok(constant_text(alloc, joined.as_str(), tokens.expand_span(from))?)
 }
 
 /// Adds the text of a string.
@@ -174,7 +195,7 @@ fn source_between<'s>(source: &'s str, first: Span, last: Span) -> &'s str
 /// What follows the `.` after an operand: an attribute, or an item at a number.
 #[tactic(auto, using(crate::proofs::Members::name_member, crate::proofs::Members::int_member, crate::proofs::Members::large_member, crate::proofs::Members::short_member, crate::proofs::Members::wrong_member, crate::proofs::Members::no_member))]
 pub fn member<'s, V: TemplateValue>(
-    context: Context<V>,
+    alloc: Global,
     tokens: &mut TokenStream<'s, '_>,
     expr: Expr<'s, V>,
     from: Span,
@@ -187,11 +208,11 @@ pub fn member<'s, V: TemplateValue>(
     let index = match token {
         Token::Ident(name) => {
             let span = tokens.expand_span(from);
-            return Ok(nodes::attribute(context.alloc, expr, name, span)?);
+            return Ok(nodes::attribute(alloc, expr, name, span)?);
         }
-        Token::Int(value) => integer(context, value, at)?,
-        Token::Int128(value) => large_integer(context, *value, at)?,
+        Token::Int(value) => integer(alloc, value, at)?,
+        Token::Int128(value) => large_integer(alloc, *value, at)?,
         _ => return Err(Refusal::Wrong(Wanted::Part(Expected::Identifier))),
     };
-    Ok(nodes::item(context.alloc, expr, index, tokens.expand_span(from))?)
+    Ok(nodes::item(alloc, expr, index, tokens.expand_span(from))?)
 }

@@ -2,14 +2,15 @@
 #![tactic(auto)]
 
 mod atoms;
-mod context;
 mod marks;
 mod nodes;
 mod operators;
 pub mod parser;
+mod reader;
 mod refusal;
 mod rules;
 mod statements;
 pub mod token_stream;
 mod tokens;
+mod tree_reader;
 mod words;

@@ -1,15 +1,14 @@
 //! Nodes, each on the heap. Refused memory is the only error.
-ghost use Rattle.std.specs.Prelude.{◌≡◌, ◌≤◌, length, map, reverse, IfOk};
+ghost use Rattle.std.specs.Prelude.{◌≡◌, ◌≤◌, length, map, IfOk};
 ghost use Rattle.std.specs.Option.{option_map};
-ghost use Rattle.minijinja_tree.specs.Erasure.{bin_op, compare_op, unary_op};
+ghost use Rattle.minijinja_tree.specs.Erasure.{bin_op, unary_op};
 ghost use Rattle.minijinja_tree.specs.SpannedErasure.{expr_node, stmt_node};
 ghost use Rattle.minijinja_tree.specs.Nodes.{node_of, span_of};
 ghost use Rattle.minijinja_tree.specs.BinOps as bin;
-ghost use Rattle.minijinja_tree.specs.Tree.{logical_not};
 ghost use Rattle.minijinja_tree.specs.SpannedTrees as tree;
-ghost use Rattle.minijinja_tree.specs.SpannedTrees.{present, stmts_of, args_of, exprs_of, optional_of};
+ghost use Rattle.minijinja_tree.specs.SpannedTrees.{present, stmts_of, args_of, comparisons_of, exprs_of, optional_of};
 ghost use Rattle.minijinja_grammar.specs.Grammar as form;
-ghost use Rattle.minijinja_grammar.specs.Grammar.{compare_all, compare_two, name_of_variable};
+ghost use Rattle.minijinja_grammar.specs.Grammar.{compare_all, name_of_variable};
 ghost use Rattle.minijinja_tree.specs.SpannedErasure.{all_compared, any_tree, args_view, trees};
 
 use minijinja_base::tokens::Span;
@@ -101,16 +100,24 @@ pub fn item<'s, V: TemplateValue>(
 /// A slice, whose parts may be absent.
 pub fn slice<'s, V: TemplateValue>(
     alloc: Global,
-    slice: Slice<'s, V>,
+    expr: Expr<'s, V>,
+    start: Option<Expr<'s, V>>,
+    stop: Option<Expr<'s, V>>,
+    step: Option<Expr<'s, V>>,
     span: Span,
 ) -> Result<Expr<'s, V>, AllocError>
     ensures tree { IfOk result (λ e. expr_node V.contents e ≡ tree.slice
-        (expr_node V.contents slice.entry.expr)
-        (optional_of (any_tree V.contents slice.entry.start))
-        (optional_of (any_tree V.contents slice.entry.stop))
-        (optional_of (any_tree V.contents slice.entry.step)) span) }
+        (expr_node V.contents expr.entry) (optional_of (any_tree V.contents start.entry))
+        (optional_of (any_tree V.contents stop.entry))
+        (optional_of (any_tree V.contents step.entry)) span) }
 {
-    Ok(Expr::Slice(spanned(alloc, slice, span)?))
+    let node = Slice {
+        expr,
+        start,
+        stop,
+        step,
+    };
+    Ok(Expr::Slice(spanned(alloc, node, span)?))
 }
 
 /// A unary operator on an operand.
@@ -124,31 +131,6 @@ pub fn unary<'s, V: TemplateValue>(
         (expr_node V.contents expr.entry) span) }
 {
     Ok(Expr::UnaryOp(spanned(alloc, UnaryOp { op, expr }, span)?))
-}
-
-/// An expression in operators of one side, which begin at these places, the innermost at the last, and end at one.
-pub fn wrapped<'s, V: TemplateValue>(
-    alloc: Global,
-    op: UnaryOpKind,
-    begins: Vec<Span>,
-    to: Span,
-    expr: Expr<'s, V>,
-) -> Result<Expr<'s, V>, AllocError>
-    ensures tree { IfOk result (λ e. expr_node V.contents e ≡
-        form.wrapped (unary_op op) to (reverse begins.items) (expr_node V.contents expr.entry)) }
-{
-    let mut begins = begins;
-    let mut expr = expr;
-    while let Some(begin) = begins.pop() {
-        let span = Span {
-            end_line: to.end_line,
-            end_col: to.end_col,
-            end_offset: to.end_offset,
-            ..begin
-        };
-        expr = unary(alloc, op, expr, span)?;
-    }
-    Ok(expr)
 }
 
 /// A binary operator on two operands.
@@ -165,54 +147,16 @@ pub fn binary<'s, V: TemplateValue>(
     Ok(Expr::BinOp(spanned(alloc, BinOp { op, left, right }, span)?))
 }
 
-/// `not in`: a negation of `in`.
-fn not_in<'s, V: TemplateValue>(
-    alloc: Global,
-    left: Expr<'s, V>,
-    right: Expr<'s, V>,
-    span: Span,
-) -> Result<Expr<'s, V>, AllocError>
-    ensures tree { IfOk result (λ e. expr_node V.contents e ≡ tree.unary logical_not
-        (tree.binary bin.is_in (expr_node V.contents left.entry)
-        (expr_node V.contents right.entry) span) span) }
-{
-    let inner = binary(alloc, BinOpKind::In, left, right, span)?;
-    unary(alloc, UnaryOpKind::Not, inner, span)
-}
-
-/// One comparison.
-pub fn comparison<'s, V: TemplateValue>(
-    alloc: Global,
-    op: CompareOpKind,
-    left: Expr<'s, V>,
-    right: Expr<'s, V>,
-    span: Span,
-) -> Result<Expr<'s, V>, AllocError>
-    ensures tree { IfOk result (λ e. expr_node V.contents e ≡ compare_two span (compare_op op)
-        (expr_node V.contents left.entry) (expr_node V.contents right.entry)) }
-{
-    match op {
-        CompareOpKind::Eq => binary(alloc, BinOpKind::Eq, left, right, span),
-        CompareOpKind::Ne => binary(alloc, BinOpKind::Ne, left, right, span),
-        CompareOpKind::Lt => binary(alloc, BinOpKind::Lt, left, right, span),
-        CompareOpKind::Lte => binary(alloc, BinOpKind::Lte, left, right, span),
-        CompareOpKind::Gt => binary(alloc, BinOpKind::Gt, left, right, span),
-        CompareOpKind::Gte => binary(alloc, BinOpKind::Gte, left, right, span),
-        CompareOpKind::In => binary(alloc, BinOpKind::In, left, right, span),
-        CompareOpKind::NotIn => not_in(alloc, left, right, span),
-    }
-}
-
-/// A chain of two comparisons or more.
+/// A chain of comparisons.
 pub fn compare<'s, V: TemplateValue>(
     alloc: Global,
     expr: Expr<'s, V>,
     ops: Vec<CompareOp<'s, V>>,
     span: Span,
 ) -> Result<Expr<'s, V>, AllocError>
-    ensures tree { IfOk result (λ e. 2 ≤ length ops.entry.items → expr_node V.contents e ≡
-        compare_all (expr_node V.contents expr.entry) (all_compared V.contents ops.entry.items)
-        span) }
+    ensures tree { IfOk result (λ e. expr_node V.contents e ≡ tree.compare
+        (expr_node V.contents expr.entry)
+        (comparisons_of (all_compared V.contents ops.entry.items)) span) }
 {
     Ok(Expr::Compare(spanned(alloc, Compare { expr, ops }, span)?))
 }
@@ -220,15 +164,21 @@ pub fn compare<'s, V: TemplateValue>(
 /// An if expression.
 pub fn if_expr<'s, V: TemplateValue>(
     alloc: Global,
-    if_expr: IfExpr<'s, V>,
+    test_expr: Expr<'s, V>,
+    true_expr: Expr<'s, V>,
+    false_expr: Option<Expr<'s, V>>,
     span: Span,
 ) -> Result<Expr<'s, V>, AllocError>
     ensures tree { IfOk result (λ e. expr_node V.contents e ≡ tree.if_expr
-        (expr_node V.contents if_expr.entry.test_expr)
-        (expr_node V.contents if_expr.entry.true_expr)
-        (optional_of (any_tree V.contents if_expr.entry.false_expr)) span) }
+        (expr_node V.contents test_expr.entry) (expr_node V.contents true_expr.entry)
+        (optional_of (any_tree V.contents false_expr.entry)) span) }
 {
-    Ok(Expr::IfExpr(spanned(alloc, if_expr, span)?))
+    let node = IfExpr {
+        test_expr,
+        true_expr,
+        false_expr,
+    };
+    Ok(Expr::IfExpr(spanned(alloc, node, span)?))
 }
 
 /// A filter of that operand.

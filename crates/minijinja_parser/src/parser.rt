@@ -20,18 +20,19 @@ ghost use Rattle.minijinja_parser.specs.Parsing.{HasRefused, IsSpent};
 ghost use Rattle.minijinja_parser.specs.TokenStreams.{Comes, no_place, stream_at};
 ghost use Rattle.minijinja_parser.specs.private.Wholes.{Ends, IsErrorAt, ReadsWhole};
 
-use crate::context::Context;
 use crate::marks::expected;
 use crate::refusal::{Refusal, Wanted};
 use crate::rules::conditions::expr;
 use crate::statements::template;
 pub use crate::token_stream::TokenStream;
+use crate::tree_reader::TreeReader;
 use minijinja_base::error::{Detail, Error, ErrorKind, Expected};
 use minijinja_base::syntax::SyntaxConfig;
 use minijinja_base::value::TemplateValue;
 use minijinja_tree::ast::{Expr, Stmt};
 use std::alloc::{AllocError, Global};
 use std::marker::{Model, PhantomData};
+use std::mem;
 
 /// How deep statements and expressions may nest.
 const MAX_DEPTH: usize = 150;
@@ -47,6 +48,7 @@ pub const EXPRESSION_NAME: &str = "<expression>";
 pub struct Parser<'s, 'c> {
     tokens: TokenStream<'s, 'c>,
     filename: &'s str,
+    syntax: &'c SyntaxConfig,
     alloc: Global,
 }
 
@@ -78,6 +80,7 @@ impl<'s, 'c> Parser<'s, 'c> {
         Parser {
             tokens: TokenStream::new(alloc, source, filename, in_expr, syntax),
             filename,
+            syntax,
             alloc,
         }
     }
@@ -201,12 +204,24 @@ impl<'s, 'c> Parser<'s, 'c> {
         }
     }
 
-    /// Where nodes are put.
-    fn context<V: TemplateValue>(&self) -> Context<V> {
-        Context {
+    /// All tokens that are left, of which none stays.
+    fn take_tokens(&mut self) -> TokenStream<'s, 'c>
+        ensures taken { result ≡ self.old.place }
+        ensures filename { self.new.filename ≡ self.old.filename }
+    {
+        let none = TokenStream::new(self.alloc, "", self.filename, false, self.syntax);
+        mem::replace(&mut self.tokens, none)
+    }
+
+    /// The tokens that are left, to be read into nodes.
+    fn take_reader<V: TemplateValue>(&mut self) -> TreeReader<'s, 'c, V>
+        ensures taken { result.tokens ≡ self.old.place }
+        ensures filename { self.new.filename ≡ self.old.filename }
+    {
+        TreeReader {
+            tokens: self.take_tokens(),
             alloc: self.alloc,
             values: PhantomData,
-            faults: PhantomData,
         }
     }
 
@@ -216,7 +231,10 @@ impl<'s, 'c> Parser<'s, 'c> {
             (reads (template_at V.functions max_depth) self.old.place) result self.new.place }
         ensures filename { self.new.filename ≡ self.old.filename }
     {
-        let template = template(self.context(), &mut self.tokens, MAX_DEPTH)?;
+        let mut reader = self.take_reader();
+        let read = template(&mut reader, MAX_DEPTH);
+        self.tokens = reader.tokens;
+        let template = read?;
         self.end()?;
         Ok(template)
     }
@@ -227,7 +245,10 @@ impl<'s, 'c> Parser<'s, 'c> {
             (reads (expr_at V.functions max_depth) self.old.place) result self.new.place }
         ensures filename { self.new.filename ≡ self.old.filename }
     {
-        let expr = expr(self.context(), &mut self.tokens, MAX_DEPTH)?;
+        let mut reader = self.take_reader();
+        let read = expr(&mut reader, PhantomData, MAX_DEPTH);
+        self.tokens = reader.tokens;
+        let expr = read?;
         self.end()?;
         Ok(expr)
     }

@@ -1,16 +1,13 @@
-//! Rules of expressions, a function each. They take the parser of nested expressions as a parameter, so that each is proved by
-//! itself.
+//! Rules of expressions, a function each, over what they read from and what they make. They take the parser of nested
+//! expressions as a parameter, so that each is proved by itself.
 ghost use Rattle.minijinja_grammar.specs.Forms.{reads};
 ghost use Rattle.minijinja_grammar.specs.Grammar.{expr_at};
 ghost use Rattle.minijinja_parser.specs.private.Nests.{Nests};
 ghost use Rattle.minijinja_parser.specs.private.Reads.{Reads};
-ghost use Rattle.minijinja_tree.specs.SpannedErasure.{expr_node};
 
-use crate::context::Context;
+use crate::reader::Nodes;
 use crate::refusal::Refusal;
-use crate::token_stream::TokenStream;
-use minijinja_base::value::TemplateValue;
-use minijinja_tree::ast::Expr;
+use std::marker::PhantomData;
 
 mod arguments;
 pub mod conditions;
@@ -18,12 +15,13 @@ mod literals;
 mod operands;
 mod operators;
 mod suffixes;
+mod wrapping;
 
 /// The rules, over the parser of what is nested: an expression in which expressions and primaries nest `depth` deep at most.
 #[derive(Clone, Copy)]
-pub struct Rules<V: TemplateValue, F> {
-    /// Where nodes are put.
-    pub context: Context<V>,
+pub struct Rules<R, F> {
+    /// What is read from.
+    pub reader: PhantomData<R>,
     /// How deep expressions may nest.
     pub depth: usize,
     /// The parser of an expression of at most a depth.
@@ -31,20 +29,15 @@ pub struct Rules<V: TemplateValue, F> {
 }
 
 impl<
-    V: TemplateValue,
-    F: Copy
-        + for<'x, 'y> Fn(
-            Context<V>,
-            &mut TokenStream<'x, 'y>,
-            usize,
-        ) -> Result<Expr<'x, V>, Refusal>,
-> Rules<V, F> {
+    R: Nodes,
+    F: Copy + for<'x> Fn(&'x mut R, PhantomData<R::Expr>, usize) -> Result<R::Expr, Refusal>,
+> Rules<R, F> {
     /// A nested expression.
-    fn nested<'s>(&self, tokens: &mut TokenStream<'s, '_>) -> Result<Expr<'s, V>, Refusal>
-        requires { Nests V.contents V.functions self.now.depth F.pre F.post self.now.expr }
-        ensures { Reads (expr_node V.contents)
-            (reads (expr_at V.functions self.now.depth) tokens.old) result tokens.new }
+    fn nested(&self, tokens: &mut R) -> Result<R::Expr, Refusal>
+        requires { Nests R.place R.tree R.functions self.now.depth F.pre F.post self.now.expr }
+        ensures { Reads R.tree (reads (expr_at R.functions self.now.depth) (R.place tokens.old))
+            result (R.place tokens.new) }
     {
-        (self.expr)(self.context, tokens, self.depth)
+        (self.expr)(tokens, PhantomData, self.depth)
     }
 }

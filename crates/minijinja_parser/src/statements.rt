@@ -1,5 +1,4 @@
 //! Templates: their data, outputs and statements.
-ghost use Rattle.std.specs.Prelude.{◌≡◌};
 ghost use Rattle.minijinja_syntax.specs.Tokens.{tok_of};
 ghost use Rattle.minijinja_grammar.specs.Forms.{reads};
 ghost use Rattle.minijinja_grammar.specs.Grammar.{expr_at};
@@ -8,107 +7,101 @@ ghost use Rattle.minijinja_parser.specs.private.Reads.{Reads};
 ghost use Rattle.minijinja_parser.specs.private.Parts.{part_at};
 ghost use Rattle.minijinja_tree.specs.SpannedErasure.{expr_node, stmt_node};
 
-use crate::context::Context;
 use crate::marks::{Mark, Part};
 use crate::nodes;
 use crate::refusal::{Refusal, Wanted};
 use crate::rules::conditions::expr;
-use crate::token_stream::TokenStream;
+use crate::tree_reader::TreeReader;
 use crate::words::is_reserved;
 use minijinja_base::error::Expected;
 use minijinja_base::tokens::{Span, Token};
 use minijinja_base::value::TemplateValue;
 use minijinja_tree::ast::{Expr, Set, Stmt};
+use std::marker::PhantomData;
 
 /// What may be assigned to.
 #[tactic(auto, unfolding(minijinja_grammar::specs::Forms::reads, minijinja_grammar::specs::Templates::target))]
-fn target<'s, V: TemplateValue>(
-    context: Context<V>,
-    tokens: &mut TokenStream<'s, '_>,
-) -> Result<Expr<'s, V>, Refusal>
-    ensures { Reads (expr_node V.contents) (reads form.target tokens.old) result tokens.new }
+fn target<'s, V: TemplateValue>(reader: &mut TreeReader<'s, '_, V>) -> Result<Expr<'s, V>, Refusal>
+    ensures { Reads (expr_node V.contents) (reads form.target reader.old.tokens) result
+        reader.new.tokens }
 {
-    let (name, span) = tokens.ident(Wanted::Part(Expected::Identifier))?;
+    let (name, span) = reader.tokens.ident(Wanted::Part(Expected::Identifier))?;
     if name == "in" {
         return Err(Refusal::Wrong(Wanted::Part(Expected::Identifier)));
     }
     if is_reserved(name) {
         return Err(Refusal::Wrong(Wanted::Target));
     }
-    Ok(nodes::variable(context.alloc, name, span)?)
+    Ok(nodes::variable(reader.alloc, name, span)?)
 }
 
 /// A statement, from its first word on, in which statements and expressions nest `depth` deep at most.
 #[tactic(auto, unfolding(minijinja_grammar::specs::Forms::reads, minijinja_grammar::specs::Templates::stmt_at, minijinja_grammar::specs::Templates::stmt))]
 fn stmt<'s, V: TemplateValue>(
-    context: Context<V>,
-    tokens: &mut TokenStream<'s, '_>,
+    reader: &mut TreeReader<'s, '_, V>,
     depth: usize,
 ) -> Result<Stmt<'s, V>, Refusal>
-    ensures { Reads (stmt_node V.contents) (reads (form.stmt_at V.functions depth) tokens.old)
-        result tokens.new }
+    ensures { Reads (stmt_node V.contents) (reads (form.stmt_at V.functions depth)
+        reader.old.tokens) result reader.new.tokens }
 {
     if depth == 0 {
-        return Err(tokens.misfit(Wanted::Flatter));
+        return Err(reader.tokens.misfit(Wanted::Flatter));
     }
-    let (word, from) = tokens.ident(Wanted::Part(Expected::BlockKeyword))?;
+    let (word, from) = reader.tokens.ident(Wanted::Part(Expected::BlockKeyword))?;
     if word != "set" {
         return Err(Refusal::Wrong(Wanted::Statement));
     }
-    let target = target(context, tokens)?;
-    tokens.expect(Mark::Assign)?;
-    let expr = expr(context, tokens, depth - 1)?;
+    let target = target(reader)?;
+    reader.tokens.expect(Mark::Assign)?;
+    let expr = expr(reader, PhantomData, depth - 1)?;
     let node = Set { target, expr };
-    Ok(nodes::assignment(context.alloc, node, tokens.expand_span(from))?)
+    Ok(nodes::assignment(reader.alloc, node, reader.tokens.expand_span(from))?)
 }
 
 /// An output, after its start.
 #[tactic(auto, unfolding(minijinja_grammar::specs::Forms::reads, minijinja_grammar::specs::Templates::shown))]
 fn output<'s, V: TemplateValue>(
-    context: Context<V>,
-    tokens: &mut TokenStream<'s, '_>,
+    reader: &mut TreeReader<'s, '_, V>,
     from: Span,
     depth: usize,
 ) -> Result<Stmt<'s, V>, Refusal>
-    ensures { Reads (stmt_node V.contents)
-        (reads (form.shown (expr_at V.functions depth) from) tokens.old) result tokens.new }
+    ensures { Reads (stmt_node V.contents) (reads (form.shown (expr_at V.functions depth) from)
+        reader.old.tokens) result reader.new.tokens }
 {
-    let expr = expr(context, tokens, depth)?;
-    let span = tokens.expand_span(from);
-    tokens.expect(Mark::VariableEnd)?;
-    Ok(nodes::output(context.alloc, expr, span)?)
+    let expr = expr(reader, PhantomData, depth)?;
+    let span = reader.tokens.expand_span(from);
+    reader.tokens.expect(Mark::VariableEnd)?;
+    Ok(nodes::output(reader.alloc, expr, span)?)
 }
 
 /// A statement and the end of its tag, after the start of it.
 #[tactic(auto, unfolding(minijinja_grammar::specs::Forms::reads, minijinja_grammar::specs::Templates::tag))]
 fn tag<'s, V: TemplateValue>(
-    context: Context<V>,
-    tokens: &mut TokenStream<'s, '_>,
+    reader: &mut TreeReader<'s, '_, V>,
     depth: usize,
 ) -> Result<Stmt<'s, V>, Refusal>
-    ensures { Reads (stmt_node V.contents)
-        (reads (form.tag (form.stmt_at V.functions depth)) tokens.old) result tokens.new }
+    ensures { Reads (stmt_node V.contents) (reads (form.tag (form.stmt_at V.functions depth))
+        reader.old.tokens) result reader.new.tokens }
 {
-    let stmt = stmt(context, tokens, depth)?;
-    tokens.expect(Mark::BlockEnd)?;
+    let stmt = stmt(reader, depth)?;
+    reader.tokens.expect(Mark::BlockEnd)?;
     Ok(stmt)
 }
 
 /// Data, an output or a statement, which begins with the token.
 fn part<'s, V: TemplateValue>(
-    context: Context<V>,
-    tokens: &mut TokenStream<'s, '_>,
+    reader: &mut TreeReader<'s, '_, V>,
     token: Token<'s>,
     span: Span,
     depth: usize,
 ) -> Result<Stmt<'s, V>, Refusal>
-    ensures { Reads (stmt_node V.contents)
-        (part_at V.functions depth (tok_of token.entry, span) tokens.old) result tokens.new }
+    ensures { Reads (stmt_node V.contents) (part_at V.functions depth (tok_of token.entry, span)
+        reader.old.tokens) result reader.new.tokens }
 {
     match token {
-        Token::TemplateData(raw) => Ok(nodes::data(context.alloc, raw, span)?),
-        Token::VariableStart => output(context, tokens, span, depth),
-        Token::BlockStart => tag(context, tokens, depth),
+        Token::TemplateData(raw) => Ok(nodes::data(reader.alloc, raw, span)?),
+        Token::VariableStart => output(reader, span, depth),
+        Token::BlockStart => tag(reader, depth),
         _ => Err(Refusal::Wrong(Wanted::Part(Expected::Part))),
     }
 }
@@ -116,18 +109,17 @@ fn part<'s, V: TemplateValue>(
 /// A template, as far as its parts go.
 #[tactic(auto, using(crate::proofs::Parts::template_is, crate::proofs::Parts::parts_more, crate::proofs::Parts::parts_done, crate::proofs::Parts::take_shorter, crate::proofs::Parts::part_no_longer))]
 pub fn template<'s, V: TemplateValue>(
-    context: Context<V>,
-    tokens: &mut TokenStream<'s, '_>,
+    reader: &mut TreeReader<'s, '_, V>,
     depth: usize,
 ) -> Result<Stmt<'s, V>, Refusal>
-    ensures { Reads (stmt_node V.contents) (reads (form.template_at V.functions depth) tokens.old)
-        result tokens.new }
+    ensures { Reads (stmt_node V.contents) (reads (form.template_at V.functions depth)
+        reader.old.tokens) result reader.new.tokens }
 {
-    let from = tokens.last_span();
-    let mut children = Vec::new(context.alloc);
-    while tokens.begins(Part::Template) {
-        let (token, span) = tokens.take(Wanted::Part(Expected::Part))?;
-        children.push(part(context, tokens, token, span, depth)?)?;
+    let from = reader.tokens.last_span();
+    let mut children = Vec::new(reader.alloc);
+    while reader.tokens.begins(Part::Template) {
+        let (token, span) = reader.tokens.take(Wanted::Part(Expected::Part))?;
+        children.push(part(reader, token, span, depth)?)?;
     }
-    Ok(nodes::template(context.alloc, children, tokens.expand_span(from))?)
+    Ok(nodes::template(reader.alloc, children, reader.tokens.expand_span(from))?)
 }

@@ -1,5 +1,6 @@
 -- The tree that a node stands for, with its spans, and with values seen as what they hold.
-use Rattle.std.specs.Prelude.{List, [], ◌∷◌, map, Option, Some, None}
+use Rattle.std.specs.Prelude.{List, [], ◌∷◌, map, Option}
+use Rattle.std.specs.Option.{option_map}
 use Rattle.minijinja_syntax.specs.declared.tokens.Span.{Span}
 use Rattle.minijinja_tree.specs.declared.ast.CallArg.{CallArg}
 use Rattle.minijinja_tree.specs.declared.ast.CallArg.TheVariants.{Pos, Kwarg, PosSplat, KwargSplat}
@@ -62,8 +63,7 @@ abbrev pub trees : {V F C : Type 0} → (V → C) → List (Expr V F) → List (
 trees c es = map (expr_node c) es
 
 abbrev pub any_tree : {V F C : Type 0} → (V → C) → Option (Expr V F) → Option (tree.Expr C)
-any_tree c None = None
-any_tree c (Some e) = Some (expr_node c e)
+any_tree c e = option_map (expr_node c) e
 
 abbrev pub arg_view : {V F C : Type 0} → (V → C) → CallArg V F → tree.Arg C
 arg_view c (Pos e) = tree.positional (expr_node c e)

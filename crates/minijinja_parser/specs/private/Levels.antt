@@ -1,7 +1,5 @@
 -- The levels of operators that the code climbs, as rows of the grammar.
 use Rattle.std.specs.Prelude.{ℕ, nat_lt, Bool, if◌then◌else◌, List, [], ◌∷◌, Option, Some, None}
-use Rattle.std.specs.Str.{bytes_eq}
-use Rattle.std.specs.Prelude.{codes}
 use Rattle.minijinja_syntax.specs.Streams.{SpannedTok}
 use Rattle.minijinja_syntax.specs.Tokens as tok
 use Rattle.minijinja_syntax.specs.Tokens.{Tok}
@@ -9,7 +7,7 @@ use Rattle.minijinja_tree.specs.CompareOps.{CompareOp}
 use Rattle.minijinja_tree.specs.SpannedTrees.{Expr}
 use Rattle.minijinja_tree.specs.declared.ast.BinOpKind.TheVariants as op
 use Rattle.minijinja_tree.specs.Erasure.{bin_op}
-use Rattle.minijinja_grammar.specs.Words.{is, and_word, or_word, begins_comparison, compare_op, or_op, and_op, sum_op, cat_op, term_op, pow_op}
+use Rattle.minijinja_grammar.specs.Words.{is, and_word, or_word, begins_comparison, compare_op, and_op, sum_op, cat_op, term_op, pow_op}
 use Rattle.minijinja_grammar.specs.Forms.{Place, Read, Form, got, one, read_then, reads}
 use Rattle.minijinja_grammar.specs.Grammar.{of_kind, compare_operator}
 use Rattle.minijinja_grammar.specs.private.Climbing.{Row, binaries, comparing, all_rows, Infix, binary_of, comparing_of}

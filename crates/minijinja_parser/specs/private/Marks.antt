@@ -29,6 +29,7 @@ mark_tok mark.ParenOpen = tok.paren_open
 mark_tok mark.ParenClose = tok.paren_close
 mark_tok mark.BracketOpen = tok.bracket_open
 mark_tok mark.BracketClose = tok.bracket_close
+mark_tok mark.BraceOpen = tok.brace_open
 mark_tok mark.BraceClose = tok.brace_close
 mark_tok mark.VariableEnd = tok.variable_end
 mark_tok mark.BlockEnd = tok.block_end

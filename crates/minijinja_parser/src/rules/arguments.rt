@@ -1,43 +1,41 @@
 //! The arguments of calls, filters and tests.
-ghost use Rattle.std.specs.Prelude.{◌≡◌, ◌&&◌, List, [], length, if◌then◌else◌, IfSome, is_none};
+ghost use Rattle.std.specs.Prelude.{◌≡◌, ◌&&◌, List, [], length, map, IfSome, is_none, if◌then◌else◌};
 ghost use Rattle.minijinja_grammar.specs.Forms.{reads};
 ghost use Rattle.minijinja_grammar.specs.Grammar as form;
 ghost use Rattle.minijinja_grammar.specs.Grammar.{expr_at, has_named, is_allowed};
+ghost use Rattle.minijinja_parser.specs.private.Made.{argument_of};
 ghost use Rattle.minijinja_parser.specs.private.Nests.{Nests};
 ghost use Rattle.minijinja_parser.specs.private.Reads.{Reads};
-ghost use Rattle.minijinja_tree.specs.SpannedErasure.{arg_view, args_view, expr_node};
 ghost use Rattle.minijinja_tree.specs.SpannedTrees.{Arg};
 
-use crate::context::Context;
 use crate::marks::{Mark, Part};
-use crate::nodes;
+use crate::reader::{Argument, Nodes};
 use crate::refusal::{Refusal, Wanted};
 use crate::rules::Rules;
-use crate::token_stream::TokenStream;
-use minijinja_base::value::TemplateValue;
-use minijinja_tree::ast::{CallArg, Expr, MOST_ARGUMENTS};
+use minijinja_tree::ast::MOST_ARGUMENTS;
+use std::marker::PhantomData;
 
 /// Whether the argument is a keyword argument or a `**`.
-fn is_named<V: TemplateValue>(arg: &CallArg<'_, V>) -> bool
-    ensures { result ≡ form.is_named (arg_view V.contents arg.now) }
+fn is_named<R: Nodes>(arg: &Argument<R::Name, R::Expr>) -> bool
+    ensures { result ≡ form.is_named (argument_of R.text R.tree arg.now) }
 {
-    matches!(arg, CallArg::Kwarg(_, _) | CallArg::KwargSplat(_))
+    matches!(arg, Argument::Keyword(_, _) | Argument::DoubleStarred(_))
 }
 
-fn is_plain<V: TemplateValue>(arg: &CallArg<'_, V>) -> bool
-    ensures { result ≡ form.is_plain (arg_view V.contents arg.now) }
+fn is_plain<R: Nodes>(arg: &Argument<R::Name, R::Expr>) -> bool
+    ensures { result ≡ form.is_plain (argument_of R.text R.tree arg.now) }
 {
-    matches!(arg, CallArg::Pos(_))
+    matches!(arg, Argument::Positional(_))
 }
 
 /// What is wrong with one argument more, after `count` arguments of which one is named or none.
-fn fault<V: TemplateValue>(arg: &CallArg<'_, V>, count: usize, named: bool) -> Option<Wanted>
-    ensures none { (xs : List (Arg V.Contents)) → length xs ≡ count → has_named xs ≡ named →
-        is_none result ≡ is_allowed xs (arg_view V.contents arg.now) }
-    ensures which { IfSome result (λ w. w ≡ (if form.is_plain (arg_view V.contents arg.now) && named
+fn fault<R: Nodes>(arg: &Argument<R::Name, R::Expr>, count: usize, named: bool) -> Option<Wanted>
+    ensures none { (xs : List (Arg R.Contents)) → length xs ≡ count → has_named xs ≡ named →
+        is_none result ≡ is_allowed xs (argument_of R.text R.tree arg.now) }
+    ensures which { IfSome result (λ w. w ≡ (if form.is_plain (argument_of R.text R.tree arg.now) && named
         then Wanted.Keyword else Wanted.FewerArguments)) }
 {
-    if named && is_plain(arg) {
+    if named && is_plain::<R>(arg) {
         return Some(Wanted::Keyword);
     }
     if count >= MOST_ARGUMENTS {
@@ -47,23 +45,15 @@ fn fault<V: TemplateValue>(arg: &CallArg<'_, V>, count: usize, named: bool) -> O
 }
 
 impl<
-    V: TemplateValue,
-    F: Copy
-        + for<'x, 'y> Fn(
-            Context<V>,
-            &mut TokenStream<'x, 'y>,
-            usize,
-        ) -> Result<Expr<'x, V>, Refusal>,
-> Rules<V, F> {
+    R: Nodes,
+    F: Copy + for<'x> Fn(&'x mut R, PhantomData<R::Expr>, usize) -> Result<R::Expr, Refusal>,
+> Rules<R, F> {
     /// The arguments in parentheses, after the opening one.
     #[tactic(auto, unfolding(minijinja_grammar::specs::Forms::reads, minijinja_grammar::specs::Grammar::args))]
-    pub(crate) fn args<'s>(
-        &self,
-        tokens: &mut TokenStream<'s, '_>,
-    ) -> Result<Vec<CallArg<'s, V>>, Refusal>
-        requires { Nests V.contents V.functions self.now.depth F.pre F.post self.now.expr }
-        ensures { Reads (λ v. args_view V.contents v.items)
-            (reads (form.args (expr_at V.functions self.now.depth)) tokens.old) result tokens.new }
+    pub(crate) fn args(&self, tokens: &mut R) -> Result<Vec<R::Arg>, Refusal>
+        requires { Nests R.place R.tree R.functions self.now.depth F.pre F.post self.now.expr }
+        ensures { Reads (λ v. map R.arg v.items) (reads (form.args (expr_at R.functions
+            self.now.depth)) (R.place tokens.old)) result (R.place tokens.new) }
     {
         let args = self.arg_items(tokens)?;
         tokens.expect(Mark::ParenClose)?;
@@ -72,24 +62,20 @@ impl<
 
     /// The arguments between the parentheses.
     #[tactic(auto, using(crate::proofs::CallArgs::arg_items_more, crate::proofs::CallArgs::arg_items_done))]
-    fn arg_items<'s>(
-        &self,
-        tokens: &mut TokenStream<'s, '_>,
-    ) -> Result<Vec<CallArg<'s, V>>, Refusal>
-        requires { Nests V.contents V.functions self.now.depth F.pre F.post self.now.expr }
-        ensures { Reads (λ v. args_view V.contents v.items)
-            (reads (form.arg_items (expr_at V.functions self.now.depth) []) tokens.old) result
-            tokens.new }
+    fn arg_items(&self, tokens: &mut R) -> Result<Vec<R::Arg>, Refusal>
+        requires { Nests R.place R.tree R.functions self.now.depth F.pre F.post self.now.expr }
+        ensures { Reads (λ v. map R.arg v.items) (reads (form.arg_items (expr_at R.functions
+            self.now.depth) []) (R.place tokens.old)) result (R.place tokens.new) }
     {
-        let mut args = Vec::new(self.context.alloc);
+        let mut args = Vec::new(tokens.alloc());
         let mut named = false;
         while tokens.begins(Part::Arg) {
             let arg = self.arg(tokens)?;
-            if let Some(fault) = fault(&arg, args.len(), named) {
+            if let Some(fault) = fault::<R>(&arg, args.len(), named) {
                 return Err(tokens.misfit(fault));
             }
-            named = named || is_named(&arg);
-            args.push(arg)?;
+            named = named || is_named::<R>(&arg);
+            args.push(R::argument(arg))?;
             if !tokens.eat(Mark::Comma)? {
                 return Ok(args);
             }
@@ -99,16 +85,16 @@ impl<
 
     /// An argument.
     #[tactic(auto, using(crate::proofs::CallArgs::arg_is))]
-    fn arg<'s>(&self, tokens: &mut TokenStream<'s, '_>) -> Result<CallArg<'s, V>, Refusal>
-        requires { Nests V.contents V.functions self.now.depth F.pre F.post self.now.expr }
-        ensures { Reads (arg_view V.contents)
-            (reads (form.arg (expr_at V.functions self.now.depth)) tokens.old) result tokens.new }
+    fn arg(&self, tokens: &mut R) -> Result<Argument<R::Name, R::Expr>, Refusal>
+        requires { Nests R.place R.tree R.functions self.now.depth F.pre F.post self.now.expr }
+        ensures { Reads (argument_of R.text R.tree) (reads (form.arg (expr_at R.functions self.now.depth)) (R.place
+            tokens.old)) result (R.place tokens.new) }
     {
         if tokens.eat(Mark::Mul)? {
-            return Ok(CallArg::PosSplat(self.nested(tokens)?));
+            return Ok(Argument::Starred(self.nested(tokens)?));
         }
         if tokens.eat(Mark::Pow)? {
-            return Ok(CallArg::KwargSplat(self.nested(tokens)?));
+            return Ok(Argument::DoubleStarred(self.nested(tokens)?));
         }
         let expr = self.nested(tokens)?;
         self.rest_of_arg(tokens, expr)
@@ -116,38 +102,34 @@ impl<
 
     /// An argument, whose first expression is read.
     #[tactic(auto, using(crate::proofs::CallArgs::rest_of_arg_is))]
-    fn rest_of_arg<'s>(
+    fn rest_of_arg(
         &self,
-        tokens: &mut TokenStream<'s, '_>,
-        expr: Expr<'s, V>,
-    ) -> Result<CallArg<'s, V>, Refusal>
-        requires { Nests V.contents V.functions self.now.depth F.pre F.post self.now.expr }
-        ensures { Reads (arg_view V.contents) (reads (form.rest_of_arg
-            (expr_at V.functions self.now.depth) (expr_node V.contents expr.entry))
-            tokens.old) result tokens.new }
+        tokens: &mut R,
+        expr: R::Expr,
+    ) -> Result<Argument<R::Name, R::Expr>, Refusal>
+        requires { Nests R.place R.tree R.functions self.now.depth F.pre F.post self.now.expr }
+        ensures { Reads (argument_of R.text R.tree) (reads (form.rest_of_arg
+            (expr_at R.functions self.now.depth) (R.tree expr))
+            (R.place tokens.old)) result (R.place tokens.new) }
     {
-        let Some(name) = nodes::variable_name(&expr) else {
-            return Ok(CallArg::Pos(expr));
+        let Some(name) = R::variable_name(&expr) else {
+            return Ok(Argument::Positional(expr));
         };
         if !tokens.eat(Mark::Assign)? {
-            return Ok(CallArg::Pos(expr));
+            return Ok(Argument::Positional(expr));
         }
-        Ok(CallArg::Kwarg(name, self.nested(tokens)?))
+        Ok(Argument::Keyword(name, self.nested(tokens)?))
     }
 
     /// The arguments of a filter, if there are any.
     #[tactic(auto, using(crate::proofs::Turned::behind_is), unfolding(minijinja_grammar::specs::Forms::reads))]
-    pub(crate) fn maybe_args<'s>(
-        &self,
-        tokens: &mut TokenStream<'s, '_>,
-    ) -> Result<Vec<CallArg<'s, V>>, Refusal>
-        requires { Nests V.contents V.functions self.now.depth F.pre F.post self.now.expr }
-        ensures { Reads (λ v. args_view V.contents v.items)
-            (reads (form.maybe_args (expr_at V.functions self.now.depth)) tokens.old) result
-            tokens.new }
+    pub(crate) fn maybe_args(&self, tokens: &mut R) -> Result<Vec<R::Arg>, Refusal>
+        requires { Nests R.place R.tree R.functions self.now.depth F.pre F.post self.now.expr }
+        ensures { Reads (λ v. map R.arg v.items) (reads (form.maybe_args (expr_at R.functions
+            self.now.depth)) (R.place tokens.old)) result (R.place tokens.new) }
     {
         if !tokens.eat(Mark::ParenOpen)? {
-            return Ok(Vec::new(self.context.alloc));
+            return Ok(Vec::new(tokens.alloc()));
         }
         self.args(tokens)
     }

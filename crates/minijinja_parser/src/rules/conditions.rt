@@ -6,39 +6,34 @@ ghost use Rattle.minijinja_grammar.specs.Grammar.{expr_at, primary_at, or_level}
 ghost use Rattle.minijinja_parser.specs.private.Nests.{Nests};
 ghost use Rattle.minijinja_parser.specs.private.Reads.{Reads};
 ghost use Rattle.minijinja_parser.specs.private.Conditions.{ifs_at, waiting_view};
-ghost use Rattle.minijinja_tree.specs.SpannedErasure.{expr_node};
 
-use crate::context::Context;
 use crate::marks::Mark;
-use crate::nodes;
 use crate::operators::Level;
+use crate::reader::{Node, Nodes};
 use crate::refusal::{Refusal, Wanted};
 use crate::rules::Rules;
-use crate::token_stream::TokenStream;
 use minijinja_base::tokens::Span;
-use minijinja_base::value::TemplateValue;
-use minijinja_tree::ast::{Expr, IfExpr};
 use std::alloc::AllocError;
+use std::marker::PhantomData;
 use std::mem;
 
 /// The true part and the test of an if expression that waits for its else part, and where it begins.
 #[derive(Drop)]
-pub struct Waiting<'s, V: TemplateValue> {
+pub struct Waiting<E> {
     pub from: Span,
-    pub true_expr: Expr<'s, V>,
-    pub test_expr: Expr<'s, V>,
+    pub true_expr: E,
+    pub test_expr: E,
 }
 
 /// The expression, as the else part of the last if that waits, and so on.
-fn closed<'s, V: TemplateValue>(
-    context: Context<V>,
-    waiting: Vec<Waiting<'s, V>>,
+fn closed<R: Nodes>(
+    nodes: &R,
+    waiting: Vec<Waiting<R::Expr>>,
     to: Span,
-    expr: Expr<'s, V>,
-) -> Result<Expr<'s, V>, AllocError>
-    ensures { IfOk result (λ e. expr_node V.contents e ≡ form.closed to
-        (reverse (map (waiting_view V.contents) waiting.entry.items))
-        (expr_node V.contents expr.entry)) }
+    expr: R::Expr,
+) -> Result<R::Expr, AllocError>
+    ensures { IfOk result (λ e. R.tree e ≡ form.closed to
+        (reverse (map (waiting_view R.tree) waiting.items)) (R.tree expr)) }
 {
     let mut waiting = waiting;
     let mut expr = expr;
@@ -49,53 +44,47 @@ fn closed<'s, V: TemplateValue>(
             end_offset: to.end_offset,
             ..last.from
         };
-        let node = IfExpr {
-            test_expr: last.test_expr,
-            true_expr: last.true_expr,
-            false_expr: Some(expr),
-        };
-        expr = nodes::if_expr(context.alloc, node, span)?;
+        expr = nodes.node(
+            Node::IfExpr(last.test_expr, last.true_expr, Some(expr)),
+            span,
+        )?;
     }
     Ok(expr)
 }
 
-/// An expression, in which expressions and primaries nest `depth` deep at most.
+/// An expression, in which expressions and primaries nest `depth` deep at most. What is made is named, so that the rules may take
+/// this function as their parser of nested expressions.
 #[tactic(auto, unfolding(minijinja_grammar::specs::Grammar::expr_at))]
-pub fn expr<'s, V: TemplateValue>(
-    context: Context<V>,
-    tokens: &mut TokenStream<'s, '_>,
+pub fn expr<R: Nodes>(
+    tokens: &mut R,
+    made: PhantomData<R::Expr>,
     depth: usize,
-) -> Result<Expr<'s, V>, Refusal>
-    ensures { Reads (expr_node V.contents) (reads (expr_at V.functions depth) tokens.old) result
-        tokens.new }
+) -> Result<R::Expr, Refusal>
+    ensures { Reads R.tree (reads (expr_at R.functions depth) (R.place tokens.old)) result
+        (R.place tokens.new) }
 {
     if depth == 0 {
         return Err(tokens.misfit(Wanted::Flatter));
     }
     let rules = Rules {
-        context,
+        reader: PhantomData,
         depth: depth - 1,
-        expr,
+        expr: expr::<R>,
     };
     rules.cond(tokens)
 }
 
 impl<
-    V: TemplateValue,
-    F: Copy
-        + for<'x, 'y> Fn(
-            Context<V>,
-            &mut TokenStream<'x, 'y>,
-            usize,
-        ) -> Result<Expr<'x, V>, Refusal>,
-> Rules<V, F> {
+    R: Nodes,
+    F: Copy + for<'x> Fn(&'x mut R, PhantomData<R::Expr>, usize) -> Result<R::Expr, Refusal>,
+> Rules<R, F> {
     /// An expression, with its ifs: an else part takes all ifs that follow it.
     #[tactic(auto, using(crate::proofs::Ifs::cond_is))]
-    fn cond<'s>(&self, tokens: &mut TokenStream<'s, '_>) -> Result<Expr<'s, V>, Refusal>
-        requires { Nests V.contents V.functions self.now.depth F.pre F.post self.now.expr }
-        ensures { Reads (expr_node V.contents) (reads (form.cond
-            (or_level V.functions (expr_at V.functions self.now.depth)
-            (primary_at V.functions self.now.depth))) tokens.old) result tokens.new }
+    fn cond(&self, tokens: &mut R) -> Result<R::Expr, Refusal>
+        requires { Nests R.place R.tree R.functions self.now.depth F.pre F.post self.now.expr }
+        ensures { Reads R.tree (reads (form.cond (or_level R.functions (expr_at R.functions
+            self.now.depth) (primary_at R.functions self.now.depth))) (R.place tokens.old)) result
+            (R.place tokens.new) }
     {
         let from = tokens.last_span();
         let expr = self.level(tokens, Level::Or)?;
@@ -106,18 +95,13 @@ impl<
     }
 
     /// The ifs after an expression.
-    fn ifs<'s>(
-        &self,
-        tokens: &mut TokenStream<'s, '_>,
-        from: Span,
-        expr: Expr<'s, V>,
-    ) -> Result<Expr<'s, V>, Refusal>
-        requires { Nests V.contents V.functions self.now.depth F.pre F.post self.now.expr }
-        ensures { Reads (expr_node V.contents) (ifs_at (or_level V.functions
-            (expr_at V.functions self.now.depth) (primary_at V.functions self.now.depth))
-            from (expr_node V.contents expr.entry) tokens.old) result tokens.new }
+    fn ifs(&self, tokens: &mut R, from: Span, expr: R::Expr) -> Result<R::Expr, Refusal>
+        requires { Nests R.place R.tree R.functions self.now.depth F.pre F.post self.now.expr }
+        ensures { Reads R.tree (ifs_at (or_level R.functions
+            (expr_at R.functions self.now.depth) (primary_at R.functions self.now.depth))
+            from (R.tree expr) (R.place tokens.old)) result (R.place tokens.new) }
     {
-        let mut waiting = Vec::new(self.context.alloc);
+        let mut waiting = Vec::new(tokens.alloc());
         let mut from = from;
         let mut expr = expr;
         while tokens.eat(Mark::If)? {
@@ -134,15 +118,12 @@ impl<
                 from = begin;
             } else {
                 let to = tokens.last_span();
-                let node = IfExpr {
-                    test_expr,
-                    true_expr: expr,
-                    false_expr: None,
-                };
-                expr = nodes::if_expr(self.context.alloc, node, tokens.expand_span(from))?;
+                let span = tokens.expand_span(from);
+                expr = tokens.node(Node::IfExpr(test_expr, expr, None), span)?;
                 from = to;
             }
         }
-        Ok(closed(self.context, waiting, tokens.last_span(), expr)?)
+        let to = tokens.last_span();
+        Ok(closed(tokens, waiting, to, expr)?)
     }
 }

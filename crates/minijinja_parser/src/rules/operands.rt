@@ -1,43 +1,33 @@
 //! Operands: primaries and what follows them.
-ghost use Rattle.std.specs.Prelude.{◌≡◌, []};
-ghost use Rattle.minijinja_syntax.specs.Tokens.{tok_of};
+ghost use Rattle.std.specs.Prelude.{[]};
+ghost use Rattle.std.specs.Option.{option_map};
 ghost use Rattle.minijinja_grammar.specs.Forms.{reads};
 ghost use Rattle.minijinja_grammar.specs.Grammar as form;
 ghost use Rattle.minijinja_grammar.specs.Grammar.{expr_at, primary_at};
 ghost use Rattle.minijinja_parser.specs.private.Nests.{Nests};
 ghost use Rattle.minijinja_parser.specs.private.Reads.{Reads};
-ghost use Rattle.minijinja_tree.specs.SpannedErasure.{any_tree, expr_node};
 
-use crate::context::Context;
 use crate::marks::{Mark, Part};
+use crate::reader::{Node, Nodes};
 use crate::refusal::{Refusal, Wanted};
 use crate::rules::Rules;
-use crate::token_stream::TokenStream;
-use crate::{atoms, nodes};
+use crate::rules::wrapping::wrapped;
 use minijinja_base::error::Expected;
-use minijinja_base::tokens::{Span, Token};
-use minijinja_base::value::TemplateValue;
-use minijinja_tree::ast::{Expr, Slice, UnaryOpKind};
+use minijinja_base::tokens::Span;
+use minijinja_tree::ast::UnaryOpKind;
+use std::marker::PhantomData;
 
 impl<
-    V: TemplateValue,
-    F: Copy
-        + for<'x, 'y> Fn(
-            Context<V>,
-            &mut TokenStream<'x, 'y>,
-            usize,
-        ) -> Result<Expr<'x, V>, Refusal>,
-> Rules<V, F> {
+    R: Nodes,
+    F: Copy + for<'x> Fn(&'x mut R, PhantomData<R::Expr>, usize) -> Result<R::Expr, Refusal>,
+> Rules<R, F> {
     /// A primary and what follows it, after any number of `-`.
     #[tactic(auto, using(crate::proofs::Postfixes::operand_is))]
-    pub(crate) fn operand<'s>(
-        &self,
-        tokens: &mut TokenStream<'s, '_>,
-    ) -> Result<Expr<'s, V>, Refusal>
-        requires { Nests V.contents V.functions self.now.depth F.pre F.post self.now.expr }
-        ensures { Reads (expr_node V.contents) (reads (form.operand V.functions
-            (expr_at V.functions self.now.depth) (primary_at V.functions self.now.depth))
-            tokens.old) result tokens.new }
+    pub(crate) fn operand(&self, tokens: &mut R) -> Result<R::Expr, Refusal>
+        requires { Nests R.place R.tree R.functions self.now.depth F.pre F.post self.now.expr }
+        ensures { Reads R.tree (reads (form.operand R.functions
+            (expr_at R.functions self.now.depth) (primary_at R.functions self.now.depth))
+            (R.place tokens.old)) result (R.place tokens.new) }
     {
         if !tokens.at(Mark::Minus) {
             return self.postfixed(tokens);
@@ -47,33 +37,28 @@ impl<
 
     /// As [`Rules::operand`], where a `-` comes.
     #[tactic(auto, using(crate::proofs::Postfixes::minuses_are, crate::proofs::Postfixes::minuses_more, crate::proofs::Postfixes::minuses_done))]
-    fn negated<'s>(&self, tokens: &mut TokenStream<'s, '_>) -> Result<Expr<'s, V>, Refusal>
-        requires { Nests V.contents V.functions self.now.depth F.pre F.post self.now.expr }
-        ensures { Reads (expr_node V.contents) (reads (form.operand V.functions
-            (expr_at V.functions self.now.depth) (primary_at V.functions self.now.depth))
-            tokens.old) result tokens.new }
+    fn negated(&self, tokens: &mut R) -> Result<R::Expr, Refusal>
+        requires { Nests R.place R.tree R.functions self.now.depth F.pre F.post self.now.expr }
+        ensures { Reads R.tree (reads (form.operand R.functions
+            (expr_at R.functions self.now.depth) (primary_at R.functions self.now.depth))
+            (R.place tokens.old)) result (R.place tokens.new) }
     {
-        let mut begins = Vec::new(self.context.alloc);
+        let mut begins = Vec::new(tokens.alloc());
         while tokens.at(Mark::Minus) {
             begins.push(tokens.expect(Mark::Minus)?)?;
         }
         let expr = self.postfixed(tokens)?;
-        Ok(nodes::wrapped(
-            self.context.alloc,
-            UnaryOpKind::Neg,
-            begins,
-            tokens.last_span(),
-            expr,
-        )?)
+        let to = tokens.last_span();
+        Ok(wrapped(tokens, UnaryOpKind::Neg, begins, to, expr)?)
     }
 
     /// A primary and what follows it.
     #[tactic(auto, using(crate::proofs::Postfixes::postfixed_is, crate::proofs::Postfixes::postfixed_more, crate::proofs::Postfixes::postfixed_done, crate::proofs::Postfixes::taken_shorter))]
-    fn postfixed<'s>(&self, tokens: &mut TokenStream<'s, '_>) -> Result<Expr<'s, V>, Refusal>
-        requires { Nests V.contents V.functions self.now.depth F.pre F.post self.now.expr }
-        ensures { Reads (expr_node V.contents) (reads (form.postfixed V.functions
-            (expr_at V.functions self.now.depth) (primary_at V.functions self.now.depth))
-            tokens.old) result tokens.new }
+    fn postfixed(&self, tokens: &mut R) -> Result<R::Expr, Refusal>
+        requires { Nests R.place R.tree R.functions self.now.depth F.pre F.post self.now.expr }
+        ensures { Reads R.tree (reads (form.postfixed R.functions
+            (expr_at R.functions self.now.depth) (primary_at R.functions self.now.depth))
+            (R.place tokens.old)) result (R.place tokens.new) }
     {
         let mut from = tokens.current_span();
         let mut expr = self.primary(tokens)?;
@@ -87,41 +72,36 @@ impl<
 
     /// An attribute, an item, a slice or a call, after its first token.
     #[tactic(auto, using(crate::proofs::Following::member_same))]
-    fn postfix<'s>(
+    fn postfix(
         &self,
-        tokens: &mut TokenStream<'s, '_>,
-        expr: Expr<'s, V>,
+        tokens: &mut R,
+        expr: R::Expr,
         from: Span,
-        token: &Token<'_>,
-    ) -> Result<Expr<'s, V>, Refusal>
-        requires { Nests V.contents V.functions self.now.depth F.pre F.post self.now.expr }
-        ensures { Reads (expr_node V.contents) (reads (form.postfix
-            (expr_at V.functions self.now.depth) V.functions
-            (expr_node V.contents expr.entry) from (tok_of token.now)) tokens.old) result
-            tokens.new }
+        token: &R::Token,
+    ) -> Result<R::Expr, Refusal>
+        requires { Nests R.place R.tree R.functions self.now.depth F.pre F.post self.now.expr }
+        ensures { Reads R.tree (reads (form.postfix
+            (expr_at R.functions self.now.depth) R.functions
+            (R.tree expr) from (R.tok token.now)) (R.place tokens.old)) result
+            (R.place tokens.new) }
     {
-        match token {
-            Token::Dot => atoms::member(self.context, tokens, expr, from),
-            Token::BracketOpen => self.subscript(tokens, expr, from),
-            _ => {
-                let args = self.args(tokens)?;
-                Ok(nodes::call(self.context.alloc, expr, args, tokens.expand_span(from))?)
-            }
+        if R::is(token, Mark::Dot) {
+            return tokens.member(expr, from);
         }
+        if R::is(token, Mark::BracketOpen) {
+            return self.subscript(tokens, expr, from);
+        }
+        let args = self.args(tokens)?;
+        Ok(tokens.node(Node::Call(expr, args), tokens.expand_span(from))?)
     }
 
     /// An item or a slice, after its bracket.
     #[tactic(auto, using(crate::proofs::Turned::behind_is), unfolding(minijinja_grammar::specs::Forms::reads, minijinja_grammar::specs::Grammar::subscript))]
-    fn subscript<'s>(
-        &self,
-        tokens: &mut TokenStream<'s, '_>,
-        expr: Expr<'s, V>,
-        from: Span,
-    ) -> Result<Expr<'s, V>, Refusal>
-        requires { Nests V.contents V.functions self.now.depth F.pre F.post self.now.expr }
-        ensures { Reads (expr_node V.contents) (reads (form.subscript
-            (expr_at V.functions self.now.depth) (expr_node V.contents expr.entry) from)
-            tokens.old) result tokens.new }
+    fn subscript(&self, tokens: &mut R, expr: R::Expr, from: Span) -> Result<R::Expr, Refusal>
+        requires { Nests R.place R.tree R.functions self.now.depth F.pre F.post self.now.expr }
+        ensures { Reads R.tree (reads (form.subscript
+            (expr_at R.functions self.now.depth) (R.tree expr) from)
+            (R.place tokens.old)) result (R.place tokens.new) }
     {
         if tokens.eat(Mark::Colon)? {
             return self.range(tokens, expr, from, None);
@@ -132,57 +112,52 @@ impl<
 
     /// An item or a slice, after its first expression.
     #[tactic(auto, using(crate::proofs::Turned::behind_is), unfolding(minijinja_grammar::specs::Forms::reads, minijinja_grammar::specs::Grammar::rest_of_subscript))]
-    fn rest_of_subscript<'s>(
+    fn rest_of_subscript(
         &self,
-        tokens: &mut TokenStream<'s, '_>,
-        expr: Expr<'s, V>,
+        tokens: &mut R,
+        expr: R::Expr,
         from: Span,
-        index: Expr<'s, V>,
-    ) -> Result<Expr<'s, V>, Refusal>
-        requires { Nests V.contents V.functions self.now.depth F.pre F.post self.now.expr }
-        ensures { Reads (expr_node V.contents) (reads (form.rest_of_subscript
-            (expr_at V.functions self.now.depth) (expr_node V.contents expr.entry) from
-            (expr_node V.contents index.entry)) tokens.old) result tokens.new }
+        index: R::Expr,
+    ) -> Result<R::Expr, Refusal>
+        requires { Nests R.place R.tree R.functions self.now.depth F.pre F.post self.now.expr }
+        ensures { Reads R.tree (reads (form.rest_of_subscript
+            (expr_at R.functions self.now.depth) (R.tree expr) from
+            (R.tree index)) (R.place tokens.old)) result (R.place tokens.new) }
     {
         if tokens.eat(Mark::Colon)? {
             return self.range(tokens, expr, from, Some(index));
         }
         tokens.expect(Mark::BracketClose)?;
-        Ok(nodes::item(self.context.alloc, expr, index, tokens.expand_span(from))?)
+        Ok(tokens.node(Node::Item(expr, index), tokens.expand_span(from))?)
     }
 
     /// A slice, after its first `:`.
     #[tactic(auto, using(crate::proofs::Following::range_is))]
-    fn range<'s>(
+    fn range(
         &self,
-        tokens: &mut TokenStream<'s, '_>,
-        expr: Expr<'s, V>,
+        tokens: &mut R,
+        expr: R::Expr,
         from: Span,
-        start: Option<Expr<'s, V>>,
-    ) -> Result<Expr<'s, V>, Refusal>
-        requires { Nests V.contents V.functions self.now.depth F.pre F.post self.now.expr }
-        ensures { Reads (expr_node V.contents) (reads (form.range
-            (expr_at V.functions self.now.depth) (expr_node V.contents expr.entry) from
-            (any_tree V.contents start.entry)) tokens.old) result tokens.new }
+        start: Option<R::Expr>,
+    ) -> Result<R::Expr, Refusal>
+        requires { Nests R.place R.tree R.functions self.now.depth F.pre F.post self.now.expr }
+        ensures { Reads R.tree (reads (form.range
+            (expr_at R.functions self.now.depth) (R.tree expr) from
+            (option_map R.tree start)) (R.place tokens.old)) result (R.place tokens.new) }
     {
         let stop = self.maybe_expr(tokens)?;
         let step = self.step(tokens)?;
         tokens.expect(Mark::BracketClose)?;
-        let node = Slice {
-            expr,
-            start,
-            stop,
-            step,
-        };
-        Ok(nodes::slice(self.context.alloc, node, tokens.expand_span(from))?)
+        let span = tokens.expand_span(from);
+        Ok(tokens.node(Node::Slice(expr, start, stop, step), span)?)
     }
 
     /// The step of a slice, if there is one.
     #[tactic(auto, using(crate::proofs::Following::step_is))]
-    fn step<'s>(&self, tokens: &mut TokenStream<'s, '_>) -> Result<Option<Expr<'s, V>>, Refusal>
-        requires { Nests V.contents V.functions self.now.depth F.pre F.post self.now.expr }
-        ensures { Reads (any_tree V.contents)
-            (reads (form.step (expr_at V.functions self.now.depth)) tokens.old) result tokens.new }
+    fn step(&self, tokens: &mut R) -> Result<Option<R::Expr>, Refusal>
+        requires { Nests R.place R.tree R.functions self.now.depth F.pre F.post self.now.expr }
+        ensures { Reads (option_map R.tree) (reads (form.step (expr_at R.functions self.now.depth))
+            (R.place tokens.old)) result (R.place tokens.new) }
     {
         if !tokens.eat(Mark::Colon)? {
             return Ok(None);
@@ -192,14 +167,10 @@ impl<
 
     /// An expression, if one begins.
     #[tactic(auto, unfolding(minijinja_grammar::specs::Forms::reads))]
-    fn maybe_expr<'s>(
-        &self,
-        tokens: &mut TokenStream<'s, '_>,
-    ) -> Result<Option<Expr<'s, V>>, Refusal>
-        requires { Nests V.contents V.functions self.now.depth F.pre F.post self.now.expr }
-        ensures { Reads (any_tree V.contents)
-            (reads (form.maybe_expr (expr_at V.functions self.now.depth)) tokens.old) result
-            tokens.new }
+    fn maybe_expr(&self, tokens: &mut R) -> Result<Option<R::Expr>, Refusal>
+        requires { Nests R.place R.tree R.functions self.now.depth F.pre F.post self.now.expr }
+        ensures { Reads (option_map R.tree) (reads (form.maybe_expr (expr_at R.functions
+            self.now.depth)) (R.place tokens.old)) result (R.place tokens.new) }
     {
         if !tokens.begins(Part::Expr) {
             return Ok(None);

@@ -1,5 +1,5 @@
 //! Operators of two sides, by precedence climbing, and `not`.
-ghost use Rattle.std.specs.Prelude.{◌≡◌, ◌∷◌, [], true, Some};
+ghost use Rattle.std.specs.Prelude.{◌≡◌, ◌∷◌, [], map, true, Some};
 ghost use Rattle.minijinja_grammar.specs.Forms.{reads};
 ghost use Rattle.minijinja_grammar.specs.Grammar as form;
 ghost use Rattle.minijinja_grammar.specs.Grammar.{expr_at, of_kind, primary_at, unary_level};
@@ -11,41 +11,30 @@ ghost use Rattle.minijinja_grammar.specs.Words.{begins_comparison};
 ghost use Rattle.minijinja_parser.specs.private.Levels.{comparison_at, infix_of, next_operator, rows};
 ghost use Rattle.minijinja_parser.specs.declared.operators.Level.TheVariants as level;
 ghost use Rattle.minijinja_tree.specs.Erasure.{compare_op};
-ghost use Rattle.minijinja_tree.specs.SpannedErasure.{all_compared, expr_node};
 
-use crate::context::Context;
 use crate::marks::{Mark, Part};
-use crate::nodes;
 use crate::operators::{Level, Operator};
+use crate::reader::{Node, Nodes};
 use crate::refusal::{Refusal, Wanted};
 use crate::rules::Rules;
-use crate::token_stream::TokenStream;
+use crate::rules::wrapping::{comparison, wrapped};
 use minijinja_base::error::Expected;
 use minijinja_base::tokens::Span;
-use minijinja_base::value::TemplateValue;
-use minijinja_tree::ast::{CompareOp, CompareOpKind, Expr, UnaryOpKind};
+use minijinja_tree::ast::{CompareOpKind, UnaryOpKind};
+use std::marker::PhantomData;
 
 impl<
-    V: TemplateValue,
-    F: Copy
-        + for<'x, 'y> Fn(
-            Context<V>,
-            &mut TokenStream<'x, 'y>,
-            usize,
-        ) -> Result<Expr<'x, V>, Refusal>,
-> Rules<V, F> {
+    R: Nodes,
+    F: Copy + for<'x> Fn(&'x mut R, PhantomData<R::Expr>, usize) -> Result<R::Expr, Refusal>,
+> Rules<R, F> {
     /// An expression of the level: an operand, and the operators of the level and of tighter ones that follow it.
     #[cycle(level)]
-    pub(crate) fn level<'s>(
-        &self,
-        tokens: &mut TokenStream<'s, '_>,
-        level: Level,
-    ) -> Result<Expr<'s, V>, Refusal>
-        requires nests { Nests V.contents V.functions self.now.depth F.pre F.post self.now.expr }
-        ensures { Reads (expr_node V.contents) (reads (level_of
-            (unary_level V.functions (expr_at V.functions self.now.depth)
-            (primary_at V.functions self.now.depth)) (rows level)) tokens.old) result
-            tokens.new }
+    pub(crate) fn level(&self, tokens: &mut R, level: Level) -> Result<R::Expr, Refusal>
+        requires nests { Nests R.place R.tree R.functions self.now.depth F.pre F.post self.now.expr }
+        ensures { Reads R.tree (reads (level_of
+            (unary_level R.functions (expr_at R.functions self.now.depth)
+            (primary_at R.functions self.now.depth)) (rows level)) (R.place tokens.old)) result
+            (R.place tokens.new) }
     {
         let from = tokens.current_span();
         let before = tokens.last_span();
@@ -58,15 +47,11 @@ impl<
 
     /// The first operand of a level: a negation where a `not` comes that the level has.
     #[cycle(level)]
-    fn first<'s>(
-        &self,
-        tokens: &mut TokenStream<'s, '_>,
-        level: Level,
-    ) -> Result<Expr<'s, V>, Refusal>
-        requires nests { Nests V.contents V.functions self.now.depth F.pre F.post self.now.expr }
-        ensures { Reads (expr_node V.contents) (first_of (unary_level V.functions
-            (expr_at V.functions self.now.depth) (primary_at V.functions self.now.depth))
-            (rows level) tokens.old) result tokens.new }
+    fn first(&self, tokens: &mut R, level: Level) -> Result<R::Expr, Refusal>
+        requires nests { Nests R.place R.tree R.functions self.now.depth F.pre F.post self.now.expr }
+        ensures { Reads R.tree (first_of (unary_level R.functions
+            (expr_at R.functions self.now.depth) (primary_at R.functions self.now.depth))
+            (rows level) (R.place tokens.old)) result (R.place tokens.new) }
     {
         if level.has_not() && tokens.at(Mark::Not) {
             return self.negation(tokens);
@@ -76,14 +61,14 @@ impl<
 
     /// Comparisons after any number of `not`.
     #[cycle(level)]
-    fn negation<'s>(&self, tokens: &mut TokenStream<'s, '_>) -> Result<Expr<'s, V>, Refusal>
-        requires nests { Nests V.contents V.functions self.now.depth F.pre F.post self.now.expr }
-        ensures { Reads (expr_node V.contents) (reads (level_of
-            (unary_level V.functions (expr_at V.functions self.now.depth)
-            (primary_at V.functions self.now.depth)) (rows level.Not)) tokens.old)
-            result tokens.new }
+    fn negation(&self, tokens: &mut R) -> Result<R::Expr, Refusal>
+        requires nests { Nests R.place R.tree R.functions self.now.depth F.pre F.post self.now.expr }
+        ensures { Reads R.tree (reads (level_of
+            (unary_level R.functions (expr_at R.functions self.now.depth)
+            (primary_at R.functions self.now.depth)) (rows level.Not)) (R.place tokens.old))
+            result (R.place tokens.new) }
     {
-        let mut begins = Vec::new(self.context.alloc);
+        let mut begins = Vec::new(tokens.alloc());
         while tokens.at(Mark::Not) {
             begins.push(tokens.expect(Mark::Not)?)?;
         }
@@ -92,106 +77,87 @@ impl<
         if tokens.begins(Part::Comparison) {
             expr = self.comparisons(tokens, before, expr)?;
         }
-        Ok(nodes::wrapped(
-            self.context.alloc,
-            UnaryOpKind::Not,
-            begins,
-            tokens.last_span(),
-            expr,
-        )?)
+        let to = tokens.last_span();
+        Ok(wrapped(tokens, UnaryOpKind::Not, begins, to, expr)?)
     }
 
     /// An operator that comes next, with its right side, or all comparisons that come.
     #[cycle(level)]
-    fn operation<'s>(
+    fn operation(
         &self,
-        tokens: &mut TokenStream<'s, '_>,
+        tokens: &mut R,
         operator: Operator,
         from: Span,
         before: Span,
-        left: Expr<'s, V>,
-    ) -> Result<Expr<'s, V>, Refusal>
-        requires nests { Nests V.contents V.functions self.now.depth F.pre F.post self.now.expr }
-        requires comes { next_operator level.Or tokens.old.tokens ≡ Some operator }
-        ensures { Reads (expr_node V.contents) (operation (unary_level V.functions
-            (expr_at V.functions self.now.depth) (primary_at V.functions self.now.depth))
-            (infix_of operator) from before (expr_node V.contents left.entry) tokens.old) result
-            tokens.new }
+        left: R::Expr,
+    ) -> Result<R::Expr, Refusal>
+        requires nests { Nests R.place R.tree R.functions self.now.depth F.pre F.post self.now.expr }
+        requires comes { next_operator level.Or (R.place tokens.old).tokens ≡ Some operator }
+        ensures { Reads R.tree (operation (unary_level R.functions
+            (expr_at R.functions self.now.depth) (primary_at R.functions self.now.depth))
+            (infix_of operator) from before (R.tree left) (R.place tokens.old)) result
+            (R.place tokens.new) }
     {
         let Operator::Binary(op, level) = operator else {
             return self.comparisons(tokens, before, left);
         };
         tokens.take(Wanted::Part(Expected::Expression))?;
         let right = self.level(tokens, level.tighter())?;
-        Ok(nodes::binary(
-            self.context.alloc,
-            op,
-            left,
-            right,
-            tokens.expand_span(from),
-        )?)
+        Ok(tokens.node(Node::BinOp(op, left, right), tokens.expand_span(from))?)
     }
 
     /// The comparisons that come, one at least.
     #[cycle(level)]
-    fn comparisons<'s>(
-        &self,
-        tokens: &mut TokenStream<'s, '_>,
-        before: Span,
-        expr: Expr<'s, V>,
-    ) -> Result<Expr<'s, V>, Refusal>
-        requires nests { Nests V.contents V.functions self.now.depth F.pre F.post self.now.expr }
-        requires comes { comes begins_comparison tokens.old.tokens ≡ true }
-        ensures { Reads (expr_node V.contents) (reads (comparisons
-            (level_of (unary_level V.functions (expr_at V.functions self.now.depth)
-            (primary_at V.functions self.now.depth)) (rows level.Sum)) before
-            (expr_node V.contents expr.entry)) tokens.old) result tokens.new }
+    fn comparisons(&self, tokens: &mut R, before: Span, expr: R::Expr) -> Result<R::Expr, Refusal>
+        requires nests { Nests R.place R.tree R.functions self.now.depth F.pre F.post self.now.expr }
+        requires comes { comes begins_comparison (R.place tokens.old).tokens ≡ true }
+        ensures { Reads R.tree (reads (comparisons
+            (level_of (unary_level R.functions (expr_at R.functions self.now.depth)
+            (primary_at R.functions self.now.depth)) (rows level.Sum)) before
+            (R.tree expr)) (R.place tokens.old)) result (R.place tokens.new) }
     {
         let (op, right) = self.comparison(tokens)?;
         if !tokens.begins(Part::Comparison) {
             let span = tokens.expand_span(before);
-            return Ok(nodes::comparison(self.context.alloc, op, expr, right, span)?);
+            return Ok(comparison(tokens, op, expr, right, span)?);
         }
         let ops = self.chain(tokens, op, right)?;
-        Ok(nodes::compare(self.context.alloc, expr, ops, tokens.expand_span(before))?)
+        Ok(tokens.node(Node::Compare(expr, ops), tokens.expand_span(before))?)
     }
 
     /// The comparisons after the first, and the first, where one more comes.
     #[cycle(level)]
-    fn chain<'s>(
+    fn chain(
         &self,
-        tokens: &mut TokenStream<'s, '_>,
+        tokens: &mut R,
         op: CompareOpKind,
-        expr: Expr<'s, V>,
-    ) -> Result<Vec<CompareOp<'s, V>>, Refusal>
-        requires nests { Nests V.contents V.functions self.now.depth F.pre F.post self.now.expr }
-        ensures { Reads (λ v. all_compared V.contents v.items)
+        expr: R::Expr,
+    ) -> Result<Vec<R::Comparison>, Refusal>
+        requires nests { Nests R.place R.tree R.functions self.now.depth F.pre F.post self.now.expr }
+        ensures { Reads (λ v. map R.compared v.items)
             (reads (many (of_kind begins_comparison) (form.comparison
-            (level_of (unary_level V.functions (expr_at V.functions self.now.depth)
-            (primary_at V.functions self.now.depth)) (rows level.Sum)))
-            ((compare_op op, expr_node V.contents expr.entry) ∷ [])) tokens.old) result
-            tokens.new }
+            (level_of (unary_level R.functions (expr_at R.functions self.now.depth)
+            (primary_at R.functions self.now.depth)) (rows level.Sum)))
+            ((compare_op op, R.tree expr) ∷ [])) (R.place tokens.old)) result
+            (R.place tokens.new) }
     {
-        let mut ops = Vec::new(self.context.alloc);
-        ops.push(CompareOp { op, expr })?;
+        let mut ops = Vec::new(tokens.alloc());
+        ops.push(R::against(op, expr))?;
         while tokens.begins(Part::Comparison) {
             let (op, expr) = self.comparison(tokens)?;
-            ops.push(CompareOp { op, expr })?;
+            ops.push(R::against(op, expr))?;
         }
         Ok(ops)
     }
 
     /// A comparison and its right side.
     #[cycle(level)]
-    fn comparison<'s>(
-        &self,
-        tokens: &mut TokenStream<'s, '_>,
-    ) -> Result<(CompareOpKind, Expr<'s, V>), Refusal>
-        requires nests { Nests V.contents V.functions self.now.depth F.pre F.post self.now.expr }
-        ensures { Reads (λ c. (compare_op c.0, expr_node V.contents c.1))
-            (comparison_at (level_of (unary_level V.functions (expr_at V.functions self.now.depth)
-            (primary_at V.functions self.now.depth)) (rows level.Sum)) tokens.old)
-            result tokens.new }
+    fn comparison(&self, tokens: &mut R) -> Result<(CompareOpKind, R::Expr), Refusal>
+        requires nests { Nests R.place R.tree R.functions self.now.depth F.pre F.post self.now.expr }
+        ensures { Reads (λ c. (compare_op c.0, R.tree c.1))
+            (comparison_at (level_of (unary_level R.functions (expr_at R.functions self.now.depth)
+            (primary_at R.functions self.now.depth)) (rows level.Sum)) (R.place tokens.old))
+            result (R.place tokens.new) }
     {
         let op = tokens.compare_operator()?;
         let expr = self.level(tokens, Level::Sum)?;

@@ -1,5 +1,4 @@
 use Rattle.std.proofs.Common.{◌≡◌, None, refl}
-use Rattle.minijinja_syntax.specs.Texts.{Text}
 use Rattle.minijinja_tree.specs.declared.ast.Spanned.{Spanned}
 use Rattle.minijinja_tree.specs.declared.ast.Var.{Var}
 use Rattle.minijinja_tree.specs.declared.ast.CallArg.TheBlock as block

@@ -1,4 +1,4 @@
-use Rattle.std.proofs.Common.{◌≡◌, ◌∙◌, sym, ap, subst}
+use Rattle.std.proofs.Common.{◌∙◌, sym, ap, subst}
 use Rattle.minijinja_tree.specs.SpannedErasure.{stmt_node}
 use Rattle.minijinja_tree.specs.WellFormed.{IsWellFormed}
 use Rattle.minijinja_grammar.specs.Grammar.{max_depth}

@@ -1,4 +1,4 @@
-use Rattle.std.proofs.Common.{◌≡◌, ◌∙◌, sym, ap, subst}
+use Rattle.std.proofs.Common.{ap, subst}
 use Rattle.minijinja_tree.specs.SpannedErasure.{expr_node}
 use Rattle.minijinja_tree.specs.WellFormed.{IsWhole}
 use Rattle.minijinja_grammar.specs.Grammar.{expr_at, max_depth}

@@ -1,5 +1,5 @@
 -- A call before which no token was taken goes down, and any other has fewer tokens left.
-use Rattle.std.proofs.Common.{◌≡◌, ◌∷◌, [], ◌+◌, ◌≤◌, length, reverse}
+use Rattle.std.proofs.Common.{◌≡◌, ◌∷◌, [], ◌+◌, ◌≤◌, length, reverse, map}
 use Rattle.minijinja_grammar.specs.Forms.{go_on, pure, reads, many}
 use Rattle.minijinja_grammar.specs.Grammar as form
 use Rattle.minijinja_grammar.specs.Grammar.{expr_at, of_kind, primary_at, span_of_mark, unary_level}
@@ -8,61 +8,60 @@ use Rattle.minijinja_grammar.specs.Words.{begins_comparison, not_word}
 use Rattle.minijinja_parser.specs.private.Levels.{rows}
 use Rattle.minijinja_parser.specs.declared.operators.Level.TheVariants as level
 use Rattle.minijinja_tree.specs.Erasure.{compare_op}
-use Rattle.minijinja_tree.specs.SpannedErasure.{all_compared, expr_node}
 use Rattle.minijinja_parser.proofs.Climbed.{height, steps}
 use Rattle.minijinja_parser.proofs.rules.Rules.+level.Given as goal
 
 abbrev pub decreases-level : goal.decreases-level
-decreases-level g l = steps (height l.level + 1) l.tokens.now
+decreases-level g l = steps (height l.level + 1) (g.R.Tokens.place l.tokens.now)
 
 abbrev pub decreases-first : goal.decreases-first
-decreases-first g l = steps (height l.level) l.tokens.now
+decreases-first g l = steps (height l.level) (g.R.Tokens.place l.tokens.now)
 
 abbrev pub decreases-negation : goal.decreases-negation
-decreases-negation g l = steps 15 l.tokens.now
+decreases-negation g l = steps 15 (g.R.Tokens.place l.tokens.now)
 
 abbrev pub decreases-operation : goal.decreases-operation
-decreases-operation g l = steps 4 l.tokens.now
+decreases-operation g l = steps 4 (g.R.Tokens.place l.tokens.now)
 
 abbrev pub decreases-comparisons : goal.decreases-comparisons
-decreases-comparisons g l = steps 3 l.tokens.now
+decreases-comparisons g l = steps 3 (g.R.Tokens.place l.tokens.now)
 
 abbrev pub decreases-chain : goal.decreases-chain
-decreases-chain g l = steps 2 l.tokens.now
+decreases-chain g l = steps 2 (g.R.Tokens.place l.tokens.now)
 
 abbrev pub decreases-comparison : goal.decreases-comparison
-decreases-comparison g l = steps 1 l.tokens.now
+decreases-comparison g l = steps 1 (g.R.Tokens.place l.tokens.now)
 
 abbrev pub invariant-level-loop-operator : goal.invariant-level-loop-operator
 invariant-level-loop-operator g l =
-    let operand = unary_level g.V.TemplateValue.functions (expr_at g.V.TemplateValue.functions l.fn.self.depth) (primary_at g.V.TemplateValue.functions l.fn.self.depth) in
+    let operand = unary_level g.R.Nodes.functions (expr_at g.R.Nodes.functions l.fn.self.depth) (primary_at g.R.Nodes.functions l.fn.self.depth) in
     record {
-      same : reads (level_of operand (rows l.fn.level)) l.fn.tokens ≡
-          reads (rest_of operand (rows l.fn.level) l.from l.before (expr_node g.V.TemplateValue.contents l.expr)) l.tokens;
-      fewer : length l.tokens.tokens ≤ length l.fn.tokens.tokens;
+      same : reads (level_of operand (rows l.fn.level)) (g.R.Tokens.place l.fn.tokens) ≡
+          reads (rest_of operand (rows l.fn.level) l.from l.before (g.R.Nodes.tree l.expr)) (g.R.Tokens.place l.tokens);
+      fewer : length (g.R.Tokens.place l.tokens).tokens ≤ length (g.R.Tokens.place l.fn.tokens).tokens;
     }
 
 abbrev pub decreases-level-loop-operator : goal.decreases-level-loop-operator
-decreases-level-loop-operator g l = length l.tokens.tokens
+decreases-level-loop-operator g l = length (g.R.Tokens.place l.tokens).tokens
 
 abbrev pub invariant-negation-loop-begins : goal.invariant-negation-loop-begins
 invariant-negation-loop-begins g l = record {
-  same : reads (many (span_of_mark not_word) (λ ss s. pure (go_on (s ∷ ss))) []) l.fn.tokens ≡
-      reads (many (span_of_mark not_word) (λ ss s. pure (go_on (s ∷ ss))) (reverse l.begins.items)) l.tokens;
-  fewer : length l.tokens.tokens ≤ length l.fn.tokens.tokens;
+  same : reads (many (span_of_mark not_word) (λ ss s. pure (go_on (s ∷ ss))) []) (g.R.Tokens.place l.fn.tokens) ≡
+      reads (many (span_of_mark not_word) (λ ss s. pure (go_on (s ∷ ss))) (reverse l.begins.items)) (g.R.Tokens.place l.tokens);
+  fewer : length (g.R.Tokens.place l.tokens).tokens ≤ length (g.R.Tokens.place l.fn.tokens).tokens;
 }
 
 abbrev pub decreases-negation-loop-begins : goal.decreases-negation-loop-begins
-decreases-negation-loop-begins g l = length l.tokens.tokens
+decreases-negation-loop-begins g l = length (g.R.Tokens.place l.tokens).tokens
 
 abbrev pub invariant-chain-loop-tokens : goal.invariant-chain-loop-tokens
 invariant-chain-loop-tokens g l =
-    let sum = level_of (unary_level g.V.TemplateValue.functions (expr_at g.V.TemplateValue.functions l.fn.self.depth) (primary_at g.V.TemplateValue.functions l.fn.self.depth)) (rows level.Sum) in
+    let sum = level_of (unary_level g.R.Nodes.functions (expr_at g.R.Nodes.functions l.fn.self.depth) (primary_at g.R.Nodes.functions l.fn.self.depth)) (rows level.Sum) in
     record {
-      same : reads (many (of_kind begins_comparison) (form.comparison sum) ((compare_op l.fn.op, expr_node g.V.TemplateValue.contents l.fn.expr) ∷ [])) l.fn.tokens ≡
-          reads (many (of_kind begins_comparison) (form.comparison sum) (all_compared g.V.TemplateValue.contents l.ops.items)) l.tokens;
-      fewer : length l.tokens.tokens ≤ length l.fn.tokens.tokens;
+      same : reads (many (of_kind begins_comparison) (form.comparison sum) ((compare_op l.fn.op, g.R.Nodes.tree l.fn.expr) ∷ [])) (g.R.Tokens.place l.fn.tokens) ≡
+          reads (many (of_kind begins_comparison) (form.comparison sum) (map g.R.Nodes.compared l.ops.items)) (g.R.Tokens.place l.tokens);
+      fewer : length (g.R.Tokens.place l.tokens).tokens ≤ length (g.R.Tokens.place l.fn.tokens).tokens;
     }
 
 abbrev pub decreases-chain-loop-tokens : goal.decreases-chain-loop-tokens
-decreases-chain-loop-tokens g l = length l.tokens.tokens
+decreases-chain-loop-tokens g l = length (g.R.Tokens.place l.tokens).tokens

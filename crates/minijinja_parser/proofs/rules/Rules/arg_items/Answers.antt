@@ -1,12 +1,10 @@
-use Rattle.std.proofs.Common.{◌≡◌, ◌∙◌, ◌||◌, ◌++◌, ◌∷◌, [], Bool, List, Vec, Global, if◌then◌else◌, length, sym, ap, arith}
+use Rattle.std.proofs.Common.{◌≡◌, ◌∙◌, ◌||◌, ◌++◌, ◌∷◌, [], Bool, Vec, Global, if◌then◌else◌, length, sym, ap, arith, map}
 use Rattle.std.proofs.lemmas.List.{length-map}
 use Rattle.minijinja_syntax.specs.Tokens.{comma}
-use Rattle.minijinja_tree.specs.SpannedTrees.{Arg}
-use Rattle.minijinja_tree.specs.SpannedErasure.{arg_view, args_view}
-use Rattle.minijinja_tree.specs.declared.ast.CallArg.{CallArg}
 use Rattle.minijinja_grammar.specs.Forms.{got, reads}
 use Rattle.minijinja_grammar.specs.Grammar as form
 use Rattle.minijinja_grammar.specs.Grammar.{expr_at, is_allowed, is_named}
+use Rattle.minijinja_parser.specs.private.Made.{argument_of}
 use Rattle.minijinja_parser.specs.private.Reads.{eaten}
 use Rattle.minijinja_parser.proofs.CallArgs.{arg_allowed, arg_also, arg_last, arg_refused, has_named_more}
 use Rattle.minijinja_parser.proofs.Entries.{item_shorter, map_pushed}
@@ -14,61 +12,54 @@ use Rattle.minijinja_parser.proofs.Refused.{passed, refuses}
 use Rattle.minijinja_parser.proofs.rules.Rules.arg_items.Goals as goal
 use Rattle.minijinja_parser.proofs.rules.Rules.arg_items.Goals.{then-named, else-named}
 
-abbrev seen : {V F C : Type 0} → (V → C) → Vec (CallArg V F) Global → List (Arg C)
-seen c v = args_view c v.items
-
 pub returns-in-Some : goal.returns-in-Some
 returns-in-Some g c =
-    let v = g.V.TemplateValue.contents in
-    let expr = expr_at g.V.TemplateValue.functions c.args.self.now.depth in
-    let xs = args_view v c.loop-tokens.args.items in
-    let n : length xs ≡ c.len.result = omega (arith, length-map c.loop-tokens.args.items (arg_view v), c.len.ensures, c.loop-tokens.args.ok.0) in
-    refuses (seen {F = g.row.V-Fault.Denot} v) (reads (form.arg_items expr []) c.args.tokens.now) c.arg.new.tokens c.misfit.result
+    let expr = expr_at g.R.Nodes.functions c.args.self.now.depth in
+    let xs = map g.R.Nodes.arg c.loop-tokens.args.items in
+    let n : length xs ≡ c.len.result = omega (arith, length-map c.loop-tokens.args.items g.R.Nodes.arg, c.len.ensures, c.loop-tokens.args.ok.0) in
+    refuses (λ (w : Vec _ Global). map g.R.Nodes.arg w.items) (reads (form.arg_items expr []) (g.R.Tokens.place c.args.tokens.now)) (g.R.Tokens.place c.arg.new.tokens) c.misfit.result
     (c.loop-tokens.invariant.read ∙
-    arg_refused expr xs c.loop-tokens.tokens c.arg.new.tokens (arg_view v c.in_ok-arg.arg) c.loop-tokens-test.ensures c.in_ok-arg.ensures
+    arg_refused expr xs (g.R.Tokens.place c.loop-tokens.tokens) (g.R.Tokens.place c.arg.new.tokens) (argument_of g.R.Nodes.text g.R.Nodes.tree c.in_ok-arg.arg) c.loop-tokens-test.ensures c.in_ok-arg.ensures
     (sym (c.in-Some.ensures.none xs n c.loop-tokens.invariant.named)))
     c.misfit.ensures
 
 pub returns-in_err-eat : goal.returns-in_err-eat
 returns-in_err-eat g c =
-    let v = g.V.TemplateValue.contents in
-    let expr = expr_at g.V.TemplateValue.functions c.args.self.now.depth in
-    let xs = args_view v c.loop-tokens.args.items in
-    let x = arg_view v c.in_ok-arg.arg in
-    let n : length xs ≡ c.len.result = omega (arith, length-map c.loop-tokens.args.items (arg_view v), c.len.ensures, c.loop-tokens.args.ok.0) in
-    passed (λ (b : Bool). b) (seen {F = g.row.V-Fault.Denot} v) (eaten comma c.arg.new.tokens)
+    let expr = expr_at g.R.Nodes.functions c.args.self.now.depth in
+    let xs = map g.R.Nodes.arg c.loop-tokens.args.items in
+    let x = argument_of g.R.Nodes.text g.R.Nodes.tree c.in_ok-arg.arg in
+    let n : length xs ≡ c.len.result = omega (arith, length-map c.loop-tokens.args.items g.R.Nodes.arg, c.len.ensures, c.loop-tokens.args.ok.0) in
+    passed (λ (b : Bool). b) (λ (w : Vec _ Global). map g.R.Nodes.arg w.items) (eaten comma (g.R.Tokens.place c.arg.new.tokens))
     (λ b s. if b then reads (form.arg_items expr (xs ++ x ∷ [])) s else got (xs ++ x ∷ []) s)
-    (reads (form.arg_items expr []) c.args.tokens.now) c.in_err-eat.field-0.0 c.from_residual-in_err-eat.result c.eat.new.self
+    (reads (form.arg_items expr []) (g.R.Tokens.place c.args.tokens.now)) c.in_err-eat.field-0.0 c.from_residual-in_err-eat.result (g.R.Tokens.place c.eat.new.self)
     (c.loop-tokens.invariant.read ∙
-    arg_allowed expr xs c.loop-tokens.tokens c.arg.new.tokens x c.loop-tokens-test.ensures c.in_ok-arg.ensures (sym (c.in_default.ensures.none xs n c.loop-tokens.invariant.named)))
+    arg_allowed expr xs (g.R.Tokens.place c.loop-tokens.tokens) (g.R.Tokens.place c.arg.new.tokens) x c.loop-tokens-test.ensures c.in_ok-arg.ensures (sym (c.in_default.ensures.none xs n c.loop-tokens.invariant.named)))
     c.from_residual-in_err-eat.ensures.1 (λ d h. cc) c.in_err-eat.ensures
 
 pub returns-then-not-branch : goal.returns-then-not-branch
 returns-then-not-branch g c =
-    let v = g.V.TemplateValue.contents in
-    let xs = args_view v c.loop-tokens.args.items in
-    let n : length xs ≡ c.len.result = omega (arith, length-map c.loop-tokens.args.items (arg_view v), c.len.ensures, c.loop-tokens.args.ok.0) in
+    let xs = map g.R.Nodes.arg c.loop-tokens.args.items in
+    let n : length xs ≡ c.len.result = omega (arith, length-map c.loop-tokens.args.items g.R.Nodes.arg, c.len.ensures, c.loop-tokens.args.ok.0) in
     c.loop-tokens.invariant.read ∙
-    arg_last (expr_at g.V.TemplateValue.functions c.args.self.now.depth) xs (args_view v c.push.new.self.items) c.loop-tokens.tokens c.arg.new.tokens c.eat.new.self
-    (arg_view v c.in_ok-arg.arg) c.in_ok-eat.field-0 c.loop-tokens-test.ensures c.in_ok-arg.ensures (sym (c.in_default.ensures.none xs n c.loop-tokens.invariant.named))
-    c.in_ok-eat.ensures c.if-not-branch.true (map_pushed (arg_view v) c.loop-tokens.args.items c.push.new.self.items c.in_ok-arg.arg c.in_ok-push.ensures.items)
+    arg_last (expr_at g.R.Nodes.functions c.args.self.now.depth) xs (map g.R.Nodes.arg c.push.new.self.items) (g.R.Tokens.place c.loop-tokens.tokens) (g.R.Tokens.place c.arg.new.tokens) (g.R.Tokens.place c.eat.new.self)
+    (argument_of g.R.Nodes.text g.R.Nodes.tree c.in_ok-arg.arg) c.in_ok-eat.field-0 c.loop-tokens-test.ensures c.in_ok-arg.ensures (sym (c.in_default.ensures.none xs n c.loop-tokens.invariant.named))
+    c.in_ok-eat.ensures c.if-not-branch.true (map_pushed g.R.Nodes.arg c.loop-tokens.args.items c.push.new.self.items c.argument.result c.in_ok-push.ensures.items ∙ ap (λ y. xs ++ y ∷ []) c.argument.ensures)
 
 pub loop-tokens-smaller : goal.loop-tokens-smaller
 loop-tokens-smaller g c =
-    item_shorter (form.arg (expr_at g.V.TemplateValue.functions c.args.self.now.depth)) comma c.loop-tokens.tokens c.arg.new.tokens c.eat.new.self
-    (arg_view g.V.TemplateValue.contents c.in_ok-arg.arg) c.in_ok-eat.field-0 c.in_ok-arg.ensures c.in_ok-eat.ensures c.if-not-branch.false
+    item_shorter (form.arg (expr_at g.R.Nodes.functions c.args.self.now.depth)) comma (g.R.Tokens.place c.loop-tokens.tokens) (g.R.Tokens.place c.arg.new.tokens) (g.R.Tokens.place c.eat.new.self)
+    (argument_of g.R.Nodes.text g.R.Nodes.tree c.in_ok-arg.arg) c.in_ok-eat.field-0 c.in_ok-arg.ensures c.in_ok-eat.ensures c.if-not-branch.false
 
 pub loop-tokens-preserved : goal.loop-tokens-preserved
 loop-tokens-preserved g c =
-    let v = g.V.TemplateValue.contents in
-    let xs = args_view v c.loop-tokens.args.items in
-    let ys = args_view v c.push.new.self.items in
-    let x = arg_view v c.in_ok-arg.arg in
-    let n : length xs ≡ c.len.result = omega (arith, length-map c.loop-tokens.args.items (arg_view v), c.len.ensures, c.loop-tokens.args.ok.0) in
-    let pushed = map_pushed (arg_view v) c.loop-tokens.args.items c.push.new.self.items c.in_ok-arg.arg c.in_ok-push.ensures.items in
+    let xs = map g.R.Nodes.arg c.loop-tokens.args.items in
+    let ys = map g.R.Nodes.arg c.push.new.self.items in
+    let x = argument_of g.R.Nodes.text g.R.Nodes.tree c.in_ok-arg.arg in
+    let n : length xs ≡ c.len.result = omega (arith, length-map c.loop-tokens.args.items g.R.Nodes.arg, c.len.ensures, c.loop-tokens.args.ok.0) in
+    let pushed = map_pushed g.R.Nodes.arg c.loop-tokens.args.items c.push.new.self.items c.argument.result c.in_ok-push.ensures.items ∙ ap (λ y. xs ++ y ∷ []) c.argument.ensures in
     record {
       read = c.loop-tokens.invariant.read ∙
-          arg_also (expr_at g.V.TemplateValue.functions c.args.self.now.depth) xs ys c.loop-tokens.tokens c.arg.new.tokens c.eat.new.self
+          arg_also (expr_at g.R.Nodes.functions c.args.self.now.depth) xs ys (g.R.Tokens.place c.loop-tokens.tokens) (g.R.Tokens.place c.arg.new.tokens) (g.R.Tokens.place c.eat.new.self)
           x c.in_ok-eat.field-0 c.loop-tokens-test.ensures c.in_ok-arg.ensures (sym (c.in_default.ensures.none xs n c.loop-tokens.invariant.named))
           c.in_ok-eat.ensures c.if-not-branch.false pushed;
       named = has_named_more xs ys x pushed ∙ elim c.if-named.branch [

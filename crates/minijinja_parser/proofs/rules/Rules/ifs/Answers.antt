@@ -5,7 +5,6 @@ use Rattle.minijinja_grammar.specs.Grammar.{Ifs, expr_at, primary_at, or_level}
 use Rattle.minijinja_grammar.specs.Words.{is, if_word, else_word}
 use Rattle.minijinja_parser.specs.private.Conditions.{waiting_view}
 use Rattle.minijinja_parser.specs.private.Reads.{eaten}
-use Rattle.minijinja_tree.specs.SpannedErasure.{expr_node}
 use Rattle.minijinja_parser.proofs.Ifs.{ifs_are}
 use Rattle.minijinja_parser.proofs.Turned.{eaten_shorter, next_shorter, read_no_longer}
 use Rattle.minijinja_parser.proofs.rules.Rules.ifs.Goals as goal
@@ -16,10 +15,10 @@ loop-expr-init g c =
 
 pub returns-in_err-eat : goal.returns-in_err-eat
 returns-in_err-eat g c =
-    let v = g.V.TemplateValue.contents in
-    let o = or_level g.V.TemplateValue.functions (expr_at g.V.TemplateValue.functions c.args.self.now.depth) (primary_at g.V.TemplateValue.functions c.args.self.now.depth) in
-    let s : Ifs _ = record { waiting = reverse (map (waiting_view v) c.loop-expr.waiting.items); now = expr_node v c.loop-expr.expr; from = c.loop-expr.from } in
-    let e = c.loop-expr.invariant ∙ ifs_are o s c.loop-expr.tokens in
+    let v = g.R.Nodes.tree in
+    let o = or_level g.R.Nodes.functions (expr_at g.R.Nodes.functions c.args.self.now.depth) (primary_at g.R.Nodes.functions c.args.self.now.depth) in
+    let s : Ifs _ = record { waiting = reverse (map (waiting_view v) c.loop-expr.waiting.items); now = v c.loop-expr.expr; from = c.loop-expr.from } in
+    let e = c.loop-expr.invariant ∙ ifs_are o s (g.R.Tokens.place c.loop-expr.tokens) in
     rw e (search rules)
 
 pub level-requires : goal.level-requires
@@ -28,22 +27,22 @@ level-requires g c =
 
 pub returns-in_err-test_expr : goal.returns-in_err-test_expr
 returns-in_err-test_expr g c =
-    let v = g.V.TemplateValue.contents in
-    let o = or_level g.V.TemplateValue.functions (expr_at g.V.TemplateValue.functions c.args.self.now.depth) (primary_at g.V.TemplateValue.functions c.args.self.now.depth) in
-    let s : Ifs _ = record { waiting = reverse (map (waiting_view v) c.loop-expr.waiting.items); now = expr_node v c.loop-expr.expr; from = c.loop-expr.from } in
-    let e = c.loop-expr.invariant ∙ ifs_are o s c.loop-expr.tokens in
-    let b : eaten if_word c.loop-expr.tokens ≡ got true c.eat.new.self = c.in_ok-eat.ensures ∙ ap (λ x. got x c.eat.new.self) c.if-branch.true in
+    let v = g.R.Nodes.tree in
+    let o = or_level g.R.Nodes.functions (expr_at g.R.Nodes.functions c.args.self.now.depth) (primary_at g.R.Nodes.functions c.args.self.now.depth) in
+    let s : Ifs _ = record { waiting = reverse (map (waiting_view v) c.loop-expr.waiting.items); now = v c.loop-expr.expr; from = c.loop-expr.from } in
+    let e = c.loop-expr.invariant ∙ ifs_are o s (g.R.Tokens.place c.loop-expr.tokens) in
+    let b : eaten if_word (g.R.Tokens.place c.loop-expr.tokens) ≡ got true (g.R.Tokens.place c.eat.new.self) = c.in_ok-eat.ensures ∙ ap (λ x. got x (g.R.Tokens.place c.eat.new.self)) c.if-branch.true in
     rw (e, b) (search rules)
 
 pub returns-in_err-begin : goal.returns-in_err-begin
 returns-in_err-begin g c =
-    let v = g.V.TemplateValue.contents in
-    let o = or_level g.V.TemplateValue.functions (expr_at g.V.TemplateValue.functions c.args.self.now.depth) (primary_at g.V.TemplateValue.functions c.args.self.now.depth) in
-    let s : Ifs _ = record { waiting = reverse (map (waiting_view v) c.loop-expr.waiting.items); now = expr_node v c.loop-expr.expr; from = c.loop-expr.from } in
-    let e = c.loop-expr.invariant ∙ ifs_are o s c.loop-expr.tokens in
-    let b : eaten if_word c.loop-expr.tokens ≡ got true c.eat.new.self = c.in_ok-eat.ensures ∙ ap (λ x. got x c.eat.new.self) c.if-branch.true in
-    let h : reads o c.eat.new.self ≡ got (expr_node v c.in_ok-test_expr.test_expr) c.level.new.tokens = c.in_ok-test_expr.ensures in
-    let k : comes (is else_word) c.level.new.tokens.tokens ≡ true = sym c.at.ensures ∙ c.if-at.true in
+    let v = g.R.Nodes.tree in
+    let o = or_level g.R.Nodes.functions (expr_at g.R.Nodes.functions c.args.self.now.depth) (primary_at g.R.Nodes.functions c.args.self.now.depth) in
+    let s : Ifs _ = record { waiting = reverse (map (waiting_view v) c.loop-expr.waiting.items); now = v c.loop-expr.expr; from = c.loop-expr.from } in
+    let e = c.loop-expr.invariant ∙ ifs_are o s (g.R.Tokens.place c.loop-expr.tokens) in
+    let b : eaten if_word (g.R.Tokens.place c.loop-expr.tokens) ≡ got true (g.R.Tokens.place c.eat.new.self) = c.in_ok-eat.ensures ∙ ap (λ x. got x (g.R.Tokens.place c.eat.new.self)) c.if-branch.true in
+    let h : reads o (g.R.Tokens.place c.eat.new.self) ≡ got (v c.in_ok-test_expr.test_expr) (g.R.Tokens.place c.level.new.tokens) = c.in_ok-test_expr.ensures in
+    let k : comes (is else_word) (g.R.Tokens.place c.level.new.tokens).tokens ≡ true = sym c.at.ensures ∙ c.if-at.true in
     rw (e, b, h, k) (search rules)
 
 pub level-requires-then-at : goal.level-requires-then-at
@@ -52,13 +51,13 @@ level-requires-then-at g c =
 
 pub returns-in_err-following : goal.returns-in_err-following
 returns-in_err-following g c =
-    let v = g.V.TemplateValue.contents in
-    let o = or_level g.V.TemplateValue.functions (expr_at g.V.TemplateValue.functions c.args.self.now.depth) (primary_at g.V.TemplateValue.functions c.args.self.now.depth) in
-    let s : Ifs _ = record { waiting = reverse (map (waiting_view v) c.loop-expr.waiting.items); now = expr_node v c.loop-expr.expr; from = c.loop-expr.from } in
-    let e = c.loop-expr.invariant ∙ ifs_are o s c.loop-expr.tokens in
-    let b : eaten if_word c.loop-expr.tokens ≡ got true c.eat.new.self = c.in_ok-eat.ensures ∙ ap (λ x. got x c.eat.new.self) c.if-branch.true in
-    let h : reads o c.eat.new.self ≡ got (expr_node v c.in_ok-test_expr.test_expr) c.level.new.tokens = c.in_ok-test_expr.ensures in
-    let k : comes (is else_word) c.level.new.tokens.tokens ≡ true = sym c.at.ensures ∙ c.if-at.true in
+    let v = g.R.Nodes.tree in
+    let o = or_level g.R.Nodes.functions (expr_at g.R.Nodes.functions c.args.self.now.depth) (primary_at g.R.Nodes.functions c.args.self.now.depth) in
+    let s : Ifs _ = record { waiting = reverse (map (waiting_view v) c.loop-expr.waiting.items); now = v c.loop-expr.expr; from = c.loop-expr.from } in
+    let e = c.loop-expr.invariant ∙ ifs_are o s (g.R.Tokens.place c.loop-expr.tokens) in
+    let b : eaten if_word (g.R.Tokens.place c.loop-expr.tokens) ≡ got true (g.R.Tokens.place c.eat.new.self) = c.in_ok-eat.ensures ∙ ap (λ x. got x (g.R.Tokens.place c.eat.new.self)) c.if-branch.true in
+    let h : reads o (g.R.Tokens.place c.eat.new.self) ≡ got (v c.in_ok-test_expr.test_expr) (g.R.Tokens.place c.level.new.tokens) = c.in_ok-test_expr.ensures in
+    let k : comes (is else_word) (g.R.Tokens.place c.level.new.tokens).tokens ≡ true = sym c.at.ensures ∙ c.if-at.true in
     rw (e, b, h, k, c.in_ok-begin.ensures) (search rules)
 
 pub returns-in_err-push : goal.returns-in_err-push
@@ -67,25 +66,25 @@ returns-in_err-push g c =
 
 pub loop-expr-smaller-then-at : goal.loop-expr-smaller-then-at
 loop-expr-smaller-then-at g c =
-    let v = g.V.TemplateValue.contents in
-    let o = or_level g.V.TemplateValue.functions (expr_at g.V.TemplateValue.functions c.args.self.now.depth) (primary_at g.V.TemplateValue.functions c.args.self.now.depth) in
-    let b : eaten if_word c.loop-expr.tokens ≡ got true c.eat.new.self = c.in_ok-eat.ensures ∙ ap (λ x. got x c.eat.new.self) c.if-branch.true in
-    let h : reads o c.eat.new.self ≡ got (expr_node v c.in_ok-test_expr.test_expr) c.level.new.tokens = c.in_ok-test_expr.ensures in
-    let i = eaten_shorter if_word c.loop-expr.tokens c.eat.new.self b in
-    let j = read_no_longer o c.eat.new.self c.level.new.tokens _ h in
-    let l = next_shorter else_word c.level.new.tokens c.expect.new.self _ c.in_ok-begin.ensures in
-    let m = read_no_longer o c.expect.new.self c.level-then-at.new.tokens _ c.in_ok-following.ensures in
+    let v = g.R.Nodes.tree in
+    let o = or_level g.R.Nodes.functions (expr_at g.R.Nodes.functions c.args.self.now.depth) (primary_at g.R.Nodes.functions c.args.self.now.depth) in
+    let b : eaten if_word (g.R.Tokens.place c.loop-expr.tokens) ≡ got true (g.R.Tokens.place c.eat.new.self) = c.in_ok-eat.ensures ∙ ap (λ x. got x (g.R.Tokens.place c.eat.new.self)) c.if-branch.true in
+    let h : reads o (g.R.Tokens.place c.eat.new.self) ≡ got (v c.in_ok-test_expr.test_expr) (g.R.Tokens.place c.level.new.tokens) = c.in_ok-test_expr.ensures in
+    let i = eaten_shorter if_word (g.R.Tokens.place c.loop-expr.tokens) (g.R.Tokens.place c.eat.new.self) b in
+    let j = read_no_longer o (g.R.Tokens.place c.eat.new.self) (g.R.Tokens.place c.level.new.tokens) _ h in
+    let l = next_shorter else_word (g.R.Tokens.place c.level.new.tokens) (g.R.Tokens.place c.expect.new.self) _ c.in_ok-begin.ensures in
+    let m = read_no_longer o (g.R.Tokens.place c.expect.new.self) (g.R.Tokens.place c.level-then-at.new.tokens) _ c.in_ok-following.ensures in
     omega (arith, i, j, l, m)
 
 pub loop-expr-preserved-then-at : goal.loop-expr-preserved-then-at
 loop-expr-preserved-then-at g c =
-    let v = g.V.TemplateValue.contents in
-    let o = or_level g.V.TemplateValue.functions (expr_at g.V.TemplateValue.functions c.args.self.now.depth) (primary_at g.V.TemplateValue.functions c.args.self.now.depth) in
-    let s : Ifs _ = record { waiting = reverse (map (waiting_view v) c.loop-expr.waiting.items); now = expr_node v c.loop-expr.expr; from = c.loop-expr.from } in
-    let e = c.loop-expr.invariant ∙ ifs_are o s c.loop-expr.tokens in
-    let b : eaten if_word c.loop-expr.tokens ≡ got true c.eat.new.self = c.in_ok-eat.ensures ∙ ap (λ x. got x c.eat.new.self) c.if-branch.true in
-    let h : reads o c.eat.new.self ≡ got (expr_node v c.in_ok-test_expr.test_expr) c.level.new.tokens = c.in_ok-test_expr.ensures in
-    let k : comes (is else_word) c.level.new.tokens.tokens ≡ true = sym c.at.ensures ∙ c.if-at.true in
+    let v = g.R.Nodes.tree in
+    let o = or_level g.R.Nodes.functions (expr_at g.R.Nodes.functions c.args.self.now.depth) (primary_at g.R.Nodes.functions c.args.self.now.depth) in
+    let s : Ifs _ = record { waiting = reverse (map (waiting_view v) c.loop-expr.waiting.items); now = v c.loop-expr.expr; from = c.loop-expr.from } in
+    let e = c.loop-expr.invariant ∙ ifs_are o s (g.R.Tokens.place c.loop-expr.tokens) in
+    let b : eaten if_word (g.R.Tokens.place c.loop-expr.tokens) ≡ got true (g.R.Tokens.place c.eat.new.self) = c.in_ok-eat.ensures ∙ ap (λ x. got x (g.R.Tokens.place c.eat.new.self)) c.if-branch.true in
+    let h : reads o (g.R.Tokens.place c.eat.new.self) ≡ got (v c.in_ok-test_expr.test_expr) (g.R.Tokens.place c.level.new.tokens) = c.in_ok-test_expr.ensures in
+    let k : comes (is else_word) (g.R.Tokens.place c.level.new.tokens).tokens ≡ true = sym c.at.ensures ∙ c.if-at.true in
     e ∙ rw (b, h, k, c.in_ok-begin.ensures, c.in_ok-following.ensures, c.in_ok-push.ensures.items, map-append, reverse-append, c.replace-true_expr.ensures.value, c.replace-true_expr.ensures.after) refl
 
 pub returns-in_err-expr : goal.returns-in_err-expr
@@ -94,24 +93,24 @@ returns-in_err-expr g c =
 
 pub loop-expr-smaller : goal.loop-expr-smaller
 loop-expr-smaller g c =
-    let v = g.V.TemplateValue.contents in
-    let o = or_level g.V.TemplateValue.functions (expr_at g.V.TemplateValue.functions c.args.self.now.depth) (primary_at g.V.TemplateValue.functions c.args.self.now.depth) in
-    let b : eaten if_word c.loop-expr.tokens ≡ got true c.eat.new.self = c.in_ok-eat.ensures ∙ ap (λ x. got x c.eat.new.self) c.if-branch.true in
-    let h : reads o c.eat.new.self ≡ got (expr_node v c.in_ok-test_expr.test_expr) c.level.new.tokens = c.in_ok-test_expr.ensures in
-    let i = eaten_shorter if_word c.loop-expr.tokens c.eat.new.self b in
-    let j = read_no_longer o c.eat.new.self c.level.new.tokens _ h in
+    let v = g.R.Nodes.tree in
+    let o = or_level g.R.Nodes.functions (expr_at g.R.Nodes.functions c.args.self.now.depth) (primary_at g.R.Nodes.functions c.args.self.now.depth) in
+    let b : eaten if_word (g.R.Tokens.place c.loop-expr.tokens) ≡ got true (g.R.Tokens.place c.eat.new.self) = c.in_ok-eat.ensures ∙ ap (λ x. got x (g.R.Tokens.place c.eat.new.self)) c.if-branch.true in
+    let h : reads o (g.R.Tokens.place c.eat.new.self) ≡ got (v c.in_ok-test_expr.test_expr) (g.R.Tokens.place c.level.new.tokens) = c.in_ok-test_expr.ensures in
+    let i = eaten_shorter if_word (g.R.Tokens.place c.loop-expr.tokens) (g.R.Tokens.place c.eat.new.self) b in
+    let j = read_no_longer o (g.R.Tokens.place c.eat.new.self) (g.R.Tokens.place c.level.new.tokens) _ h in
     omega (arith, i, j)
 
 pub loop-expr-preserved : goal.loop-expr-preserved
 loop-expr-preserved g c =
-    let v = g.V.TemplateValue.contents in
-    let o = or_level g.V.TemplateValue.functions (expr_at g.V.TemplateValue.functions c.args.self.now.depth) (primary_at g.V.TemplateValue.functions c.args.self.now.depth) in
-    let s : Ifs _ = record { waiting = reverse (map (waiting_view v) c.loop-expr.waiting.items); now = expr_node v c.loop-expr.expr; from = c.loop-expr.from } in
-    let e = c.loop-expr.invariant ∙ ifs_are o s c.loop-expr.tokens in
-    let b : eaten if_word c.loop-expr.tokens ≡ got true c.eat.new.self = c.in_ok-eat.ensures ∙ ap (λ x. got x c.eat.new.self) c.if-branch.true in
-    let h : reads o c.eat.new.self ≡ got (expr_node v c.in_ok-test_expr.test_expr) c.level.new.tokens = c.in_ok-test_expr.ensures in
-    let k : comes (is else_word) c.level.new.tokens.tokens ≡ false = sym c.at.ensures ∙ c.if-at.false in
-    e ∙ rw (b, h, k, c.in_ok-expr.ensures.tree, c.expand_span.ensures, c.last_span-to.ensures) refl
+    let v = g.R.Nodes.tree in
+    let o = or_level g.R.Nodes.functions (expr_at g.R.Nodes.functions c.args.self.now.depth) (primary_at g.R.Nodes.functions c.args.self.now.depth) in
+    let s : Ifs _ = record { waiting = reverse (map (waiting_view v) c.loop-expr.waiting.items); now = v c.loop-expr.expr; from = c.loop-expr.from } in
+    let e = c.loop-expr.invariant ∙ ifs_are o s (g.R.Tokens.place c.loop-expr.tokens) in
+    let b : eaten if_word (g.R.Tokens.place c.loop-expr.tokens) ≡ got true (g.R.Tokens.place c.eat.new.self) = c.in_ok-eat.ensures ∙ ap (λ x. got x (g.R.Tokens.place c.eat.new.self)) c.if-branch.true in
+    let h : reads o (g.R.Tokens.place c.eat.new.self) ≡ got (v c.in_ok-test_expr.test_expr) (g.R.Tokens.place c.level.new.tokens) = c.in_ok-test_expr.ensures in
+    let k : comes (is else_word) (g.R.Tokens.place c.level.new.tokens).tokens ≡ false = sym c.at.ensures ∙ c.if-at.false in
+    e ∙ rw (b, h, k, c.in_ok-expr.ensures, c.expand_span-span.ensures, c.last_span-to.ensures) refl
 
 pub returns-in_err-closed : goal.returns-in_err-closed
 returns-in_err-closed g c =
@@ -119,9 +118,9 @@ returns-in_err-closed g c =
 
 pub returns : goal.returns
 returns g c =
-    let v = g.V.TemplateValue.contents in
-    let o = or_level g.V.TemplateValue.functions (expr_at g.V.TemplateValue.functions c.args.self.now.depth) (primary_at g.V.TemplateValue.functions c.args.self.now.depth) in
-    let s : Ifs _ = record { waiting = reverse (map (waiting_view v) c.loop-expr.waiting.items); now = expr_node v c.loop-expr.expr; from = c.loop-expr.from } in
-    let e = c.loop-expr.invariant ∙ ifs_are o s c.loop-expr.tokens in
-    let b : eaten if_word c.loop-expr.tokens ≡ got false c.eat.new.self = c.in_ok-eat.ensures ∙ ap (λ x. got x c.eat.new.self) c.if-branch.false in
-    rw (e, b, c.in_ok-closed.ensures, c.last_span.ensures) refl
+    let v = g.R.Nodes.tree in
+    let o = or_level g.R.Nodes.functions (expr_at g.R.Nodes.functions c.args.self.now.depth) (primary_at g.R.Nodes.functions c.args.self.now.depth) in
+    let s : Ifs _ = record { waiting = reverse (map (waiting_view v) c.loop-expr.waiting.items); now = v c.loop-expr.expr; from = c.loop-expr.from } in
+    let e = c.loop-expr.invariant ∙ ifs_are o s (g.R.Tokens.place c.loop-expr.tokens) in
+    let b : eaten if_word (g.R.Tokens.place c.loop-expr.tokens) ≡ got false (g.R.Tokens.place c.eat.new.self) = c.in_ok-eat.ensures ∙ ap (λ x. got x (g.R.Tokens.place c.eat.new.self)) c.if-branch.false in
+    rw (e, b, c.in_ok-closed.ensures, c.last_span-to-2.ensures) refl

@@ -8,11 +8,11 @@ use Rattle.minijinja_parser.proofs.Turned.{next_shorter}
 use Rattle.minijinja_parser.proofs.rules.Rules.negated.Goals as goal
 
 pub loop-begins-smaller : goal.loop-begins-smaller
-loop-begins-smaller g c = next_shorter minus c.loop-begins.tokens c.expect.new.self c.in_ok-expect.field-0 c.in_ok-expect.ensures
+loop-begins-smaller g c = next_shorter minus (g.R.Tokens.place c.loop-begins.tokens) (g.R.Tokens.place c.expect.new.self) c.in_ok-expect.field-0 c.in_ok-expect.ensures
 
 pub loop-begins-preserved : goal.loop-begins-preserved
 loop-begins-preserved g c =
-    let f = g.V.TemplateValue.functions in
+    let f = g.R.Nodes.functions in
     let d = c.args.self.now.depth in
-    minuses_turn f (expr_at f d) (primary_at f d) (reads (form.operand f (expr_at f d) (primary_at f d)) c.args.tokens.now) c.loop-begins.begins.items c.push.new.self.items c.loop-begins.tokens c.expect.new.self c.in_ok-expect.field-0
+    minuses_turn f (expr_at f d) (primary_at f d) (reads (form.operand f (expr_at f d) (primary_at f d)) (g.R.Tokens.place c.args.tokens.now)) c.loop-begins.begins.items c.push.new.self.items (g.R.Tokens.place c.loop-begins.tokens) (g.R.Tokens.place c.expect.new.self) c.in_ok-expect.field-0
     c.loop-begins.invariant (sym c.at.ensures ∙ c.loop-begins-test.true) c.in_ok-expect.ensures c.in_ok-push.ensures.items

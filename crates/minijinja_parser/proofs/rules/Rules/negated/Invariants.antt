@@ -8,8 +8,8 @@ use Rattle.minijinja_parser.proofs.rules.Rules.negated.Given as goal
 
 abbrev pub invariant-loop-begins : goal.invariant-loop-begins
 invariant-loop-begins g l =
-    let f = g.V.TemplateValue.functions in let d = l.self.depth in
-    reads (form.operand f (expr_at f d) (primary_at f d)) l.fn.tokens ≡ minuses f (expr_at f d) (primary_at f d) (reverse l.begins.items) l.tokens
+    let f = g.R.Nodes.functions in let d = l.self.depth in
+    reads (form.operand f (expr_at f d) (primary_at f d)) (g.R.Tokens.place l.fn.tokens) ≡ minuses f (expr_at f d) (primary_at f d) (reverse l.begins.items) (g.R.Tokens.place l.tokens)
 
 abbrev pub decreases-loop-begins : goal.decreases-loop-begins
-decreases-loop-begins g l = length l.tokens.tokens
+decreases-loop-begins g l = length (g.R.Tokens.place l.tokens).tokens

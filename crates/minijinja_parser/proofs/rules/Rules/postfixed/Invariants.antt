@@ -2,15 +2,14 @@ use Rattle.std.proofs.Common.{◌≡◌, length}
 use Rattle.minijinja_grammar.specs.Forms.{reads}
 use Rattle.minijinja_grammar.specs.Grammar as form
 use Rattle.minijinja_grammar.specs.Grammar.{expr_at, primary_at}
-use Rattle.minijinja_tree.specs.SpannedErasure.{expr_node}
 use Rattle.minijinja_parser.proofs.Postfixes.{postfixes}
 use Rattle.minijinja_parser.proofs.rules.Rules.postfixed.Given as goal
 
 abbrev pub invariant-loop-from : goal.invariant-loop-from
 invariant-loop-from g l =
-    let f = g.V.TemplateValue.functions in let d = l.self.depth in
-    reads (form.postfixed f (expr_at f d) (primary_at f d)) l.fn.tokens ≡
-    postfixes f (expr_at f d) (primary_at f d) (expr_node g.V.TemplateValue.contents l.expr) l.from l.tokens
+    let f = g.R.Nodes.functions in let d = l.self.depth in
+    reads (form.postfixed f (expr_at f d) (primary_at f d)) (g.R.Tokens.place l.fn.tokens) ≡
+    postfixes f (expr_at f d) (primary_at f d) (g.R.Nodes.tree l.expr) l.from (g.R.Tokens.place l.tokens)
 
 abbrev pub decreases-loop-from : goal.decreases-loop-from
-decreases-loop-from g l = length l.tokens.tokens
+decreases-loop-from g l = length (g.R.Tokens.place l.tokens).tokens

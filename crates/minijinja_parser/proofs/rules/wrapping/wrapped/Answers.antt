@@ -1,10 +1,10 @@
 use Rattle.std.proofs.Common.{◌≡◌, length, ◌∙◌, sym, arith}
 use Rattle.minijinja_tree.specs.Erasure.{unary_op}
 use Rattle.minijinja_parser.proofs.Wrapping.{wrapped_more, wrapped_done}
-use Rattle.minijinja_parser.proofs.nodes.wrapped.Goals as goal
+use Rattle.minijinja_parser.proofs.rules.wrapping.wrapped.Goals as goal
 
 pub loop-begin-preserved : goal.loop-begin-preserved
-loop-begin-preserved g c = c.loop-begin.invariant ∙ wrapped_more (unary_op c.args.op) c.args.to _ _ _ _ _ c.in-Some.ensures.items c.in_ok-expr.ensures.tree
+loop-begin-preserved g c = c.loop-begin.invariant ∙ wrapped_more (unary_op c.args.op) c.args.to _ _ _ _ _ c.in-Some.ensures.items c.in_ok-expr.ensures
 
 pub returns : goal.returns
 returns g c =
