@@ -32,8 +32,8 @@ fn is_plain<R: Nodes>(arg: &Argument<R::Name, R::Expr>) -> bool
 fn fault<R: Nodes>(arg: &Argument<R::Name, R::Expr>, count: usize, named: bool) -> Option<Wanted>
     ensures none { (xs : List (Arg R.Contents)) → length xs ≡ count → has_named xs ≡ named →
         is_none result ≡ is_allowed xs (argument_of R.text R.tree arg.now) }
-    ensures which { IfSome result (λ w. w ≡ (if form.is_plain (argument_of R.text R.tree arg.now) && named
-        then Wanted.Keyword else Wanted.FewerArguments)) }
+    ensures which { IfSome result (λ w. w ≡ (if form.is_plain (argument_of R.text R.tree arg.now) &&
+        named then Wanted.Keyword else Wanted.FewerArguments)) }
 {
     if named && is_plain::<R>(arg) {
         return Some(Wanted::Keyword);
@@ -87,8 +87,8 @@ impl<
     #[tactic(auto, using(crate::proofs::CallArgs::arg_is))]
     fn arg(&self, tokens: &mut R) -> Result<Argument<R::Name, R::Expr>, Refusal>
         requires { Nests R.place R.tree R.functions self.now.depth F.pre F.post self.now.expr }
-        ensures { Reads (argument_of R.text R.tree) (reads (form.arg (expr_at R.functions self.now.depth)) (R.place
-            tokens.old)) result (R.place tokens.new) }
+        ensures { Reads (argument_of R.text R.tree) (reads (form.arg (expr_at R.functions
+            self.now.depth)) (R.place tokens.old)) result (R.place tokens.new) }
     {
         if tokens.eat(Mark::Mul)? {
             return Ok(Argument::Starred(self.nested(tokens)?));

@@ -52,8 +52,8 @@ fn closed<R: Nodes>(
     Ok(expr)
 }
 
-/// An expression, in which expressions and primaries nest `depth` deep at most. What is made is named, so that the rules may take
-/// this function as their parser of nested expressions.
+/// An expression, in which expressions and primaries nest `depth` deep at most. What is made is named, so that the rules may
+/// take this function as their parser of nested expressions.
 #[tactic(auto, unfolding(minijinja_grammar::specs::Grammar::expr_at))]
 pub fn expr<R: Nodes>(
     tokens: &mut R,

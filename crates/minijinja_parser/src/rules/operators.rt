@@ -30,7 +30,8 @@ impl<
     /// An expression of the level: an operand, and the operators of the level and of tighter ones that follow it.
     #[cycle(level)]
     pub(crate) fn level(&self, tokens: &mut R, level: Level) -> Result<R::Expr, Refusal>
-        requires nests { Nests R.place R.tree R.functions self.now.depth F.pre F.post self.now.expr }
+        requires nests { Nests R.place R.tree R.functions self.now.depth F.pre F.post
+            self.now.expr }
         ensures { Reads R.tree (reads (level_of
             (unary_level R.functions (expr_at R.functions self.now.depth)
             (primary_at R.functions self.now.depth)) (rows level)) (R.place tokens.old)) result
@@ -48,7 +49,8 @@ impl<
     /// The first operand of a level: a negation where a `not` comes that the level has.
     #[cycle(level)]
     fn first(&self, tokens: &mut R, level: Level) -> Result<R::Expr, Refusal>
-        requires nests { Nests R.place R.tree R.functions self.now.depth F.pre F.post self.now.expr }
+        requires nests { Nests R.place R.tree R.functions self.now.depth F.pre F.post
+            self.now.expr }
         ensures { Reads R.tree (first_of (unary_level R.functions
             (expr_at R.functions self.now.depth) (primary_at R.functions self.now.depth))
             (rows level) (R.place tokens.old)) result (R.place tokens.new) }
@@ -62,7 +64,8 @@ impl<
     /// Comparisons after any number of `not`.
     #[cycle(level)]
     fn negation(&self, tokens: &mut R) -> Result<R::Expr, Refusal>
-        requires nests { Nests R.place R.tree R.functions self.now.depth F.pre F.post self.now.expr }
+        requires nests { Nests R.place R.tree R.functions self.now.depth F.pre F.post
+            self.now.expr }
         ensures { Reads R.tree (reads (level_of
             (unary_level R.functions (expr_at R.functions self.now.depth)
             (primary_at R.functions self.now.depth)) (rows level.Not)) (R.place tokens.old))
@@ -91,7 +94,8 @@ impl<
         before: Span,
         left: R::Expr,
     ) -> Result<R::Expr, Refusal>
-        requires nests { Nests R.place R.tree R.functions self.now.depth F.pre F.post self.now.expr }
+        requires nests { Nests R.place R.tree R.functions self.now.depth F.pre F.post
+            self.now.expr }
         requires comes { next_operator level.Or (R.place tokens.old).tokens ≡ Some operator }
         ensures { Reads R.tree (operation (unary_level R.functions
             (expr_at R.functions self.now.depth) (primary_at R.functions self.now.depth))
@@ -109,7 +113,8 @@ impl<
     /// The comparisons that come, one at least.
     #[cycle(level)]
     fn comparisons(&self, tokens: &mut R, before: Span, expr: R::Expr) -> Result<R::Expr, Refusal>
-        requires nests { Nests R.place R.tree R.functions self.now.depth F.pre F.post self.now.expr }
+        requires nests { Nests R.place R.tree R.functions self.now.depth F.pre F.post
+            self.now.expr }
         requires comes { comes begins_comparison (R.place tokens.old).tokens ≡ true }
         ensures { Reads R.tree (reads (comparisons
             (level_of (unary_level R.functions (expr_at R.functions self.now.depth)
@@ -133,7 +138,8 @@ impl<
         op: CompareOpKind,
         expr: R::Expr,
     ) -> Result<Vec<R::Comparison>, Refusal>
-        requires nests { Nests R.place R.tree R.functions self.now.depth F.pre F.post self.now.expr }
+        requires nests { Nests R.place R.tree R.functions self.now.depth F.pre F.post
+            self.now.expr }
         ensures { Reads (λ v. map R.compared v.items)
             (reads (many (of_kind begins_comparison) (form.comparison
             (level_of (unary_level R.functions (expr_at R.functions self.now.depth)
@@ -153,7 +159,8 @@ impl<
     /// A comparison and its right side.
     #[cycle(level)]
     fn comparison(&self, tokens: &mut R) -> Result<(CompareOpKind, R::Expr), Refusal>
-        requires nests { Nests R.place R.tree R.functions self.now.depth F.pre F.post self.now.expr }
+        requires nests { Nests R.place R.tree R.functions self.now.depth F.pre F.post
+            self.now.expr }
         ensures { Reads (λ c. (compare_op c.0, R.tree c.1))
             (comparison_at (level_of (unary_level R.functions (expr_at R.functions self.now.depth)
             (primary_at R.functions self.now.depth)) (rows level.Sum)) (R.place tokens.old))
