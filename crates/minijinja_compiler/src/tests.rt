@@ -9,9 +9,10 @@ mod syntax;
 mod tree;
 mod values;
 
-use crate::error::Error;
+use crate::error::{Error, ErrorKind};
 use crate::syntax::{SyntaxConfig, SyntaxConfigBuilder};
 use std::alloc::Global;
+use std::test::Fail;
 
 /// How the tags of a row begin and end, and what is done with the whitespace round them.
 #[derive(Clone, Copy)]
@@ -64,5 +65,19 @@ impl Options {
 
     fn build(self, alloc: Global) -> Result<SyntaxConfig, Error<'static>> {
         self.builder(alloc)?.build(alloc)
+    }
+
+    /// The syntax, for tests of what can be built.
+    fn syntax(self, alloc: Global) -> Result<SyntaxConfig, Fail> {
+        Ok(self.build(alloc)?)
+    }
+
+    /// What is wrong with them, for tests of what cannot.
+    fn refusal(self, alloc: Global) -> Result<ErrorKind, Fail> {
+        let error = self.build(alloc).err().ok_or("built")?;
+        if error.span().is_some() || error.name().is_some() {
+            return Err(Fail::from("it names a place"));
+        }
+        Ok(error.kind())
     }
 }

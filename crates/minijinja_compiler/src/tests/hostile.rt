@@ -23,7 +23,7 @@ fn count_tokens(
     source: &str,
 ) -> Result<(u32, u32), Fail> {
     assert!(rt; source.len() < 4_294_967_296);
-    let syntax = options.build(alloc)?;
+    let syntax = options.syntax(alloc)?;
     let mut tokenizer = Tokenizer::new(alloc, source, "page", false, &syntax);
     let mut end = 0;
     for count in 0..u32::MAX {

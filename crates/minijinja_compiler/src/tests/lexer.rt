@@ -64,7 +64,7 @@ fn shown(
 /// Each template has these tokens in its syntax.
 fn reads(rt: &impl Abort, alloc: Global, rows: &[(Options, &str, &str)]) -> Result<(), Fail> {
     for (options, source, wanted) in rows {
-        let syntax = options.build(alloc)?;
+        let syntax = options.syntax(alloc)?;
         let found = shown(rt, alloc, &syntax, source, false, View::Places)?;
         assert_eq!(rt; found.as_str(), *wanted, "of {source}");
     }

@@ -8,6 +8,33 @@ use std::alloc::Global;
 use std::process::Abort;
 use std::test::Fail;
 
+/// Options that go together.
+const BUILT: [Options; 5] = [
+    PLAIN,
+    LINES,
+    Options {
+        block: ("\\BLOCK{", "}"),
+        variable: ("\\VAR{", "}"),
+        comment: ("\\#{", "}"),
+        trim_blocks: true,
+        keep_trailing_newline: true,
+        ..PLAIN
+    },
+    Options {
+        variable: ("«", "»"),
+        line_statement: "%",
+        lstrip_blocks: true,
+        ..PLAIN
+    },
+    Options {
+        block: ("{{%", "%}}"),
+        line_comment: "//",
+        trim_blocks: true,
+        lstrip_blocks: true,
+        ..PLAIN
+    },
+];
+
 /// A start and an end are those of the row.
 fn is_pair(rt: &impl Abort, found: (&str, &str), wanted: (&str, &str)) {
     let (start, end) = found;
@@ -35,66 +62,52 @@ fn is_of(rt: &impl Abort, syntax: &SyntaxConfig, options: Options) {
     );
 }
 
+fn copied(syntax: &SyntaxConfig) -> Result<SyntaxConfig, Fail> {
+    Ok(syntax.try_clone()?)
+}
+
+fn rebuilt(syntax: &SyntaxConfig, alloc: Global) -> Result<SyntaxConfig, Fail> {
+    Ok(syntax.to_builder(alloc)?.build(alloc)?)
+}
+
 #[test]
 fn a_syntax_is_what_its_builder_was_given(rt: HostRuntime) -> Result<(), Fail> {
     is_of(&rt, &SyntaxConfig::default(), PLAIN);
-    let rows = [
-        PLAIN,
-        LINES,
-        Options {
-            block: ("\\BLOCK{", "}"),
-            variable: ("\\VAR{", "}"),
-            comment: ("\\#{", "}"),
-            trim_blocks: true,
-            keep_trailing_newline: true,
-            ..PLAIN
-        },
-        Options {
-            variable: ("«", "»"),
-            line_statement: "%",
-            lstrip_blocks: true,
-            ..PLAIN
-        },
-        Options {
-            block: ("{{%", "%}}"),
-            line_comment: "//",
-            trim_blocks: true,
-            lstrip_blocks: true,
-            ..PLAIN
-        },
-    ];
-    for options in rows {
-        let syntax = options.build(rt.alloc())?;
+    for options in BUILT {
+        let syntax = options.syntax(rt.alloc())?;
         is_of(&rt, &syntax, options);
-        is_of(&rt, &syntax.try_clone()?, options);
-        let next = syntax.to_builder(rt.alloc())?.build(rt.alloc())?;
-        is_of(&rt, &next, options);
+        is_of(&rt, &copied(&syntax)?, options);
+        is_of(&rt, &rebuilt(&syntax, rt.alloc())?, options);
     }
     Ok(())
 }
 
-/// The delimiters of blocks, variables and comments, and the prefixes of lines of statements and of comments.
+/// A start and an end.
+type Pair = (&'static str, &'static str);
+
+/// Delimiters of blocks, variables and comments, and prefixes of lines of statements and of comments, that do not go together.
+const CLASHES: [(Pair, Pair, Pair, &str, &str); 16] = [
+    (("", "%}"), ("{{", "}}"), ("{#", "#}"), "", ""),
+    (("{%", ""), ("{{", "}}"), ("{#", "#}"), "", ""),
+    (("{%", "%}"), ("", "}}"), ("{#", "#}"), "", ""),
+    (("{%", "%}"), ("{{", ""), ("{#", "#}"), "", ""),
+    (("{%", "%}"), ("{{", "}}"), ("", "#}"), "", ""),
+    (("{%", "%}"), ("{{", "}}"), ("{#", ""), "", ""),
+    (("x", "}"), ("x", "}"), ("c", "}"), "d", "e"),
+    (("b", "}"), ("x", "}"), ("x", "}"), "d", "e"),
+    (("b", "}"), ("x", "}"), ("c", "}"), "x", "e"),
+    (("b", "}"), ("x", "}"), ("c", "}"), "d", "x"),
+    (("x", "}"), ("a", "}"), ("x", "}"), "d", "e"),
+    (("x", "}"), ("a", "}"), ("c", "}"), "x", "e"),
+    (("x", "}"), ("a", "}"), ("c", "}"), "d", "x"),
+    (("b", "}"), ("a", "}"), ("x", "}"), "x", "e"),
+    (("b", "}"), ("a", "}"), ("x", "}"), "d", "x"),
+    (("b", "}"), ("a", "}"), ("c", "}"), "x", "x"),
+];
+
 #[test]
 fn empty_delimiters_and_equal_starts_are_refused(rt: HostRuntime) -> Result<(), Fail> {
-    let rows = [
-        (("", "%}"), ("{{", "}}"), ("{#", "#}"), "", ""),
-        (("{%", ""), ("{{", "}}"), ("{#", "#}"), "", ""),
-        (("{%", "%}"), ("", "}}"), ("{#", "#}"), "", ""),
-        (("{%", "%}"), ("{{", ""), ("{#", "#}"), "", ""),
-        (("{%", "%}"), ("{{", "}}"), ("", "#}"), "", ""),
-        (("{%", "%}"), ("{{", "}}"), ("{#", ""), "", ""),
-        (("x", "}"), ("x", "}"), ("c", "}"), "d", "e"),
-        (("b", "}"), ("x", "}"), ("x", "}"), "d", "e"),
-        (("b", "}"), ("x", "}"), ("c", "}"), "x", "e"),
-        (("b", "}"), ("x", "}"), ("c", "}"), "d", "x"),
-        (("x", "}"), ("a", "}"), ("x", "}"), "d", "e"),
-        (("x", "}"), ("a", "}"), ("c", "}"), "x", "e"),
-        (("x", "}"), ("a", "}"), ("c", "}"), "d", "x"),
-        (("b", "}"), ("a", "}"), ("x", "}"), "x", "e"),
-        (("b", "}"), ("a", "}"), ("x", "}"), "d", "x"),
-        (("b", "}"), ("a", "}"), ("c", "}"), "x", "x"),
-    ];
-    for (block, variable, comment, line_statement, line_comment) in rows {
+    for (block, variable, comment, line_statement, line_comment) in CLASHES {
         let options = Options {
             block,
             variable,
@@ -103,13 +116,7 @@ fn empty_delimiters_and_equal_starts_are_refused(rt: HostRuntime) -> Result<(), 
             line_comment,
             ..PLAIN
         };
-        let error = options
-            .builder(rt.alloc())?
-            .build(rt.alloc())
-            .err()
-            .ok_or("built")?;
-        assert!(rt; error.kind() == ErrorKind::InvalidDelimiter);
-        assert!(rt; error.span().is_none() && error.name().is_none());
+        assert!(rt; options.refusal(rt.alloc())? == ErrorKind::InvalidDelimiter);
     }
     Ok(())
 }
@@ -130,30 +137,42 @@ fn finds(
     Ok(())
 }
 
+/// Starts of words.
+const WORDED: Options = Options {
+    block: ("\\BLOCK{", "}"),
+    variable: ("\\VAR{", "}"),
+    comment: ("\\#{", "}"),
+    ..PLAIN
+};
+
+/// What is found in a text from a place on: where, which and how long.
+const MARKED: [(Options, &str, usize, Option<(usize, StartMarker, usize)>); 10] = [
+    (PLAIN, "a {{ b", 0, Some((2, StartMarker::Variable, 2))),
+    (PLAIN, "{{ {% {#", 1, Some((2, StartMarker::Block, 2))),
+    (PLAIN, "{ { % }}", 0, None),
+    (WORDED, "a\\BLOCK{x}", 0, Some((1, StartMarker::Block, 7))),
+    (
+        LINES,
+        "a # b\n \t# for",
+        0,
+        Some((8, StartMarker::LineStatement, 1)),
+    ),
+    (LINES, "x ## y", 0, Some((2, StartMarker::LineComment, 2))),
+    (LINES, "## y", 1, None),
+    (
+        LINES,
+        "a\r # b",
+        3,
+        Some((0, StartMarker::LineStatement, 1)),
+    ),
+    (LINES, "# {# b", 0, Some((0, StartMarker::LineStatement, 1))),
+    (LINES, "a # {# b", 0, Some((4, StartMarker::Comment, 2))),
+];
+
 #[test]
 fn the_leftmost_and_then_the_longest_marker_is_found(rt: HostRuntime) -> Result<(), Fail> {
-    let worded = Options {
-        block: ("\\BLOCK{", "}"),
-        variable: ("\\VAR{", "}"),
-        comment: ("\\#{", "}"),
-        ..PLAIN
-    };
-    let (block, comment) = (StartMarker::Block, StartMarker::Comment);
-    let (statement, line_comment) = (StartMarker::LineStatement, StartMarker::LineComment);
-    let rows = [
-        (PLAIN, "a {{ b", 0, Some((2, StartMarker::Variable, 2))),
-        (PLAIN, "{{ {% {#", 1, Some((2, block, 2))),
-        (PLAIN, "{ { % }}", 0, None),
-        (worded, "a\\BLOCK{x}", 0, Some((1, block, 7))),
-        (LINES, "a # b\n \t# for", 0, Some((8, statement, 1))),
-        (LINES, "x ## y", 0, Some((2, line_comment, 2))),
-        (LINES, "## y", 1, None),
-        (LINES, "a\r # b", 3, Some((0, statement, 1))),
-        (LINES, "# {# b", 0, Some((0, statement, 1))),
-        (LINES, "a # {# b", 0, Some((4, comment, 2))),
-    ];
-    for (options, source, offset, wanted) in rows {
-        let syntax = options.build(rt.alloc())?;
+    for (options, source, offset, wanted) in MARKED {
+        let syntax = options.syntax(rt.alloc())?;
         finds(&rt, rt.alloc(), &syntax, source, offset, wanted)?;
     }
     Ok(())
@@ -230,7 +249,7 @@ fn searches_agree_at_each_place(rt: HostRuntime) -> Result<(), Fail> {
         line_comment: "\u{1}\u{2}",
         ..PLAIN
     };
-    let general = general.build(rt.alloc())?;
+    let general = general.syntax(rt.alloc())?;
     for source in WORKED {
         for offset in 0..source.len() {
             if source.is_char_boundary(offset) {
