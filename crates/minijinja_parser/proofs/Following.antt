@@ -1,7 +1,7 @@
 -- What follows an operand, a step at a time.
-use Rattle.std.proofs.Common.{◌≡◌, ◌∙◌, true, false, [], ◌∷◌, if◌then◌else◌, Option, None, Err, refl, ap}
+use Rattle.std.proofs.Common.{◌≡◌, ◌∙◌, false, [], ◌∷◌, if◌then◌else◌, Option, None, Err, refl, ap}
 use Rattle.minijinja_value.specs.Values.{Functions}
-use Rattle.minijinja_syntax.specs.Tokens.{Tok, bracket_close, bracket_open, colon, dot, paren_open, pipe}
+use Rattle.minijinja_syntax.specs.Tokens.{Tok, bracket_close, bracket_open, colon, dot, paren_open}
 use Rattle.minijinja_syntax.specs.declared.tokens.Span.{Span}
 use Rattle.minijinja_tree.specs.Tree.{logical_not}
 use Rattle.minijinja_tree.specs.SpannedTrees as tree
@@ -46,15 +46,6 @@ module _ {C : Type 0} (expr : Form (Expr C)) where
     unfolding form.member
     member_same e from p = refl
 
-    pub postfix_member : (t : Tok) (e : Expr C) (from : Span) (p : Place) → is dot t ≡ true → reads (form.postfix expr f e from t) p ≡ reads (form.member nothing f e from) p
-    unfolding form.member
-    postfix_member dot e from p h = refl
-    postfix_member _ e from p h = cc
-
-    pub postfix_subscript : (t : Tok) (e : Expr C) (from : Span) (p : Place) → is bracket_open t ≡ true → reads (form.postfix expr f e from t) p ≡ reads (form.subscript expr e from) p
-    postfix_subscript bracket_open e from p h = refl
-    postfix_subscript _ e from p h = cc
-
     -- after any other token stand arguments
     pub postfix_call : (t : Tok) (e : Expr C) (from : Span) (p : Place) → is dot t ≡ false → is bracket_open t ≡ false →
         reads (form.postfix expr f e from t) p ≡ read_then (reads (form.args expr) p) (λ xs q. got (tree.call e (args_of xs) (expanded from q.last)) q)
@@ -88,12 +79,3 @@ module _ {C F : Type 0} (f : Functions C F) (expr prim : Form (Expr C)) where
   unfolding reads form.test_args
   test_args_is p =
       behind_is paren_open (form.args expr) (either begins_bare (form.operand f expr prim >>= (λ e. pure (positional e ∷ []))) (pure [])) p
-
-  pub suffix_filter : (t : Tok) (e : Expr C) (p : Place) → is pipe t ≡ true → reads (form.suffix f expr prim e t) p ≡ reads (form.filtered f expr prim e) p
-  suffix_filter pipe e p h = refl
-  suffix_filter _ e p h = cc
-
-  -- after any token but a `|` stands a test
-  pub suffix_test : (t : Tok) (e : Expr C) (p : Place) → is pipe t ≡ false → reads (form.suffix f expr prim e t) p ≡ reads (form.any_test f expr prim e) p
-  suffix_test pipe e p h = cc
-  suffix_test _ e p h = refl

@@ -1,12 +1,12 @@
 -- Primaries, by their first token.
-use Rattle.std.proofs.Common.{◌≡◌, ◌∙◌, ℕ, zero, suc, ◌-◌, ◌<◌, arith, true, false, Some, refl, ap}
+use Rattle.std.proofs.Common.{◌≡◌, ◌∙◌, ℕ, zero, suc, ◌-◌, ◌<◌, arith, false, Some, refl, ap}
 use Rattle.minijinja_value.specs.Values.{Functions}
 use Rattle.minijinja_syntax.specs.Streams.{SpannedTok}
 use Rattle.minijinja_syntax.specs.Tokens.{Tok, paren_open, bracket_open, brace_open}
 use Rattle.minijinja_syntax.specs.declared.tokens.Span.{Span}
 use Rattle.minijinja_grammar.specs.Words.{begins_primary, is}
 use Rattle.minijinja_grammar.specs.Forms.{Place, one, Read, got, short, wrong, read_then, held_or_wrong, misfit, reads}
-use Rattle.minijinja_grammar.specs.Grammar.{of_kind, begun, expr_at, group, in_brackets, in_braces, primary, primary_at}
+use Rattle.minijinja_grammar.specs.Grammar.{of_kind, begun, expr_at, primary, primary_at}
 use Rattle.minijinja_parser.specs.private.Primaries.{atom_at, begun_at}
 use Rattle.minijinja_parser.proofs.Taking.{one_is}
 
@@ -29,21 +29,7 @@ module _ {C F : Type 0} (f : Functions C F) where
   primary_is zero p h = absurd (omega arith)
   primary_is (suc d) p h = let e : suc d - 1 ≡ d = omega arith in rw e (begins d p)
 
-  -- ---- by its first token
-
-  pub begun_group : (d : ℕ) (t : Tok) (s : Span) (p : Place) → is paren_open t ≡ true → begun_at f d (t, s) p ≡ reads (group (expr_at f d) s) p
-  begun_group d paren_open s p h = refl
-  begun_group d _ s p h = cc
-
-  pub begun_list : (d : ℕ) (t : Tok) (s : Span) (p : Place) → is bracket_open t ≡ true → begun_at f d (t, s) p ≡ reads (in_brackets (expr_at f d) s) p
-  begun_list d bracket_open s p h = refl
-  begun_list d _ s p h = cc
-
-  pub begun_map : (d : ℕ) (t : Tok) (s : Span) (p : Place) → is brace_open t ≡ true → begun_at f d (t, s) p ≡ reads (in_braces (expr_at f d) s) p
-  begun_map d brace_open s p h = refl
-  begun_map d _ s p h = cc
-
-  -- in any other none is nested
+  -- in a primary that no bracket begins none is nested
   pub begun_atom : (d : ℕ) (t : Tok) (s : Span) (p : Place) → is paren_open t ≡ false → is bracket_open t ≡ false → is brace_open t ≡ false →
       begun_at f d (t, s) p ≡ atom_at f (t, s) p
   unfolding atom_at

@@ -78,6 +78,7 @@ pub fn expected(mark: Mark) -> Expected {
         Mark::ParenClose => Expected::ParenClose,
         Mark::BracketOpen => Expected::BracketOpen,
         Mark::BracketClose => Expected::BracketClose,
+        // No rule asks for it alone: a map is an expression.
         Mark::BraceOpen => Expected::Expression,
         Mark::BraceClose => Expected::BraceClose,
         Mark::VariableEnd => Expected::VariableEnd,

@@ -1,22 +1,20 @@
 //! Nodes, each on the heap. Refused memory is the only error.
-ghost use Rattle.std.specs.Prelude.{◌≡◌, ◌≤◌, length, map, IfOk};
+ghost use Rattle.std.specs.Prelude.{◌≡◌, map, IfOk};
 ghost use Rattle.std.specs.Option.{option_map};
 ghost use Rattle.minijinja_tree.specs.Erasure.{bin_op, unary_op};
 ghost use Rattle.minijinja_tree.specs.SpannedErasure.{expr_node, stmt_node};
 ghost use Rattle.minijinja_tree.specs.Nodes.{node_of, span_of};
-ghost use Rattle.minijinja_tree.specs.BinOps as bin;
 ghost use Rattle.minijinja_tree.specs.SpannedTrees as tree;
 ghost use Rattle.minijinja_tree.specs.SpannedTrees.{present, stmts_of, args_of, comparisons_of, exprs_of, optional_of};
-ghost use Rattle.minijinja_grammar.specs.Grammar as form;
-ghost use Rattle.minijinja_grammar.specs.Grammar.{compare_all, name_of_variable};
+ghost use Rattle.minijinja_grammar.specs.Grammar.{name_of_variable};
 ghost use Rattle.minijinja_tree.specs.SpannedErasure.{all_compared, any_tree, args_view, trees};
 
 use minijinja_base::tokens::Span;
 use minijinja_base::value::TemplateValue;
 use minijinja_tree::ast::{
-    BinOp, BinOpKind, Call, CallArg, Compare, CompareOp, CompareOpKind, Const, EmitExpr, EmitRaw,
-    Expr, Filter, GetAttr, GetItem, IfExpr, List, Map, Set, Slice, Spanned, Stmt, Template, Test,
-    Tuple, UnaryOp, UnaryOpKind, Var,
+    BinOp, BinOpKind, Call, CallArg, Compare, CompareOp, Const, EmitExpr, EmitRaw, Expr, Filter,
+    GetAttr, GetItem, IfExpr, List, Map, Set, Slice, Spanned, Stmt, Template, Test, Tuple, UnaryOp,
+    UnaryOpKind, Var,
 };
 use std::alloc::{AllocError, Global};
 

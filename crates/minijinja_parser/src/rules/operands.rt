@@ -1,5 +1,4 @@
 //! Operands: primaries and what follows them.
-ghost use Rattle.std.specs.Prelude.{[]};
 ghost use Rattle.std.specs.Option.{option_map};
 ghost use Rattle.minijinja_grammar.specs.Forms.{reads};
 ghost use Rattle.minijinja_grammar.specs.Grammar as form;

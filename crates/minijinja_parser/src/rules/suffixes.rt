@@ -1,5 +1,5 @@
 //! Filters and tests.
-ghost use Rattle.std.specs.Prelude.{[], map};
+ghost use Rattle.std.specs.Prelude.{map};
 ghost use Rattle.minijinja_grammar.specs.Forms.{reads};
 ghost use Rattle.minijinja_grammar.specs.Grammar as form;
 ghost use Rattle.minijinja_grammar.specs.Grammar.{expr_at, primary_at};

@@ -45,8 +45,7 @@ fn not_in<R: Nodes>(
     span: Span,
 ) -> Result<R::Expr, AllocError>
     ensures tree { IfOk result (λ e. R.tree e ≡ tree.unary logical_not
-        (tree.binary bin.is_in (R.tree left)
-        (R.tree right) span) span) }
+        (tree.binary bin.is_in (R.tree left) (R.tree right) span) span) }
 {
     let inner = nodes.node(Node::BinOp(BinOpKind::In, left, right), span)?;
     nodes.node(Node::UnaryOp(UnaryOpKind::Not, inner), span)
