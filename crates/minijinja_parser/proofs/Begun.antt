@@ -10,7 +10,7 @@ use Rattle.minijinja_grammar.specs.Forms.{Form, Place}
 use Rattle.minijinja_grammar.specs.Derived.{IsWholeOf}
 use Rattle.minijinja_parser.specs.Causes.{IsLimit, IsRefusal}
 use Rattle.minijinja_parser.specs.Parsing.{AnswersItsRefusal, HasRefused}
-use Rattle.minijinja_parser.specs.TokenStreams.{Comes, first_place, no_place, stream_at}
+use Rattle.minijinja_stream.specs.TokenStreams.{Comes, first_place, no_place, stream_at}
 
 module _ {A X : Type 0} (f : Form A) (view : X → A) (text : Text) (s : Stream) (p : Place) (r : Result X Error)
     (source : p.source ≡ text) (last : p.last ≡ no_place) (comes : Comes s (stream_at p))

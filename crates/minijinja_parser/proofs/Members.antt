@@ -11,7 +11,7 @@ use Rattle.minijinja_tree.specs.SpannedTrees.{Expr, attribute, item, constant}
 use Rattle.minijinja_grammar.specs.Forms.{Place, nothing, one, Read, got, short, wrong, read_then, held_or_wrong, reads}
 use Rattle.minijinja_grammar.specs.Grammar.{expanded, of_kind, begins_member, member_of, member}
 use Rattle.minijinja_grammar.proofs.Climbing.{after_after}
-use Rattle.minijinja_parser.proofs.Taking.{one_is}
+use Rattle.minijinja_stream.proofs.Taking.{one_is}
 
 module _ {C F : Type 0} (f : Functions C F) (e : Expr C) (from : Span) where
   abbrev held : SpannedTok → Option SpannedTok

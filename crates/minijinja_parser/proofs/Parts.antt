@@ -13,7 +13,7 @@ use Rattle.minijinja_grammar.specs.Forms.{Place, Turn, go_on, Form, pure, one, c
 use Rattle.minijinja_grammar.specs.Grammar.{of_kind, expr_at, expanded}
 use Rattle.minijinja_grammar.specs.Templates.{begins_part, part, stmt_at, template_at}
 use Rattle.minijinja_grammar.proofs.Unrolled.{many_is}
-use Rattle.minijinja_grammar.proofs.Forms.{sound, no_longer, takes_shorter}
+use Rattle.minijinja_grammar.proofs.Forms.{sound, no_longer}
 use Rattle.minijinja_parser.specs.private.Parts.{part_at, parts}
 
 module _ {C F : Type 0} (f : Functions C F) (d : ℕ) where
@@ -72,6 +72,3 @@ no_part f d (TemplateData x) s p h i j = absurd (h x refl)
 no_part f d VariableStart s p h i j = absurd (i refl)
 no_part f d BlockStart s p h i j = absurd (j refl)
 no_part f d _ s p h i j = refl
-
-pub take_shorter : (p q : Place) (t : SpannedTok) → reads (one Some) p ≡ got t q → length q.tokens < length p.tokens
-take_shorter p q t e = takes_shorter Some p q t (sound (one Some) p q t e)

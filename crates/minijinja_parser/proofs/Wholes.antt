@@ -14,8 +14,8 @@ use Rattle.minijinja_grammar.proofs.Trees.{one_whole, fits_to_end}
 use Rattle.minijinja_grammar.proofs.Whole.{IsAtEnd}
 use Rattle.minijinja_parser.specs.Causes.{IsRefusal}
 use Rattle.minijinja_parser.specs.private.Wholes.{IsOver, IsCutAt, HasMisfit, ReadsWhole, IsOfEnding, IsErrorAt}
-use Rattle.minijinja_parser.specs.declared.refusal.Refusal.{Refusal}
-use Rattle.minijinja_parser.specs.declared.refusal.Refusal.TheVariants as refusal
+use Rattle.minijinja_stream.specs.declared.refusal.Refusal.{Refusal}
+use Rattle.minijinja_stream.specs.declared.refusal.Refusal.TheVariants as refusal
 
 abbrev place_or : {A : Type 0} → Place → Read A → Place
 place_or p (got x q) = q

@@ -1,4 +1,3 @@
-pub mod TokenStreams
 pub mod Derived
 pub mod Causes
 pub mod Parsing

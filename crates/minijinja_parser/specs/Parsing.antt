@@ -9,7 +9,7 @@ use Rattle.minijinja_syntax.specs.declared.error.ErrorKind.{ErrorKind}
 use Rattle.minijinja_syntax.specs.declared.error.ErrorKind.TheVariants.{OutOfMemory}
 use Rattle.minijinja_grammar.specs.Forms.{Form, Place}
 use Rattle.minijinja_grammar.specs.Derived.{FitsSoFar}
-use Rattle.minijinja_parser.specs.TokenStreams.{stream_at}
+use Rattle.minijinja_stream.specs.TokenStreams.{stream_at}
 
 -- the name of its source, and the place that it has come to
 pub record Parsing : Type 0 where

@@ -6,20 +6,21 @@ ghost use Rattle.minijinja_syntax.specs.Tokens.{tok_of};
 ghost use Rattle.minijinja_lexer.specs.Slices.{IsBetweenChars};
 ghost use Rattle.minijinja_grammar.specs.Forms.{nothing, reads};
 ghost use Rattle.minijinja_grammar.specs.Grammar as form;
-ghost use Rattle.minijinja_parser.specs.private.Primaries.{atom_at};
-ghost use Rattle.minijinja_parser.specs.private.Reads.{Reads};
+ghost use Rattle.minijinja_rules.specs.private.Primaries.{atom_at};
+ghost use Rattle.minijinja_stream.specs.private.Reads.{Reads};
 ghost use Rattle.minijinja_parser.specs.private.Texts.{Joins};
 ghost use Rattle.minijinja_tree.specs.SpannedErasure.{expr_node};
 ghost use Rattle.minijinja_tree.specs.SpannedTrees as tree;
 
-use crate::marks::{Mark, Part};
 use crate::nodes;
-use crate::refusal::{Refusal, Wanted};
-use crate::token_stream::TokenStream;
-use crate::words::{is_false_word, is_none_word, is_true_word};
 use minijinja_base::error::Expected;
 use minijinja_base::tokens::{Span, Token};
 use minijinja_base::value::TemplateValue;
+use minijinja_stream::marks::{Mark, Part};
+use minijinja_stream::refusal::{Refusal, Wanted};
+use minijinja_stream::token_stream::TokenStream;
+use minijinja_stream::tokens::{Tokens, ident};
+use minijinja_stream::words::{is_false_word, is_none_word, is_true_word};
 use minijinja_tree::ast::Expr;
 use std::alloc::{AllocError, Global};
 
@@ -80,7 +81,7 @@ fn constant_text<'s, V: TemplateValue>(
 }
 
 /// A constant, a text or a variable, which begins with the token.
-#[tactic(auto, unfolding(minijinja_grammar::specs::Forms::reads, crate::specs::private::Primaries::atom_at))]
+#[tactic(auto, unfolding(minijinja_grammar::specs::Forms::reads, minijinja_rules::specs::private::Primaries::atom_at))]
 pub fn atom<'s, V: TemplateValue>(
     alloc: Global,
     tokens: &mut TokenStream<'s, '_>,
@@ -120,7 +121,7 @@ fn text<'s, V: TemplateValue>(
 }
 
 /// A decoded string, joined with its neighbours.
-#[tactic(auto, using(crate::proofs::Strings::texts_done, crate::proofs::Strings::texts_more, crate::proofs::Parts::take_shorter))]
+#[tactic(auto, using(crate::proofs::Strings::texts_done, crate::proofs::Strings::texts_more, minijinja_stream::proofs::Turned::take_shorter))]
 fn joined_text<'s, V: TemplateValue>(
     alloc: Global,
     tokens: &mut TokenStream<'s, '_>,
@@ -156,7 +157,7 @@ fn push_text(joined: &mut String, token: &Token<'_>) -> Result<(), AllocError>
 pub fn name<'s>(tokens: &mut TokenStream<'s, '_>) -> Result<&'s str, Refusal>
     ensures { Reads (λ x. x.now) (reads form.name tokens.old) result tokens.new }
 {
-    let (name, first) = tokens.ident(Wanted::Part(Expected::Identifier))?;
+    let (name, first) = ident(tokens, Wanted::Part(Expected::Identifier))?;
     if !tokens.at(Mark::Dot) {
         return Ok(name);
     }
@@ -165,7 +166,7 @@ pub fn name<'s>(tokens: &mut TokenStream<'s, '_>) -> Result<&'s str, Refusal>
 }
 
 /// Where the last part of a name stands, after the first one.
-#[tactic(auto, using(crate::proofs::Names::parts_done, crate::proofs::Names::parts_more, crate::proofs::Names::still_between, crate::proofs::Turned::next_shorter, crate::proofs::Turned::read_no_longer))]
+#[tactic(auto, using(crate::proofs::Names::parts_done, crate::proofs::Names::parts_more, crate::proofs::Names::still_between, minijinja_stream::proofs::Turned::next_shorter, minijinja_stream::proofs::Turned::read_no_longer))]
 fn name_parts(tokens: &mut TokenStream<'_, '_>, first: Span) -> Result<Span, Refusal>
     requires { IsBetweenChars tokens.old.source first }
     ensures read { Reads (λ s. s) (reads (form.name_parts first) tokens.old) result tokens.new }
@@ -174,7 +175,7 @@ fn name_parts(tokens: &mut TokenStream<'_, '_>, first: Span) -> Result<Span, Ref
     let mut last = first;
     while tokens.at(Mark::Dot) {
         tokens.expect(Mark::Dot)?;
-        let (_, part) = tokens.ident(Wanted::Part(Expected::Identifier))?;
+        let (_, part) = ident(tokens, Wanted::Part(Expected::Identifier))?;
         last = part;
     }
     Ok(last)

@@ -17,22 +17,23 @@ ghost use Rattle.minijinja_parser.specs.Answers.{AnswersExpr, AnswersExprAt, Ans
 ghost use Rattle.minijinja_parser.specs.Causes.{IsCause};
 ghost use Rattle.minijinja_parser.specs.Derived.{expr_place, template_place, tokens_of};
 ghost use Rattle.minijinja_parser.specs.Parsing.{HasRefused, IsSpent};
-ghost use Rattle.minijinja_parser.specs.TokenStreams.{Comes, no_place, stream_at};
+ghost use Rattle.minijinja_stream.specs.TokenStreams.{Comes, no_place, stream_at};
 ghost use Rattle.minijinja_parser.specs.private.Wholes.{Ends, IsErrorAt, ReadsWhole};
 
-use crate::marks::expected;
-use crate::refusal::{Refusal, Wanted};
-use crate::rules::conditions::expr;
 use crate::statements::template;
-pub use crate::token_stream::TokenStream;
-use crate::tree_reader::TreeReader;
+use crate::tree_nodes::TreeNodes;
 use minijinja_base::error::{Detail, Error, ErrorKind, Expected};
 use minijinja_base::syntax::SyntaxConfig;
 use minijinja_base::value::TemplateValue;
+use minijinja_rules::rules::conditions::expr;
+use minijinja_stream::marks::expected;
+use minijinja_stream::refusal::{Refusal, Wanted};
+pub use minijinja_stream::token_stream::TokenStream;
+use minijinja_stream::token_stream::{set_refusal, tokenizer_refusal};
+use minijinja_stream::tokens::Tokens;
 use minijinja_tree::ast::{Expr, Stmt};
 use std::alloc::{AllocError, Global};
 use std::marker::{Model, PhantomData};
-use std::mem;
 
 /// How deep statements and expressions may nest.
 const MAX_DEPTH: usize = 150;
@@ -156,7 +157,7 @@ impl<'s, 'c> Parser<'s, 'c> {
     {
         match refusal {
             Refusal::OutOfMemory => Error::from(AllocError),
-            Refusal::Ended(wanted) => match self.tokens.refusal() {
+            Refusal::Ended(wanted) => match tokenizer_refusal(&self.tokens) {
                 Some(error) => self.named(error),
                 None => self.syntax_error(self.detail(wanted, true)),
             },
@@ -173,7 +174,7 @@ impl<'s, 'c> Parser<'s, 'c> {
         ensures filename { self.new.filename ≡ self.old.filename }
     {
         let error = self.error(refusal);
-        self.tokens.refuse(error);
+        set_refusal(&mut self.tokens, error);
         error
     }
 
@@ -184,7 +185,7 @@ impl<'s, 'c> Parser<'s, 'c> {
         ensures cause { IfErr result (λ e. IsTokenizerKind (kind_of e)) }
         ensures named { IfErr result (λ e. kind_of e ≢ OutOfMemory → IsNamed self.now.filename e) }
     {
-        match self.tokens.refusal() {
+        match tokenizer_refusal(&self.tokens) {
             Some(error) => Err(self.named(error)),
             None => Ok(()),
         }
@@ -199,28 +200,17 @@ impl<'s, 'c> Parser<'s, 'c> {
         let wanted = Wanted::Part(Expected::End);
         match self.tokens.take(wanted) {
             Ok(_) => Err(Refusal::Wrong(wanted)),
-            Err(Refusal::Ended(_)) if self.tokens.refusal().is_none() => Ok(()),
+            Err(Refusal::Ended(_)) if tokenizer_refusal(&self.tokens).is_none() => Ok(()),
             Err(refusal) => Err(refusal),
         }
     }
 
-    /// All tokens that are left, of which none stays.
-    fn take_tokens(&mut self) -> TokenStream<'s, 'c>
-        ensures taken { result ≡ self.old.place }
-        ensures filename { self.new.filename ≡ self.old.filename }
-    {
-        let none = TokenStream::new(self.alloc, "", self.filename, false, self.syntax);
-        mem::replace(&mut self.tokens, none)
-    }
-
-    /// The tokens that are left, to be read into nodes.
-    fn take_reader<V: TemplateValue>(&mut self) -> TreeReader<'s, 'c, V>
-        ensures taken { result.tokens ≡ self.old.place }
-        ensures filename { self.new.filename ≡ self.old.filename }
-    {
-        TreeReader {
-            tokens: self.take_tokens(),
+    /// Makes the nodes of the tree.
+    fn nodes<V: TemplateValue>(&self) -> TreeNodes<'s, 'c, V> {
+        TreeNodes {
             alloc: self.alloc,
+            source: self.tokens.source(),
+            syntax: self.syntax,
             values: PhantomData,
         }
     }
@@ -231,10 +221,8 @@ impl<'s, 'c> Parser<'s, 'c> {
             (reads (template_at V.functions max_depth) self.old.place) result self.new.place }
         ensures filename { self.new.filename ≡ self.old.filename }
     {
-        let mut reader = self.take_reader();
-        let read = template(&mut reader, MAX_DEPTH);
-        self.tokens = reader.tokens;
-        let template = read?;
+        let nodes = self.nodes();
+        let template = template(nodes, &mut self.tokens, MAX_DEPTH)?;
         self.end()?;
         Ok(template)
     }
@@ -245,10 +233,8 @@ impl<'s, 'c> Parser<'s, 'c> {
             (reads (expr_at V.functions max_depth) self.old.place) result self.new.place }
         ensures filename { self.new.filename ≡ self.old.filename }
     {
-        let mut reader = self.take_reader();
-        let read = expr(&mut reader, PhantomData, MAX_DEPTH);
-        self.tokens = reader.tokens;
-        let expr = read?;
+        let nodes = self.nodes();
+        let expr = expr(nodes, &mut self.tokens, PhantomData, MAX_DEPTH)?;
         self.end()?;
         Ok(expr)
     }

@@ -5,17 +5,8 @@ use Rattle.minijinja_syntax.specs.Streams.{Ending, finished, refused}
 use Rattle.minijinja_syntax.specs.declared.error.Error.{Error}
 use Rattle.minijinja_syntax.specs.declared.error.ErrorKind.TheVariants.{OutOfMemory, SyntaxError}
 use Rattle.minijinja_grammar.specs.Forms.{Place, Read, got, short, wrong}
-use Rattle.minijinja_parser.specs.declared.refusal.Refusal.{Refusal}
-use Rattle.minijinja_parser.specs.declared.refusal.Refusal.TheVariants as refusal
-
--- no token is left but that ending
-abbrev pub ended_at : Place → Ending → Place
-ended_at p ending = record p { tokens = []; ending = ending }
-
--- the refusal that no token precedes
-abbrev pub Refused : Place → Option Error → Type 0
-Refused p (Some e) = (p.tokens ≡ []) × (p.ending ≡ refused (kind_of e) (span_of e))
-Refused p None = p.tokens ≡ [] → p.ending ≡ finished
+use Rattle.minijinja_stream.specs.declared.refusal.Refusal.{Refusal}
+use Rattle.minijinja_stream.specs.declared.refusal.Refusal.TheVariants as refusal
 
 -- nothing is left
 pub record IsOver (p : Place) : Type 0 where

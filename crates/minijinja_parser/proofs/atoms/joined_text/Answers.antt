@@ -1,5 +1,5 @@
 use Rattle.std.proofs.Common.{arith}
-use Rattle.minijinja_parser.proofs.Parts.{take_shorter}
+use Rattle.minijinja_stream.proofs.Turned.{take_shorter}
 use Rattle.minijinja_parser.proofs.atoms.joined_text.Goals as goal
 
 pub loop-tokens-smaller-in_ok-push_text : goal.loop-tokens-smaller-in_ok-push_text

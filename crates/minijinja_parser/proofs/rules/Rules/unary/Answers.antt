@@ -1,5 +1,0 @@
-use Rattle.minijinja_parser.proofs.Postfixes.{taken_shorter}
-use Rattle.minijinja_parser.proofs.rules.Rules.unary.Goals as goal
-
-pub loop-tokens-smaller : goal.loop-tokens-smaller
-loop-tokens-smaller g c = taken_shorter _ _ _ _ _ _ c.in_ok-token.ensures c.in_ok-expr-2.ensures

@@ -1,8 +1,0 @@
-use Rattle.minijinja_parser.proofs.Ifs.{expr_is, none_is}
-use Rattle.minijinja_parser.proofs.rules.conditions.+expr.Goals as goal
-
-pub returns : goal.returns
-returns g t c = rw (expr_is g.R.Nodes.functions c.args.depth (g.R.Tokens.place c.args.tokens.now) c.if-depth-eq0.false) c.cond.ensures
-
-pub returns-then-depth-eq0 : goal.returns-then-depth-eq0
-returns-then-depth-eq0 g t c = none_is g.R.Nodes.functions (g.R.Nodes.tree) c.args.depth (g.R.Tokens.place c.args.tokens.now) c.misfit.result c.if-depth-eq0.true c.misfit.ensures

@@ -1,0 +1,12 @@
+pub mod Steps
+pub mod Entries
+pub mod Primaries
+pub mod CallArgs
+pub mod Refused
+pub mod Following
+pub mod Postfixes
+pub mod Wrapping
+pub mod Repeated
+pub mod Climbed
+pub mod Compared
+pub mod Ifs

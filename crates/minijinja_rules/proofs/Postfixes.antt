@@ -1,0 +1,209 @@
+-- What repeats, a turn at a time: what follows an operand, and operators ahead of one.
+use Rattle.std.proofs.Common.{◌≡◌, ◌∙◌, ◌<◌, ◌≤◌, arith, length, Bool, true, false, List, [], ◌∷◌, ◌++◌, if◌then◌else◌, Some, None, refl, sym, ap}
+use Rattle.std.specs.Prelude.{reverse}
+use Rattle.std.proofs.lemmas.List.{reverse-append}
+use Rattle.minijinja_value.specs.Values.{Functions}
+use Rattle.minijinja_syntax.specs.Tokens.{Tok, minus}
+use Rattle.minijinja_syntax.specs.declared.tokens.Span.{Span}
+use Rattle.minijinja_syntax.specs.Streams.{SpannedTok}
+use Rattle.minijinja_tree.specs.Tree.{UnaryOp, negation}
+use Rattle.minijinja_tree.specs.SpannedTrees.{Expr}
+use Rattle.minijinja_grammar.specs.Words.{is, begins_postfix, begins_suffix}
+use Rattle.minijinja_grammar.specs.Forms.{Place, Turn, go_on, Form, pure, one, many, comes, start_at, Read, got, short, wrong, read_then, after, held_or_wrong, read_one, read_turn, if_held, read_any, reads, ◌>>=◌}
+use Rattle.minijinja_grammar.specs.Grammar as form
+use Rattle.minijinja_grammar.specs.Grammar.{next, of_kind, span_of_mark, wrapped}
+use Rattle.minijinja_grammar.proofs.Unrolled.{many_is}
+use Rattle.minijinja_stream.proofs.Turned.{read_no_longer}
+use Rattle.minijinja_stream.proofs.Turned.{take_shorter}
+
+as_it_is : {A : Type 0} (o : Read A) → read_then o (λ x q. got x q) ≡ o
+as_it_is (got x q) = refl
+as_it_is (short q) = refl
+as_it_is (wrong q) = refl
+
+-- ---- turns that a kind of token begins, each a part
+
+module _ {A X : Type 0} (begins : Tok → Bool) (part : A → SpannedTok → Form X) (added : A → SpannedTok → X → A) where
+  abbrev turn : A → SpannedTok → Form (Turn A)
+  turn x t = part x t >>= (λ y. pure (go_on (added x t y)))
+
+  abbrev turns : A → Form A
+  turns = many (of_kind begins) turn
+
+  turns_done : (x : A) (p : Place) → comes begins p.tokens ≡ false → reads (turns x) p ≡ got x p
+  turns_done x p e = many_is (of_kind begins) turn x p ∙ go p.tokens e
+    where
+      none : (t : SpannedTok) (ts : List SpannedTok) (b : Bool) → b ≡ false →
+          if_held (if b then Some t else None) (λ h. read_turn (reads (turn x h) (after p t ts)) (λ y s. reads (turns y) s)) (got x p) ≡ got x p
+      none t ts true k = cc
+      none t ts false k = refl
+
+      go : (ts : List SpannedTok) → comes begins ts ≡ false → read_any (of_kind begins) (λ h q. read_turn (reads (turn x h) q) (λ y s. reads (turns y) s)) x p ts ≡ got x p
+      go [] k = refl
+      go (t ∷ ts) k = none t ts (begins t.0) k
+
+  turns_more : (x : A) (p : Place) → comes begins p.tokens ≡ true →
+      reads (turns x) p ≡ read_then (reads (one Some) p) (λ t q. read_then (reads (part x t) q) (λ y r. reads (turns (added x t y)) r))
+  unfolding reads
+  turns_more x p e = many_is (of_kind begins) turn x p ∙ go p.tokens e
+    where
+      turned : (t : SpannedTok) (o : Read X) → read_turn (read_then o (λ y q. got (go_on (added x t y)) q)) (λ y s. reads (turns y) s) ≡ read_then o (λ y r. reads (turns (added x t y)) r)
+      turned t (got y q) = refl
+      turned t (short q) = refl
+      turned t (wrong q) = refl
+
+      at_token : (t : SpannedTok) (ts : List SpannedTok) (b : Bool) → b ≡ true →
+          if_held (if b then Some t else None) (λ h. read_turn (reads (turn x h) (after p t ts)) (λ y s. reads (turns y) s)) (got x p) ≡
+          read_then (reads (part x t) (after p t ts)) (λ y r. reads (turns (added x t y)) r)
+      at_token t ts true k = turned t (reads (part x t) (after p t ts))
+      at_token t ts false k = cc
+
+      go : (ts : List SpannedTok) → comes begins ts ≡ true → read_any (of_kind begins) (λ h q. read_turn (reads (turn x h) q) (λ y s. reads (turns y) s)) x p ts ≡
+          read_then (read_one Some p ts) (λ t q. read_then (reads (part x t) q) (λ y r. reads (turns (added x t y)) r))
+      go [] k = cc
+      go (t ∷ ts) k = at_token t ts (begins t.0) k
+
+-- ---- what follows a primary
+
+module _ {C F : Type 0} (f : Functions C F) (expr prim : Form (Expr C)) where
+  abbrev postfix_part : Expr C × Span → SpannedTok → Form (Expr C)
+  postfix_part e t = form.postfix expr f e.0 e.1 t.0
+
+  abbrev postfix_added : Expr C × Span → SpannedTok → Expr C → Expr C × Span
+  postfix_added e t x = (x, t.1)
+
+  -- the operand so far, with what follows it, where the next node begins at the span
+  pub postfixes : Expr C → Span → Place → Read (Expr C)
+  postfixes e from p = read_then (reads (turns begins_postfix postfix_part postfix_added (e, from)) p) (λ x q. got x.0 q)
+
+  pub postfixed_is : (p : Place) → reads (form.postfixed f expr prim) p ≡ read_then (reads prim p) (λ e q. postfixes e (start_at p) q)
+  unfolding reads form.postfixed postfixes
+  postfixed_is p = refl
+
+  pub postfixed_done : (e : Expr C) (from : Span) (p : Place) → comes begins_postfix p.tokens ≡ false → postfixes e from p ≡ got e p
+  unfolding postfixes
+  postfixed_done e from p h = ap (λ o. read_then o (λ x q. got x.0 q)) (turns_done begins_postfix postfix_part postfix_added (e, from) p h)
+
+  pub postfixed_more : (e : Expr C) (from : Span) (p : Place) → comes begins_postfix p.tokens ≡ true →
+      postfixes e from p ≡ read_then (reads (one Some) p) (λ t q. read_then (reads (form.postfix expr f e from t.0) q) (λ x r. postfixes x t.1 r))
+  unfolding postfixes
+  postfixed_more e from p h =
+      ap (λ o. read_then o (λ x q. got x.0 q)) (turns_more begins_postfix postfix_part postfix_added (e, from) p h) ∙ go (reads (one Some) p)
+    where
+      inner : (t : SpannedTok) (o : Read (Expr C)) →
+          read_then (read_then o (λ y r. reads (turns begins_postfix postfix_part postfix_added (y, t.1)) r)) (λ x q. got x.0 q) ≡ read_then o (λ x r. postfixes x t.1 r)
+      inner t (got y q) = refl
+      inner t (short q) = refl
+      inner t (wrong q) = refl
+
+      go : (o : Read SpannedTok) →
+          read_then (read_then o (λ t q. read_then (reads (form.postfix expr f e from t.0) q) (λ y r. reads (turns begins_postfix postfix_part postfix_added (y, t.1)) r))) (λ x q. got x.0 q) ≡
+          read_then o (λ t q. read_then (reads (form.postfix expr f e from t.0) q) (λ x r. postfixes x t.1 r))
+      go (got t q) = inner t (reads (form.postfix expr f e from t.0) q)
+      go (short q) = refl
+      go (wrong q) = refl
+
+  -- ---- filters and tests
+
+  -- the filters and tests that follow, after those so far
+  abbrev pub suffixes : Expr C → Form (Expr C)
+  suffixes = many (of_kind begins_suffix) (form.suffix_turn f expr prim)
+
+  pub unary_is : (p : Place) → reads (form.unary_level f expr prim) p ≡ read_then (reads (form.operand f expr prim) p) (λ e q. reads (suffixes e) q)
+  unfolding reads form.unary_level
+  unary_is p = refl
+
+  pub unary_done : (e : Expr C) (p : Place) → comes begins_suffix p.tokens ≡ false → reads (suffixes e) p ≡ got e p
+  unary_done e p h = turns_done begins_suffix (λ x t. form.suffix f expr prim x t.0) (λ x t y. y) e p h
+
+  pub unary_more : (e : Expr C) (p : Place) → comes begins_suffix p.tokens ≡ true →
+      reads (suffixes e) p ≡ read_then (reads (one Some) p) (λ t q. read_then (reads (form.suffix f expr prim e t.0) q) (λ x r. reads (suffixes x) r))
+  unary_more e p h = turns_more begins_suffix (λ x t. form.suffix f expr prim x t.0) (λ x t y. y) e p h
+
+-- ---- operators ahead of an operand
+
+module _ {C : Type 0} (m : Tok) (o : UnaryOp) (f : Form (Expr C)) where
+  abbrev mark_turn : List Span → Span → Form (Turn (List Span))
+  mark_turn ss s = pure (go_on (s ∷ ss))
+
+  abbrev marks : List Span → Form (List Span)
+  marks = many (span_of_mark m) mark_turn
+
+  abbrev ended : List Span → Place → Read (Expr C)
+  ended ss q = read_then (reads f q) (λ e r. got (wrapped o r.last ss e) r)
+
+  -- those that follow, after those so far, and their operand
+  pub prefixes : List Span → Place → Read (Expr C)
+  prefixes ss p = read_then (reads (marks ss) p) ended
+
+  pub prefixed_is : (p : Place) → reads (form.prefixed m o f) p ≡ prefixes [] p
+  unfolding reads prefixes
+  prefixed_is p = refl
+
+  pub prefixed_done : (ss : List Span) (p : Place) → comes (is m) p.tokens ≡ false → prefixes ss p ≡ read_then (reads f p) (λ e r. got (wrapped o r.last ss e) r)
+  unfolding prefixes
+  prefixed_done ss p e = ap (λ r. read_then r ended) (many_is (span_of_mark m) mark_turn ss p ∙ go p.tokens e)
+    where
+      none : (t : SpannedTok) (ts : List SpannedTok) (b : Bool) → b ≡ false →
+          if_held (if b then Some t.1 else None) (λ h. read_turn (reads (mark_turn ss h) (after p t ts)) (λ y s. reads (marks y) s)) (got ss p) ≡ got ss p
+      none t ts true k = cc
+      none t ts false k = refl
+
+      go : (ts : List SpannedTok) → comes (is m) ts ≡ false → read_any (span_of_mark m) (λ h q. read_turn (reads (mark_turn ss h) q) (λ y s. reads (marks y) s)) ss p ts ≡ got ss p
+      go [] k = refl
+      go (t ∷ ts) k = none t ts (is m t.0) k
+
+  pub prefixed_more : (ss : List Span) (p : Place) → comes (is m) p.tokens ≡ true → prefixes ss p ≡ read_then (reads (next m) p) (λ s q. prefixes (s ∷ ss) q)
+  unfolding reads prefixes
+  prefixed_more ss p e = ap (λ r. read_then r ended) (many_is (span_of_mark m) mark_turn ss p) ∙ go p.tokens e
+    where
+      at_token : (t : SpannedTok) (ts : List SpannedTok) (b : Bool) → b ≡ true →
+          read_then (if_held (if b then Some t.1 else None) (λ h. read_turn (reads (mark_turn ss h) (after p t ts)) (λ y s. reads (marks y) s)) (got ss p)) ended ≡
+          read_then (held_or_wrong (if b then Some t.1 else None) (after p t ts)) (λ s q. prefixes (s ∷ ss) q)
+      at_token t ts true k = refl
+      at_token t ts false k = cc
+
+      go : (ts : List SpannedTok) → comes (is m) ts ≡ true →
+          read_then (read_any (span_of_mark m) (λ h q. read_turn (reads (mark_turn ss h) q) (λ y s. reads (marks y) s)) ss p ts) ended ≡
+          read_then (read_one (span_of_mark m) p ts) (λ s q. prefixes (s ∷ ss) q)
+      go [] k = cc
+      go (t ∷ ts) k = at_token t ts (is m t.0) k
+
+  -- where none comes there is the operand alone
+  pub prefixed_none : (p : Place) → comes (is m) p.tokens ≡ false → reads (form.prefixed m o f) p ≡ reads f p
+  prefixed_none p e = prefixed_is p ∙ prefixed_done [] p e ∙ as_it_is (reads f p)
+
+module _ {C F : Type 0} (f : Functions C F) (expr prim : Form (Expr C)) where
+  abbrev pub minuses : List Span → Place → Read (Expr C)
+  minuses = prefixes minus negation (form.postfixed f expr prim)
+
+  pub minuses_are : (p : Place) → reads (form.operand f expr prim) p ≡ minuses [] p
+  unfolding form.operand
+  minuses_are p = prefixed_is minus negation (form.postfixed f expr prim) p
+
+  pub minuses_done : (ss : List Span) (p : Place) → comes (is minus) p.tokens ≡ false →
+      minuses ss p ≡ read_then (reads (form.postfixed f expr prim) p) (λ e r. got (wrapped negation r.last ss e) r)
+  minuses_done ss p e = prefixed_done minus negation (form.postfixed f expr prim) ss p e
+
+  pub minuses_more : (ss : List Span) (p : Place) → comes (is minus) p.tokens ≡ true → minuses ss p ≡ read_then (reads (next minus) p) (λ s q. minuses (s ∷ ss) q)
+  minuses_more ss p e = prefixed_more minus negation (form.postfixed f expr prim) ss p e
+
+  pub operand_is : (p : Place) → comes (is minus) p.tokens ≡ false → reads (form.operand f expr prim) p ≡ reads (form.postfixed f expr prim) p
+  unfolding form.operand
+  operand_is p e = prefixed_none minus negation (form.postfixed f expr prim) p e
+
+  -- a `-` more, which the code puts last
+  pub minuses_turn : (whole : Read (Expr C)) (items pushed : List Span) (p q : Place) (s : Span) → whole ≡ minuses (reverse items) p → comes (is minus) p.tokens ≡ true →
+      reads (next minus) p ≡ got s q → pushed ≡ items ++ s ∷ [] → whole ≡ minuses (reverse pushed) q
+  minuses_turn whole items pushed p q s e t h k =
+      e ∙ minuses_more (reverse items) p t ∙ ap (λ r. read_then r (λ s q. minuses (s ∷ reverse items) q)) h ∙
+      ap (λ ss. minuses ss q) (sym (reverse-append items (s ∷ []))) ∙ ap (λ ss. minuses (reverse ss) q) (sym k)
+
+-- ---- how many tokens are left
+
+-- a token, and what is read after it
+pub taken_shorter : {A : Type 0} (f : Form A) (p q r : Place) (t : SpannedTok) (x : A) →
+    reads (one Some) p ≡ got t q → reads f q ≡ got x r → length r.tokens < length p.tokens
+taken_shorter f p q r t x e h =
+    let a : length q.tokens < length p.tokens = take_shorter p q t e in
+    let b : length r.tokens ≤ length q.tokens = read_no_longer f q r x h in omega arith

@@ -1,0 +1,41 @@
+use Rattle.std.proofs.Common.{◌∙◌, map}
+use Rattle.minijinja_syntax.specs.Tokens.{comma}
+use Rattle.minijinja_grammar.specs.Grammar.{expr_at}
+use Rattle.minijinja_rules.proofs.Entries.{entries_also, entries_last, entry_shorter, map_pushed}
+use Rattle.minijinja_rules.proofs.rules.Rules.entries.Goals as goal
+
+pub returns-then-not-branch : goal.returns-then-not-branch
+returns-then-not-branch g c =
+    let v = g.N.Nodes.tree in
+    let key = c.in_ok-nested.field-0 in
+    let value = c.in_ok-nested-2.field-0 in
+    c.loop-keys.invariant ∙
+    entries_last (expr_at g.N.Nodes.functions c.args.self.now.depth)
+    (map v c.loop-keys.keys.items) (map v c.push.new.self.items) (map v c.loop-keys.values.items) (map v c.push-in-loop-keys.new.self.items)
+    (g.N.Input.Tokens.place c.loop-keys.tokens) (g.N.Input.Tokens.place c.nested.new.tokens) (g.N.Input.Tokens.place c.expect.new.self) (g.N.Input.Tokens.place c.nested-in-loop-keys.new.tokens) (g.N.Input.Tokens.place c.eat.new.self)
+    (v key) (v value) c.in_ok-expect.field-0 c.in_ok-eat.field-0 c.loop-keys-test.ensures
+    c.in_ok-nested.ensures c.in_ok-expect.ensures c.in_ok-nested-2.ensures c.in_ok-eat.ensures c.if-not-branch.true
+    (map_pushed v c.loop-keys.keys.items c.push.new.self.items key c.in_ok-push.ensures.items)
+    (map_pushed v c.loop-keys.values.items c.push-in-loop-keys.new.self.items value c.in_ok-push-2.ensures.items)
+
+pub loop-keys-smaller : goal.loop-keys-smaller
+loop-keys-smaller g c =
+    let v = g.N.Nodes.tree in
+    entry_shorter (expr_at g.N.Nodes.functions c.args.self.now.depth) comma
+    (g.N.Input.Tokens.place c.loop-keys.tokens) (g.N.Input.Tokens.place c.nested.new.tokens) (g.N.Input.Tokens.place c.expect.new.self) (g.N.Input.Tokens.place c.nested-in-loop-keys.new.tokens) (g.N.Input.Tokens.place c.eat.new.self)
+    (v c.in_ok-nested.field-0) (v c.in_ok-nested-2.field-0) c.in_ok-expect.field-0 c.in_ok-eat.field-0
+    c.in_ok-nested.ensures c.in_ok-expect.ensures c.in_ok-nested-2.ensures c.in_ok-eat.ensures c.if-not-branch.false
+
+pub loop-keys-preserved : goal.loop-keys-preserved
+loop-keys-preserved g c =
+    let v = g.N.Nodes.tree in
+    let key = c.in_ok-nested.field-0 in
+    let value = c.in_ok-nested-2.field-0 in
+    c.loop-keys.invariant ∙
+    entries_also (expr_at g.N.Nodes.functions c.args.self.now.depth)
+    (map v c.loop-keys.keys.items) (map v c.push.new.self.items) (map v c.loop-keys.values.items) (map v c.push-in-loop-keys.new.self.items)
+    (g.N.Input.Tokens.place c.loop-keys.tokens) (g.N.Input.Tokens.place c.nested.new.tokens) (g.N.Input.Tokens.place c.expect.new.self) (g.N.Input.Tokens.place c.nested-in-loop-keys.new.tokens) (g.N.Input.Tokens.place c.eat.new.self)
+    (v key) (v value) c.in_ok-expect.field-0 c.in_ok-eat.field-0 c.loop-keys-test.ensures
+    c.in_ok-nested.ensures c.in_ok-expect.ensures c.in_ok-nested-2.ensures c.in_ok-eat.ensures c.if-not-branch.false
+    (map_pushed v c.loop-keys.keys.items c.push.new.self.items key c.in_ok-push.ensures.items)
+    (map_pushed v c.loop-keys.values.items c.push-in-loop-keys.new.self.items value c.in_ok-push-2.ensures.items)

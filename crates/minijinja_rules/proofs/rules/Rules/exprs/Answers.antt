@@ -1,0 +1,31 @@
+use Rattle.std.proofs.Common.{◌∙◌, map}
+use Rattle.minijinja_syntax.specs.Tokens.{comma}
+use Rattle.minijinja_grammar.specs.Forms.{reads}
+use Rattle.minijinja_grammar.specs.Grammar as form
+use Rattle.minijinja_grammar.specs.Grammar.{expr_at}
+use Rattle.minijinja_rules.proofs.Entries.{exprs_also, exprs_last, item_shorter, map_pushed}
+use Rattle.minijinja_rules.proofs.rules.Rules.exprs.Goals as goal
+
+pub returns-then-not-branch : goal.returns-then-not-branch
+returns-then-not-branch g c =
+    let v = g.N.Nodes.tree in
+    let expr = expr_at g.N.Nodes.functions c.args.self.now.depth in
+    let e = c.in_ok-nested.field-0 in
+    ◌∙◌ {a = reads (form.exprs expr (map v c.args.items.items)) (g.N.Input.Tokens.place c.args.tokens.now)} c.loop-items.invariant
+    (exprs_last expr (map v c.loop-items.items.items) (map v c.push.new.self.items)
+    (g.N.Input.Tokens.place c.loop-items.tokens) (g.N.Input.Tokens.place c.nested.new.tokens) (g.N.Input.Tokens.place c.eat.new.self) (v e) c.in_ok-eat.field-0 c.loop-items-test.ensures c.in_ok-nested.ensures
+    c.in_ok-eat.ensures c.if-not-branch.true (map_pushed v c.loop-items.items.items c.push.new.self.items e c.in_ok-push.ensures.items))
+
+pub loop-items-smaller : goal.loop-items-smaller
+loop-items-smaller g c = item_shorter (expr_at g.N.Nodes.functions c.args.self.now.depth) comma (g.N.Input.Tokens.place c.loop-items.tokens) (g.N.Input.Tokens.place c.nested.new.tokens) (g.N.Input.Tokens.place c.eat.new.self)
+    (g.N.Nodes.tree c.in_ok-nested.field-0) c.in_ok-eat.field-0 c.in_ok-nested.ensures c.in_ok-eat.ensures c.if-not-branch.false
+
+pub loop-items-preserved : goal.loop-items-preserved
+loop-items-preserved g c =
+    let v = g.N.Nodes.tree in
+    let expr = expr_at g.N.Nodes.functions c.args.self.now.depth in
+    let e = c.in_ok-nested.field-0 in
+    ◌∙◌ {a = reads (form.exprs expr (map v c.args.items.items)) (g.N.Input.Tokens.place c.args.tokens.now)} c.loop-items.invariant
+    (exprs_also expr (map v c.loop-items.items.items) (map v c.push.new.self.items)
+    (g.N.Input.Tokens.place c.loop-items.tokens) (g.N.Input.Tokens.place c.nested.new.tokens) (g.N.Input.Tokens.place c.eat.new.self) (v e) c.in_ok-eat.field-0 c.loop-items-test.ensures c.in_ok-nested.ensures
+    c.in_ok-eat.ensures c.if-not-branch.false (map_pushed v c.loop-items.items.items c.push.new.self.items e c.in_ok-push.ensures.items))

@@ -1,0 +1,137 @@
+//! What the rules of expressions make of tokens. The rules know neither what holds the tokens nor how the tree is laid out.
+ghost use Rattle.std.specs.Prelude.{◌≡◌, IfOk};
+ghost use Rattle.std.specs.Option.{option_map};
+ghost use Rattle.minijinja_syntax.specs.Texts.{Text};
+ghost use Rattle.minijinja_value.specs.Values.{Functions};
+ghost use Rattle.minijinja_tree.specs.CompareOps.{CompareOp};
+ghost use Rattle.minijinja_tree.specs.Erasure.{compare_op};
+ghost use Rattle.minijinja_tree.specs.SpannedTrees.{Arg, Expr};
+ghost use Rattle.minijinja_grammar.specs.Forms.{nothing};
+ghost use Rattle.minijinja_grammar.specs.Grammar as form;
+ghost use Rattle.minijinja_grammar.specs.Grammar.{name_of_variable};
+ghost use Rattle.minijinja_stream.specs.private.Reads.{Reads};
+ghost use Rattle.minijinja_rules.specs.private.Made.{argument_of, node_tree};
+ghost use Rattle.minijinja_rules.specs.private.Nests.{Parses};
+ghost use Rattle.minijinja_rules.specs.private.Primaries.{atom_at};
+
+use minijinja_base::tokens::Span;
+use minijinja_stream::refusal::Refusal;
+use minijinja_stream::tokens::Tokens;
+use minijinja_tree::ast::{BinOpKind, CompareOpKind, UnaryOpKind};
+use std::alloc::{AllocError, Global};
+
+/// An argument of a call, a filter or a test, as it is read.
+#[derive(Drop)]
+pub enum Argument<N, E> {
+    /// `expr`
+    Positional(E),
+    /// `name=expr`
+    Keyword(N, E),
+    /// `*expr`
+    Starred(E),
+    /// `**expr`
+    DoubleStarred(E),
+}
+
+/// The parts of a node, over names, expressions, arguments and comparisons.
+#[derive(Drop)]
+pub enum Node<N, E, A, K> {
+    /// An expression and its subscript.
+    Item(E, E),
+    /// An expression, and start, stop and step.
+    Slice(E, Option<E>, Option<E>, Option<E>),
+    UnaryOp(UnaryOpKind, E),
+    BinOp(BinOpKind, E, E),
+    /// A chain of two comparisons or more.
+    Compare(E, Vec<K>),
+    /// The test, the true part and the false part.
+    IfExpr(E, E, Option<E>),
+    Filter(N, E, Vec<A>),
+    Test(N, E, Vec<A>),
+    Call(E, Vec<A>),
+    List(Vec<E>),
+    Tuple(Vec<E>),
+    /// Keys and values.
+    Map(Vec<E>, Vec<E>),
+}
+
+/// Nodes to make, and those that are read from tokens without any nested in them.
+pub trait Nodes: Copy {
+    /// What is read from.
+    type Input: Tokens;
+
+    /// A name as it stands in the source.
+    type Name: Copy + Drop;
+
+    /// An expression.
+    type Expr: Drop;
+
+    /// An argument of a call, a filter or a test.
+    type Arg: Drop;
+
+    /// One comparison of a chain.
+    type Comparison: Drop;
+
+    // What values hold, and what their operators give.
+    ghost Contents: { Type 0 };
+
+    ghost FaultContents: { Type 0 };
+
+    ghost functions: { Functions Contents FaultContents };
+
+    // What is made, as the grammar has it.
+    ghost text: { Self.Name → Text };
+
+    ghost tree: { Self.Expr → Expr Contents };
+
+    ghost arg: { Self.Arg → Arg Contents };
+
+    ghost compared: { Self.Comparison → CompareOp × Expr Contents };
+
+    /// Where nodes are put.
+    fn alloc(&self) -> Global;
+
+    /// A constant, a text or a variable, which begins with the token.
+    fn atom(
+        &self,
+        tokens: &mut Self::Input,
+        first: <Self::Input as Tokens>::Token,
+        from: Span,
+    ) -> Result<Self::Expr, Refusal>
+        ensures { Reads tree (atom_at functions (Self.Input.tok first, from)
+            (Self.Input.place tokens.old)) result (Self.Input.place tokens.new) };
+
+    /// What follows the `.` after an operand: an attribute, or an item at a number.
+    fn member(
+        &self,
+        tokens: &mut Self::Input,
+        expr: Self::Expr,
+        from: Span,
+    ) -> Result<Self::Expr, Refusal>
+        ensures { Parses Self.Input.place tree (form.member nothing functions (tree expr) from)
+            tokens.old result tokens.new };
+
+    /// The name of a filter or a test.
+    fn name(&self, tokens: &mut Self::Input) -> Result<Self::Name, Refusal>
+        ensures { Parses Self.Input.place text form.name tokens.old result tokens.new };
+
+    /// The name of an expression that is a variable.
+    fn variable_name(expr: &Self::Expr) -> Option<Self::Name>
+        ensures { option_map text result ≡ name_of_variable (tree expr.now) };
+
+    /// An argument.
+    fn argument(argument: Argument<Self::Name, Self::Expr>) -> Self::Arg
+        ensures { arg result ≡ argument_of text tree argument };
+
+    /// One comparison of a chain.
+    fn against(op: CompareOpKind, expr: Self::Expr) -> Self::Comparison
+        ensures { compared result ≡ (compare_op op, tree expr) };
+
+    /// A node. Refused memory is the only error.
+    fn node(
+        &self,
+        node: Node<Self::Name, Self::Expr, Self::Arg, Self::Comparison>,
+        span: Span,
+    ) -> Result<Self::Expr, AllocError>
+        ensures { IfOk result (λ e. tree e ≡ node_tree text tree arg compared node span) };
+}

@@ -1,0 +1,157 @@
+//! What stands in brackets, braces or parentheses.
+ghost use Rattle.std.specs.Prelude.{[], map};
+ghost use Rattle.minijinja_grammar.specs.Forms.{reads};
+ghost use Rattle.minijinja_grammar.specs.Grammar as form;
+ghost use Rattle.minijinja_grammar.specs.Grammar.{expr_at, primary_at};
+ghost use Rattle.minijinja_rules.specs.private.Nests.{Nests, Parses};
+ghost use Rattle.minijinja_stream.specs.private.Reads.{Reads};
+ghost use Rattle.minijinja_rules.specs.private.Primaries.{begun_at};
+
+use minijinja_stream::marks::{Mark, Part};
+use crate::nodes::{Node, Nodes};
+use minijinja_stream::refusal::{Refusal, Wanted};
+use minijinja_stream::tokens::Tokens;
+use crate::rules::Rules;
+use minijinja_base::error::Expected;
+use minijinja_base::tokens::Span;
+use std::marker::PhantomData;
+
+impl<
+    N: Nodes,
+    F: Copy
+        + for<'x> Fn(N, &'x mut N::Input, PhantomData<N::Expr>, usize) -> Result<N::Expr, Refusal>,
+> Rules<N, F> {
+    /// A primary: a variable, a constant, a literal or what stands in brackets, braces or parentheses.
+    #[tactic(auto, using(crate::proofs::Primaries::primary_is, crate::proofs::Primaries::too_deep))]
+    pub(crate) fn primary(&self, tokens: &mut N::Input) -> Result<N::Expr, Refusal>
+        requires { Nests N.Input.place N.tree N.functions self.now.depth F.pre F.post self.now.expr }
+        ensures { Parses N.Input.place N.tree (primary_at N.functions self.now.depth) tokens.old
+            result tokens.new }
+    {
+        if self.depth == 0 {
+            return Err(tokens.misfit(Wanted::Flatter));
+        }
+        let (token, from) = tokens.take(Wanted::Part(Expected::Expression))?;
+        let inner = Rules {
+            nodes: self.nodes,
+            depth: self.depth - 1,
+            expr: self.expr,
+        };
+        inner.begun(tokens, token, from)
+    }
+
+    /// A primary that begins with the token.
+    #[tactic(auto, unfolding(minijinja_grammar::specs::Forms::reads))]
+    fn begun(&self, tokens: &mut N::Input, token: <N::Input as Tokens>::Token, from: Span) -> Result<N::Expr, Refusal>
+        requires { Nests N.Input.place N.tree N.functions self.now.depth F.pre F.post self.now.expr }
+        ensures { Reads N.tree
+            (begun_at N.functions self.now.depth (N.Input.tok token, from) (N.Input.place tokens.old)) result
+            (N.Input.place tokens.new) }
+    {
+        if <N::Input as Tokens>::is(&token, Mark::ParenOpen) {
+            return self.group(tokens, from);
+        }
+        if <N::Input as Tokens>::is(&token, Mark::BracketOpen) {
+            return self.list(tokens, from);
+        }
+        if <N::Input as Tokens>::is(&token, Mark::BraceOpen) {
+            return self.map(tokens, from);
+        }
+        self.nodes.atom(tokens, token, from)
+    }
+
+    /// What stands in parentheses, after the opening one.
+    #[tactic(auto, using(minijinja_stream::proofs::Turned::behind_is), unfolding(minijinja_grammar::specs::Forms::reads, minijinja_grammar::specs::Grammar::group))]
+    fn group(&self, tokens: &mut N::Input, from: Span) -> Result<N::Expr, Refusal>
+        requires { Nests N.Input.place N.tree N.functions self.now.depth F.pre F.post self.now.expr }
+        ensures { Parses N.Input.place N.tree (form.group (expr_at N.functions self.now.depth) from)
+            tokens.old result tokens.new }
+    {
+        if tokens.eat(Mark::ParenClose)? {
+            let items = Vec::new(self.nodes.alloc());
+            return Ok(self.nodes.node(Node::Tuple(items), tokens.expand_span(from))?);
+        }
+        let expr = self.nested(tokens)?;
+        self.rest_of_group(tokens, from, expr)
+    }
+
+    /// What follows the first expression in parentheses: the expression itself, or a tuple where a comma follows.
+    #[tactic(auto, using(minijinja_stream::proofs::Turned::behind_is), unfolding(minijinja_grammar::specs::Forms::reads, minijinja_grammar::specs::Grammar::rest_of_group))]
+    fn rest_of_group(&self, tokens: &mut N::Input, from: Span, expr: N::Expr) -> Result<N::Expr, Refusal>
+        requires { Nests N.Input.place N.tree N.functions self.now.depth F.pre F.post self.now.expr }
+        ensures { Parses N.Input.place N.tree (form.rest_of_group (expr_at N.functions
+            self.now.depth) from (N.tree expr)) tokens.old result tokens.new }
+    {
+        if !tokens.eat(Mark::Comma)? {
+            tokens.expect(Mark::ParenClose)?;
+            return Ok(expr);
+        }
+        let mut items = Vec::new(self.nodes.alloc());
+        items.push(expr)?;
+        let items = self.exprs(tokens, items)?;
+        tokens.expect(Mark::ParenClose)?;
+        Ok(self.nodes.node(Node::Tuple(items), tokens.expand_span(from))?)
+    }
+
+    /// A list, after its bracket.
+    #[tactic(auto, unfolding(minijinja_grammar::specs::Forms::reads, minijinja_grammar::specs::Grammar::in_brackets))]
+    fn list(&self, tokens: &mut N::Input, from: Span) -> Result<N::Expr, Refusal>
+        requires { Nests N.Input.place N.tree N.functions self.now.depth F.pre F.post self.now.expr }
+        ensures { Parses N.Input.place N.tree (form.in_brackets (expr_at N.functions self.now.depth)
+            from) tokens.old result tokens.new }
+    {
+        let items = self.exprs(tokens, Vec::new(self.nodes.alloc()))?;
+        tokens.expect(Mark::BracketClose)?;
+        Ok(self.nodes.node(Node::List(items), tokens.expand_span(from))?)
+    }
+
+    /// Expressions between commas, after those so far.
+    #[tactic(auto, using(crate::proofs::Steps::exprs_more, crate::proofs::Steps::exprs_done, minijinja_stream::proofs::Turned::read_no_longer, minijinja_stream::proofs::Turned::eaten_shorter))]
+    fn exprs(&self, tokens: &mut N::Input, items: Vec<N::Expr>) -> Result<Vec<N::Expr>, Refusal>
+        requires { Nests N.Input.place N.tree N.functions self.now.depth F.pre F.post self.now.expr }
+        ensures { Parses N.Input.place (λ v. map N.tree v.items) (form.exprs (expr_at N.functions
+            self.now.depth) (map N.tree items.items)) tokens.old result tokens.new }
+    {
+        let mut items = items;
+        while tokens.begins(Part::Expr) {
+            items.push(self.nested(tokens)?)?;
+            if !tokens.eat(Mark::Comma)? {
+                return Ok(items);
+            }
+        }
+        Ok(items)
+    }
+
+    /// A map, after its brace.
+    #[tactic(auto, unfolding(minijinja_grammar::specs::Forms::reads, minijinja_grammar::specs::Grammar::in_braces))]
+    fn map(&self, tokens: &mut N::Input, from: Span) -> Result<N::Expr, Refusal>
+        requires { Nests N.Input.place N.tree N.functions self.now.depth F.pre F.post self.now.expr }
+        ensures { Parses N.Input.place N.tree (form.in_braces (expr_at N.functions self.now.depth)
+            from) tokens.old result tokens.new }
+    {
+        let (keys, values) = self.entries(tokens)?;
+        tokens.expect(Mark::BraceClose)?;
+        Ok(self.nodes.node(Node::Map(keys, values), tokens.expand_span(from))?)
+    }
+
+    /// The keys of a map and its values.
+    #[tactic(auto, using(crate::proofs::Entries::entries_more, crate::proofs::Entries::entries_done))]
+    fn entries(&self, tokens: &mut N::Input) -> Result<(Vec<N::Expr>, Vec<N::Expr>), Refusal>
+        requires { Nests N.Input.place N.tree N.functions self.now.depth F.pre F.post self.now.expr }
+        ensures { Parses N.Input.place (λ kvs. (map N.tree kvs.0.items, map N.tree kvs.1.items))
+            (form.entries (expr_at N.functions self.now.depth) ([], [])) tokens.old result
+            tokens.new }
+    {
+        let mut keys = Vec::new(self.nodes.alloc());
+        let mut values = Vec::new(self.nodes.alloc());
+        while tokens.begins(Part::Expr) {
+            keys.push(self.nested(tokens)?)?;
+            tokens.expect(Mark::Colon)?;
+            values.push(self.nested(tokens)?)?;
+            if !tokens.eat(Mark::Comma)? {
+                return Ok((keys, values));
+            }
+        }
+        Ok((keys, values))
+    }
+}

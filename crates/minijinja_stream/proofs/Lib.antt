@@ -1,0 +1,4 @@
+pub mod Taking
+pub mod Turned
+mod InView
+mod Comparisons

@@ -1,0 +1,2 @@
+pub mod TokenStreams
+pub mod private

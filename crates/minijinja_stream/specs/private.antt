@@ -1,0 +1,6 @@
+-- What proofs and the contracts of what the parser alone calls cite.
+pub mod AtTokenStream
+pub mod Marks
+pub mod Reads
+pub mod Levels
+pub mod Refused

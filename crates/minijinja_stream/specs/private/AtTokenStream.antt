@@ -1,0 +1,36 @@
+-- The model of `TokenStream`.
+use Rattle.std.specs.Prelude.{◌≡◌, ◌∷◌, [], Option, Some, None, Result, Ok, Err}
+use Rattle.minijinja_syntax.specs.Errors.{kind_of, span_of}
+use Rattle.minijinja_syntax.specs.Streams.{Stream, before, ended, finished, refused, spanned_tok}
+use Rattle.minijinja_syntax.specs.declared.tokens.Token.{Token}
+use Rattle.minijinja_syntax.specs.declared.tokens.Span.{Span}
+use Rattle.minijinja_syntax.specs.declared.error.Error.{Error}
+use Rattle.minijinja_lexer.specs.Stream.{IsTokenizerKind}
+use Rattle.minijinja_grammar.specs.Forms.{Place}
+use Rattle.minijinja_stream.specs.TokenStreams.{StandsBetweenChars}
+use Rattle.minijinja_stream.specs.declared.token_stream.TokenStream.TheInside.{Inside}
+
+-- what a tokenizer answered, ahead of what it has yet to answer
+abbrev pub joined : Result (Option (Token × Span)) Error → Stream → Stream
+joined (Ok (Some t)) later = before (spanned_tok t ∷ []) later
+joined (Ok None) later = later
+joined (Err e) later = ended (refused (kind_of e) (span_of e))
+
+-- a tokenizer that answered so has this yet to answer; after a refusal it is asked no more
+abbrev pub IsAnswerBefore : Result (Option (Token × Span)) Error → Stream → Type 0
+IsAnswerBefore (Ok (Some t)) later = Unit {0}
+IsAnswerBefore (Ok None) later = later ≡ ended finished
+IsAnswerBefore (Err e) later = IsTokenizerKind (kind_of e)
+
+abbrev pub place_of : Inside → Place
+place_of a = record {
+  source = a.tokenizer.source;
+  tokens = (joined a.current a.tokenizer.stream).tokens;
+  ending = (joined a.current a.tokenizer.stream).ending;
+  last = a.last_span;
+}
+
+-- the token in view is ahead of those of the tokenizer, and stands between characters
+pub record IsStream (a : Inside) : Type 0 where
+  pub ahead : IsAnswerBefore a.current a.tokenizer.stream
+  pub between : StandsBetweenChars a.tokenizer.source a.current

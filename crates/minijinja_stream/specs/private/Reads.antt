@@ -1,0 +1,32 @@
+-- What a function of the parser gives: what reading a form comes to, unless memory is refused.
+use Rattle.std.specs.Prelude.{◌≡◌, ◌≢◌, List, [], ◌∷◌, Bool, true, false, if◌then◌else◌, Result, Ok, Err}
+use Rattle.minijinja_syntax.specs.Tokens.{Tok}
+use Rattle.minijinja_syntax.specs.Streams.{SpannedTok}
+use Rattle.minijinja_lexer.specs.Stream.{out_of_memory}
+use Rattle.minijinja_grammar.specs.Words.{is}
+use Rattle.minijinja_grammar.specs.Grammar.{next}
+use Rattle.minijinja_grammar.specs.Forms.{Place, Read, got, short, wrong, comes, read_then, reads}
+use Rattle.minijinja_stream.specs.TokenStreams.{stream_at}
+use Rattle.minijinja_stream.specs.declared.refusal.Refusal.{Refusal}
+use Rattle.minijinja_stream.specs.declared.refusal.Refusal.TheVariants.{OutOfMemory, Ended, Wrong}
+
+abbrev pub Reads : {A X : Type 0} → (X → A) → Read A → Result X Refusal → Place → Type 0
+Reads view read (Ok x) new = read ≡ got (view x) new
+Reads view read (Err OutOfMemory) new = Unit {0}
+Reads view read (Err (Ended w)) new = read ≡ short new
+Reads view read (Err (Wrong w)) new = read ≡ wrong new
+
+-- whether that token comes next, and if so it is taken
+abbrev pub eaten : Tok → Place → Read Bool
+eaten m p = if comes (is m) p.tokens then read_then (reads (next m) p) (λ s q. got true q) else got false p
+
+-- no token fits: none is left, or the next one does not
+abbrev pub Misfits : Place → Refusal → Type 0
+Misfits p OutOfMemory = ⊥
+Misfits p (Ended w) = p.tokens ≡ []
+Misfits p (Wrong w) = (t : SpannedTok) × (ts : List SpannedTok) × (p.tokens ≡ t ∷ ts)
+
+-- memory was not refused for the next token
+abbrev pub Ready : Place → Result (Unit {0}) Refusal → Type 0
+Ready p (Ok x) = stream_at p ≢ out_of_memory
+Ready p (Err r) = r ≡ OutOfMemory

@@ -1,0 +1,233 @@
+//! What a token is to the grammar.
+ghost use Rattle.std.specs.Prelude.{◌≡◌};
+ghost use Rattle.std.specs.Option.{option_map};
+ghost use Rattle.minijinja_syntax.specs.Tokens.{tok_of};
+ghost use Rattle.minijinja_tree.specs.Erasure.{compare_op};
+ghost use Rattle.minijinja_stream.specs.private.Marks.{begins, mark_tok};
+ghost use Rattle.minijinja_grammar.specs.Templates as templates;
+ghost use Rattle.minijinja_grammar.specs.Words as words;
+ghost use Rattle.minijinja_stream.specs.declared.marks.Part.TheVariants.{Text as TextPart};
+
+use minijinja_base::error::Expected;
+use minijinja_base::tokens::Token;
+use minijinja_tree::ast::CompareOpKind;
+
+/// A token that the grammar names.
+#[derive(Clone, Copy)]
+pub enum Mark {
+    If,
+    Else,
+    Not,
+    In,
+    Is,
+    Dot,
+    Comma,
+    Colon,
+    Assign,
+    Pipe,
+    Minus,
+    Mul,
+    Pow,
+    ParenOpen,
+    ParenClose,
+    BracketOpen,
+    BracketClose,
+    BraceOpen,
+    BraceClose,
+    VariableEnd,
+    BlockEnd,
+}
+
+/// A part of the grammar that a token begins.
+#[derive(Clone, Copy)]
+pub enum Part {
+    Expr,
+    Arg,
+    Postfix,
+    Suffix,
+    Comparison,
+    Bare,
+    Text,
+    Template,
+}
+
+/// Whether the token is that word.
+pub fn is_word(token: &Token<'_>, word: &str) -> bool
+    ensures { result ≡ words.is (words.word word.now) (tok_of token.now) }
+{
+    matches!(token, Token::Ident(name) if *name == word)
+}
+
+/// What a refusal calls the token.
+pub fn expected(mark: Mark) -> Expected {
+    match mark {
+        Mark::If => Expected::If,
+        Mark::Else => Expected::Else,
+        Mark::Not => Expected::Not,
+        Mark::In => Expected::In,
+        Mark::Is => Expected::Is,
+        Mark::Dot => Expected::Dot,
+        Mark::Comma => Expected::Comma,
+        Mark::Colon => Expected::Colon,
+        Mark::Assign => Expected::Assign,
+        Mark::Pipe => Expected::Pipe,
+        Mark::Minus => Expected::Minus,
+        Mark::Mul => Expected::Mul,
+        Mark::Pow => Expected::Pow,
+        Mark::ParenOpen => Expected::ParenOpen,
+        Mark::ParenClose => Expected::ParenClose,
+        Mark::BracketOpen => Expected::BracketOpen,
+        Mark::BracketClose => Expected::BracketClose,
+        // No rule asks for it alone: a map is an expression.
+        Mark::BraceOpen => Expected::Expression,
+        Mark::BraceClose => Expected::BraceClose,
+        Mark::VariableEnd => Expected::VariableEnd,
+        Mark::BlockEnd => Expected::BlockEnd,
+    }
+}
+
+/// Whether the token is the one that the mark names.
+pub fn is_mark(token: &Token<'_>, mark: Mark) -> bool
+    ensures { result ≡ words.is (mark_tok mark) (tok_of token.now) }
+{
+    match mark {
+        Mark::If => is_word(token, "if"),
+        Mark::Else => is_word(token, "else"),
+        Mark::Not => is_word(token, "not"),
+        Mark::In => is_word(token, "in"),
+        Mark::Is => is_word(token, "is"),
+        Mark::Dot => matches!(token, Token::Dot),
+        Mark::Comma => matches!(token, Token::Comma),
+        Mark::Colon => matches!(token, Token::Colon),
+        Mark::Assign => matches!(token, Token::Assign),
+        Mark::Pipe => matches!(token, Token::Pipe),
+        Mark::Minus => matches!(token, Token::Minus),
+        Mark::Mul => matches!(token, Token::Mul),
+        Mark::Pow => matches!(token, Token::Pow),
+        Mark::ParenOpen => matches!(token, Token::ParenOpen),
+        Mark::ParenClose => matches!(token, Token::ParenClose),
+        Mark::BracketOpen => matches!(token, Token::BracketOpen),
+        Mark::BracketClose => matches!(token, Token::BracketClose),
+        Mark::BraceOpen => matches!(token, Token::BraceOpen),
+        Mark::BraceClose => matches!(token, Token::BraceClose),
+        Mark::VariableEnd => matches!(token, Token::VariableEnd),
+        Mark::BlockEnd => matches!(token, Token::BlockEnd),
+    }
+}
+
+fn begins_primary(token: &Token<'_>) -> bool
+    ensures { result ≡ words.begins_primary (tok_of token.now) }
+{
+    matches!(
+        token,
+        Token::Ident(_)
+            | Token::Str(_)
+            | Token::String(_)
+            | Token::Int(_)
+            | Token::Int128(_)
+            | Token::ParenOpen
+            | Token::BracketOpen
+            | Token::BraceOpen
+    )
+}
+
+fn begins_expr(token: &Token<'_>) -> bool
+    ensures { result ≡ words.begins_expr (tok_of token.now) }
+{
+    is_mark(token, Mark::Minus) || begins_primary(token)
+}
+
+fn begins_arg(token: &Token<'_>) -> bool
+    ensures { result ≡ words.begins_arg (tok_of token.now) }
+{
+    is_mark(token, Mark::Mul) || is_mark(token, Mark::Pow) || begins_expr(token)
+}
+
+fn begins_postfix(token: &Token<'_>) -> bool
+    ensures { result ≡ words.begins_postfix (tok_of token.now) }
+{
+    matches!(token, Token::Dot | Token::BracketOpen | Token::ParenOpen)
+}
+
+fn begins_suffix(token: &Token<'_>) -> bool
+    ensures { result ≡ words.begins_suffix (tok_of token.now) }
+{
+    is_mark(token, Mark::Pipe) || is_mark(token, Mark::Is)
+}
+
+/// The comparison of one token.
+pub fn compare_operator(token: &Token<'_>) -> Option<CompareOpKind>
+    ensures { option_map compare_op result ≡ words.compare_op (tok_of token.now) }
+{
+    match token {
+        Token::Eq => Some(CompareOpKind::Eq),
+        Token::Ne => Some(CompareOpKind::Ne),
+        Token::Lt => Some(CompareOpKind::Lt),
+        Token::Lte => Some(CompareOpKind::Lte),
+        Token::Gt => Some(CompareOpKind::Gt),
+        Token::Gte => Some(CompareOpKind::Gte),
+        Token::Ident(name) if *name == "in" => Some(CompareOpKind::In),
+        _ => None,
+    }
+}
+
+pub fn begins_comparison(token: &Token<'_>) -> bool
+    ensures { result ≡ words.begins_comparison (tok_of token.now) }
+{
+    is_mark(token, Mark::Not) || compare_operator(token).is_some()
+}
+
+/// Whether the word may be the bare argument of a test.
+fn is_bare_word(word: &str) -> bool
+    ensures { result ≡ words.is_bare_word word.now }
+{
+    !(word == "and" || word == "or" || word == "else" || word == "is")
+}
+
+fn begins_bare(token: &Token<'_>) -> bool
+    ensures { result ≡ words.begins_bare (tok_of token.now) }
+{
+    match token {
+        Token::Ident(name) => is_bare_word(name),
+        Token::Str(_)
+        | Token::String(_)
+        | Token::Int(_)
+        | Token::Int128(_)
+        | Token::Plus
+        | Token::Minus
+        | Token::BracketOpen
+        | Token::BraceOpen => true,
+        _ => false,
+    }
+}
+
+fn is_text(token: &Token<'_>) -> bool
+    ensures { result ≡ begins TextPart (tok_of token.now) }
+{
+    matches!(token, Token::Str(_) | Token::String(_))
+}
+
+fn begins_template_part(token: &Token<'_>) -> bool
+    ensures { result ≡ templates.begins_part (tok_of token.now) }
+{
+    matches!(
+        token,
+        Token::TemplateData(_) | Token::VariableStart | Token::BlockStart
+    )
+}
+
+/// Whether the token begins the part.
+pub fn begins_part(token: &Token<'_>, part: Part) -> bool
+    ensures { result ≡ begins part (tok_of token.now) }
+{
+    match part {
+        Part::Expr => begins_expr(token),
+        Part::Arg => begins_arg(token),
+        Part::Postfix => begins_postfix(token),
+        Part::Suffix => begins_suffix(token),
+        Part::Comparison => begins_comparison(token),
+        Part::Bare => begins_bare(token),
+        Part::Text => is_text(token),
+        Part::Template => begins_template_part(token),
+    }
+}

@@ -1,0 +1,56 @@
+//! Why a rule does not read the tokens that come.
+use crate::marks::Mark;
+use minijinja_base::error::Expected;
+use std::alloc::{AllocError, AllocFailed};
+
+/// What was wanted, or what was wrong with what came.
+#[derive(Clone, Copy)]
+pub enum Wanted {
+    /// This token.
+    Mark(Mark),
+    /// Another part of the grammar.
+    Part(Expected),
+    /// The word names no statement.
+    Statement,
+    /// The name may not be assigned to.
+    Target,
+    /// Expressions and statements nest too deep.
+    Flatter,
+    /// A call has too many arguments.
+    FewerArguments,
+    /// A plain argument stands after a keyword argument.
+    Keyword,
+}
+
+/// Why a rule does not read the tokens that come. It stands at the token taken last.
+#[derive(Clone, Copy)]
+pub enum Refusal {
+    /// Memory was refused.
+    OutOfMemory,
+    /// No token is left.
+    Ended(Wanted),
+    /// A token does not fit.
+    Wrong(Wanted),
+}
+
+impl From<AllocError> for Refusal {
+    ghost use Rattle.std.specs.Prelude.{◌≡◌};
+    ghost use Rattle.minijinja_stream.specs.declared.refusal.Refusal.TheVariants.{OutOfMemory};
+
+    ghost from_gives = { λ _ r. r ≡ OutOfMemory };
+
+    fn from(_error: AllocError) -> Self {
+        Refusal::OutOfMemory
+    }
+}
+
+impl<T: Drop> From<AllocFailed<T>> for Refusal {
+    ghost use Rattle.std.specs.Prelude.{◌≡◌};
+    ghost use Rattle.minijinja_stream.specs.declared.refusal.Refusal.TheVariants.{OutOfMemory};
+
+    ghost from_gives = { λ _ r. r ≡ OutOfMemory };
+
+    fn from(_error: AllocFailed<T>) -> Self {
+        Refusal::OutOfMemory
+    }
+}

@@ -1,0 +1,220 @@
+//! What rules ask of the tokens to come. Looking at them does not fail: a refusal of the tokenizer leaves none in view, and
+//! taking one answers that none is left.
+ghost use Rattle.std.specs.Prelude.{◌≡◌, IfOk, Some};
+ghost use Rattle.minijinja_syntax.specs.Streams.{spanned_tok};
+ghost use Rattle.minijinja_syntax.specs.Tokens.{Tok, tok_of};
+ghost use Rattle.minijinja_lexer.specs.Slices.{IsBetweenChars};
+ghost use Rattle.minijinja_tree.specs.Erasure.{compare_op};
+ghost use Rattle.minijinja_grammar.specs.Forms.{Place, comes, one, reads, start_at};
+ghost use Rattle.minijinja_grammar.specs.Grammar.{expanded, ident_and_span, next};
+ghost use Rattle.minijinja_grammar.specs.Words.{is};
+ghost use Rattle.minijinja_stream.specs.private.Levels.{compare_op_at, next_operator};
+ghost use Rattle.minijinja_stream.specs.private.Marks.{begins, mark_tok};
+ghost use Rattle.minijinja_stream.specs.private.Reads.{Misfits, Ready, Reads, eaten};
+
+use crate::marks::{Mark, Part, begins_part, compare_operator, is_mark};
+use crate::operators::{Level, Operator, operator_of};
+use crate::refusal::{Refusal, Wanted};
+use crate::token_stream::TokenStream;
+use minijinja_base::error::ErrorKind;
+use minijinja_base::tokens::{Span, Token};
+use minijinja_tree::ast::CompareOpKind;
+use std::mem;
+
+/// Tokens to read.
+pub trait Tokens {
+    /// A token that was taken.
+    type Token: Drop;
+
+    // The tokens that are left, and a token, as the grammar has them.
+    ghost place: { Self → Place };
+
+    ghost tok: { Self.Token → Tok };
+
+    /// Where the next token stands, or the last one if none comes.
+    fn current_span(&self) -> Span
+        ensures { result ≡ start_at (place self.now) };
+
+    /// Where the last token taken stands: zeros before any.
+    fn last_span(&self) -> Span
+        ensures { result ≡ (place self.now).last };
+
+    /// The span from its start to the end of the last token taken.
+    fn expand_span(&self, span: Span) -> Span
+        ensures { result ≡ expanded span (place self.now).last };
+
+    /// Whether that token comes next.
+    fn at(&self, mark: Mark) -> bool
+        ensures { result ≡ comes (is (mark_tok mark)) (place self.now).tokens };
+
+    /// Whether a token comes next that begins the part.
+    fn begins(&self, part: Part) -> bool
+        ensures { result ≡ comes (begins part) (place self.now).tokens };
+
+    /// The operator of the level, or of a tighter one, that comes next.
+    fn operator(&self, level: Level) -> Option<Operator>
+        ensures { result ≡ next_operator level (place self.now).tokens };
+
+    /// That no rule reads what comes: no token is left, or the one that comes does not fit.
+    fn misfit(&self, wanted: Wanted) -> Refusal
+        ensures { Misfits (place self.now) result };
+
+    /// Takes the next token, which a refusal calls `wanted`.
+    fn take(&mut self, wanted: Wanted) -> Result<(Self::Token, Span), Refusal>
+        ensures { Reads (λ t. (tok t.0, t.1)) (reads (one Some) (place self.old)) result
+            (place self.new) };
+
+    /// Takes that token.
+    fn expect(&mut self, mark: Mark) -> Result<Span, Refusal>
+        ensures { Reads (λ s. s) (reads (next (mark_tok mark)) (place self.old)) result
+            (place self.new) };
+
+    /// Takes that token, if it comes next, and says whether it did.
+    fn eat(&mut self, mark: Mark) -> Result<bool, Refusal>
+        ensures { Reads (λ b. b) (eaten (mark_tok mark) (place self.old)) result (place self.new) };
+
+    /// Takes the operator of a comparison.
+    fn compare_operator(&mut self) -> Result<CompareOpKind, Refusal>
+        ensures { Reads compare_op (compare_op_at (place self.old)) result (place self.new) };
+
+    /// Whether the token is that one.
+    fn is(token: &Self::Token, mark: Mark) -> bool
+        ensures { result ≡ is (mark_tok mark) (tok token.now) };
+}
+
+impl<'s, 'c> TokenStream<'s, 'c> {
+    /// Refuses where memory was refused for the next token.
+    fn ready(&self) -> Result<(), Refusal>
+        ensures { Ready self.now result }
+    {
+        match &self.current {
+            Err(error) if error.kind() == ErrorKind::OutOfMemory => Err(Refusal::OutOfMemory),
+            _ => Ok(()),
+        }
+    }
+}
+
+impl<'s, 'c> Tokens for TokenStream<'s, 'c> {
+    type Token = Token<'s>;
+
+    ghost place = { λ p. p };
+
+    ghost tok = { tok_of };
+
+    fn current_span(&self) -> Span {
+        TokenStream::current_span(self)
+    }
+
+    fn last_span(&self) -> Span {
+        TokenStream::last_span(self)
+    }
+
+    fn expand_span(&self, span: Span) -> Span {
+        TokenStream::expand_span(self, span)
+    }
+
+    fn at(&self, mark: Mark) -> bool {
+        match &self.current {
+            Ok(Some((token, _))) => is_mark(token, mark),
+            _ => false,
+        }
+    }
+
+    fn begins(&self, part: Part) -> bool {
+        match &self.current {
+            Ok(Some((token, _))) => begins_part(token, part),
+            _ => false,
+        }
+    }
+
+    fn operator(&self, level: Level) -> Option<Operator> {
+        let Ok(Some((token, _))) = &self.current else {
+            return None;
+        };
+        let operator = operator_of(token)?;
+        if operator.level().rank() < level.rank() {
+            return None;
+        }
+        Some(operator)
+    }
+
+    #[tactic(auto, unfolding(minijinja_grammar::specs::Forms::reads))]
+    fn misfit(&self, wanted: Wanted) -> Refusal {
+        match &self.current {
+            Ok(Some(_)) => Refusal::Wrong(wanted),
+            _ => Refusal::Ended(wanted),
+        }
+    }
+
+    /// Refuses at once where memory was refused for the token after the one taken.
+    #[tactic(auto, unfolding(minijinja_grammar::specs::Forms::reads))]
+    fn take(&mut self, wanted: Wanted) -> Result<(Token<'s>, Span), Refusal>
+        ensures read { Reads spanned_tok (reads (one Some) self.old) result self.new }
+        ensures between { IfOk result (λ t. IsBetweenChars self.old.source t.1) }
+    {
+        let Ok(Some(_)) = &self.current else {
+            return Err(Refusal::Ended(wanted));
+        };
+        let following = self.tokenizer.next_token();
+        match mem::replace(&mut self.current, following) {
+            Ok(Some((token, span))) => {
+                self.last_span = span;
+                self.ready()?;
+                Ok((token, span))
+            }
+            _ => Err(Refusal::Ended(wanted)),
+        }
+    }
+
+    #[tactic(auto, using(crate::proofs::Taking::next_is))]
+    fn expect(&mut self, mark: Mark) -> Result<Span, Refusal> {
+        let (token, span) = self.take(Wanted::Mark(mark))?;
+        if !is_mark(&token, mark) {
+            return Err(Refusal::Wrong(Wanted::Mark(mark)));
+        }
+        Ok(span)
+    }
+
+    fn eat(&mut self, mark: Mark) -> Result<bool, Refusal> {
+        if !self.at(mark) {
+            return Ok(false);
+        }
+        self.expect(mark)?;
+        Ok(true)
+    }
+
+    #[tactic(auto, using(crate::proofs::Comparisons::compare_op_is))]
+    fn compare_operator(&mut self) -> Result<CompareOpKind, Refusal> {
+        let (token, _) = self.take(Wanted::Mark(Mark::In))?;
+        if let Some(op) = compare_operator(&token) {
+            return Ok(op);
+        }
+        if !is_mark(&token, Mark::Not) {
+            return Err(Refusal::Wrong(Wanted::Mark(Mark::In)));
+        }
+        self.expect(Mark::In)?;
+        Ok(CompareOpKind::NotIn)
+    }
+
+    fn is(token: &Token<'s>, mark: Mark) -> bool
+        ensures { result ≡ is (mark_tok mark) (tok_of token.now) }
+    {
+        is_mark(token, mark)
+    }
+}
+
+/// Takes an identifier, which a refusal calls `wanted`.
+#[tactic(auto, using(crate::proofs::Taking::ident_is))]
+pub fn ident<'s>(
+    tokens: &mut TokenStream<'s, '_>,
+    wanted: Wanted,
+) -> Result<(&'s str, Span), Refusal>
+    ensures read { Reads (λ t. (t.0.now, t.1)) (reads (one ident_and_span) tokens.old) result
+        tokens.new }
+    ensures between { IfOk result (λ t. IsBetweenChars tokens.old.source t.1) }
+{
+    match tokens.take(wanted)? {
+        (Token::Ident(name), span) => Ok((name, span)),
+        _ => Err(Refusal::Wrong(wanted)),
+    }
+}
