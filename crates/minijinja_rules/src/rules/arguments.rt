@@ -7,11 +7,11 @@ ghost use Rattle.minijinja_rules.specs.private.Made.{argument_of};
 ghost use Rattle.minijinja_rules.specs.private.Nests.{Nests, Parses};
 ghost use Rattle.minijinja_tree.specs.SpannedTrees.{Arg};
 
-use minijinja_stream::marks::{Mark, Part};
 use crate::nodes::{Argument, Nodes};
+use crate::rules::Rules;
+use minijinja_stream::marks::{Mark, Part};
 use minijinja_stream::refusal::{Refusal, Wanted};
 use minijinja_stream::tokens::Tokens;
-use crate::rules::Rules;
 use minijinja_tree::ast::MOST_ARGUMENTS;
 use std::marker::PhantomData;
 

@@ -6,13 +6,13 @@ ghost use Rattle.minijinja_rules.specs.private.Nests.{Nests, Parses};
 ghost use Rattle.minijinja_stream.specs.private.Reads.{Reads};
 ghost use Rattle.minijinja_rules.specs.private.Conditions.{ifs_at, waiting_view};
 
-use minijinja_stream::marks::Mark;
-use minijinja_stream::operators::Level;
 use crate::nodes::{Node, Nodes};
-use minijinja_stream::refusal::{Refusal, Wanted};
-use minijinja_stream::tokens::Tokens;
 use crate::rules::Rules;
 use minijinja_base::tokens::Span;
+use minijinja_stream::marks::Mark;
+use minijinja_stream::operators::Level;
+use minijinja_stream::refusal::{Refusal, Wanted};
+use minijinja_stream::tokens::Tokens;
 use std::alloc::AllocError;
 use std::marker::PhantomData;
 use std::mem;

@@ -7,13 +7,13 @@ ghost use Rattle.minijinja_rules.specs.private.Nests.{Nests, Parses};
 ghost use Rattle.minijinja_stream.specs.private.Reads.{Reads};
 ghost use Rattle.minijinja_rules.specs.private.Primaries.{begun_at};
 
-use minijinja_stream::marks::{Mark, Part};
 use crate::nodes::{Node, Nodes};
-use minijinja_stream::refusal::{Refusal, Wanted};
-use minijinja_stream::tokens::Tokens;
 use crate::rules::Rules;
 use minijinja_base::error::Expected;
 use minijinja_base::tokens::Span;
+use minijinja_stream::marks::{Mark, Part};
+use minijinja_stream::refusal::{Refusal, Wanted};
+use minijinja_stream::tokens::Tokens;
 use std::marker::PhantomData;
 
 impl<
@@ -42,7 +42,12 @@ impl<
 
     /// A primary that begins with the token.
     #[tactic(auto, unfolding(minijinja_grammar::specs::Forms::reads))]
-    fn begun(&self, tokens: &mut N::Input, token: <N::Input as Tokens>::Token, from: Span) -> Result<N::Expr, Refusal>
+    fn begun(
+        &self,
+        tokens: &mut N::Input,
+        token: <N::Input as Tokens>::Token,
+        from: Span,
+    ) -> Result<N::Expr, Refusal>
         requires { Nests N.Input.place N.tree N.functions self.now.depth F.pre F.post self.now.expr }
         ensures { Reads N.tree
             (begun_at N.functions self.now.depth (N.Input.tok token, from) (N.Input.place tokens.old)) result
@@ -69,7 +74,8 @@ impl<
     {
         if tokens.eat(Mark::ParenClose)? {
             let items = Vec::new(self.nodes.alloc());
-            return Ok(self.nodes.node(Node::Tuple(items), tokens.expand_span(from))?);
+            let span = tokens.expand_span(from);
+            return Ok(self.nodes.node(Node::Tuple(items), span)?);
         }
         let expr = self.nested(tokens)?;
         self.rest_of_group(tokens, from, expr)
@@ -77,7 +83,12 @@ impl<
 
     /// What follows the first expression in parentheses: the expression itself, or a tuple where a comma follows.
     #[tactic(auto, using(minijinja_stream::proofs::Turned::behind_is), unfolding(minijinja_grammar::specs::Forms::reads, minijinja_grammar::specs::Grammar::rest_of_group))]
-    fn rest_of_group(&self, tokens: &mut N::Input, from: Span, expr: N::Expr) -> Result<N::Expr, Refusal>
+    fn rest_of_group(
+        &self,
+        tokens: &mut N::Input,
+        from: Span,
+        expr: N::Expr,
+    ) -> Result<N::Expr, Refusal>
         requires { Nests N.Input.place N.tree N.functions self.now.depth F.pre F.post self.now.expr }
         ensures { Parses N.Input.place N.tree (form.rest_of_group (expr_at N.functions
             self.now.depth) from (N.tree expr)) tokens.old result tokens.new }
@@ -90,7 +101,8 @@ impl<
         items.push(expr)?;
         let items = self.exprs(tokens, items)?;
         tokens.expect(Mark::ParenClose)?;
-        Ok(self.nodes.node(Node::Tuple(items), tokens.expand_span(from))?)
+        let span = tokens.expand_span(from);
+        Ok(self.nodes.node(Node::Tuple(items), span)?)
     }
 
     /// A list, after its bracket.
@@ -102,7 +114,8 @@ impl<
     {
         let items = self.exprs(tokens, Vec::new(self.nodes.alloc()))?;
         tokens.expect(Mark::BracketClose)?;
-        Ok(self.nodes.node(Node::List(items), tokens.expand_span(from))?)
+        let span = tokens.expand_span(from);
+        Ok(self.nodes.node(Node::List(items), span)?)
     }
 
     /// Expressions between commas, after those so far.
@@ -131,7 +144,8 @@ impl<
     {
         let (keys, values) = self.entries(tokens)?;
         tokens.expect(Mark::BraceClose)?;
-        Ok(self.nodes.node(Node::Map(keys, values), tokens.expand_span(from))?)
+        let span = tokens.expand_span(from);
+        Ok(self.nodes.node(Node::Map(keys, values), span)?)
     }
 
     /// The keys of a map and its values.

@@ -5,14 +5,14 @@ ghost use Rattle.minijinja_grammar.specs.Grammar as form;
 ghost use Rattle.minijinja_grammar.specs.Grammar.{expr_at, primary_at};
 ghost use Rattle.minijinja_rules.specs.private.Nests.{Nests, Parses};
 
-use minijinja_stream::marks::{Mark, Part};
 use crate::nodes::{Node, Nodes};
-use minijinja_stream::refusal::{Refusal, Wanted};
-use minijinja_stream::tokens::Tokens;
 use crate::rules::Rules;
 use crate::rules::wrapping::wrapped;
 use minijinja_base::error::Expected;
 use minijinja_base::tokens::Span;
+use minijinja_stream::marks::{Mark, Part};
+use minijinja_stream::refusal::{Refusal, Wanted};
+use minijinja_stream::tokens::Tokens;
 use minijinja_tree::ast::UnaryOpKind;
 use std::marker::PhantomData;
 
@@ -87,12 +87,18 @@ impl<
             return self.subscript(tokens, expr, from);
         }
         let args = self.args(tokens)?;
-        Ok(self.nodes.node(Node::Call(expr, args), tokens.expand_span(from))?)
+        let span = tokens.expand_span(from);
+        Ok(self.nodes.node(Node::Call(expr, args), span)?)
     }
 
     /// An item or a slice, after its bracket.
     #[tactic(auto, using(minijinja_stream::proofs::Turned::behind_is), unfolding(minijinja_grammar::specs::Forms::reads, minijinja_grammar::specs::Grammar::subscript))]
-    fn subscript(&self, tokens: &mut N::Input, expr: N::Expr, from: Span) -> Result<N::Expr, Refusal>
+    fn subscript(
+        &self,
+        tokens: &mut N::Input,
+        expr: N::Expr,
+        from: Span,
+    ) -> Result<N::Expr, Refusal>
         requires { Nests N.Input.place N.tree N.functions self.now.depth F.pre F.post self.now.expr }
         ensures { Parses N.Input.place N.tree (form.subscript (expr_at N.functions self.now.depth)
             (N.tree expr) from) tokens.old result tokens.new }
@@ -121,7 +127,8 @@ impl<
             return self.range(tokens, expr, from, Some(index));
         }
         tokens.expect(Mark::BracketClose)?;
-        Ok(self.nodes.node(Node::Item(expr, index), tokens.expand_span(from))?)
+        let span = tokens.expand_span(from);
+        Ok(self.nodes.node(Node::Item(expr, index), span)?)
     }
 
     /// A slice, after its first `:`.

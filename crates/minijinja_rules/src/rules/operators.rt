@@ -11,15 +11,15 @@ ghost use Rattle.minijinja_stream.specs.private.Levels.{comparison_at, infix_of,
 ghost use Rattle.minijinja_stream.specs.declared.operators.Level.TheVariants as level;
 ghost use Rattle.minijinja_tree.specs.Erasure.{compare_op};
 
-use minijinja_stream::marks::{Mark, Part};
-use minijinja_stream::operators::{Level, Operator};
 use crate::nodes::{Node, Nodes};
-use minijinja_stream::refusal::{Refusal, Wanted};
-use minijinja_stream::tokens::Tokens;
 use crate::rules::Rules;
 use crate::rules::wrapping::{comparison, wrapped};
 use minijinja_base::error::Expected;
 use minijinja_base::tokens::Span;
+use minijinja_stream::marks::{Mark, Part};
+use minijinja_stream::operators::{Level, Operator};
+use minijinja_stream::refusal::{Refusal, Wanted};
+use minijinja_stream::tokens::Tokens;
 use minijinja_tree::ast::{CompareOpKind, UnaryOpKind};
 use std::marker::PhantomData;
 
@@ -106,12 +106,18 @@ impl<
         };
         tokens.take(Wanted::Part(Expected::Expression))?;
         let right = self.level(tokens, level.tighter())?;
-        Ok(self.nodes.node(Node::BinOp(op, left, right), tokens.expand_span(from))?)
+        let span = tokens.expand_span(from);
+        Ok(self.nodes.node(Node::BinOp(op, left, right), span)?)
     }
 
     /// The comparisons that come, one at least.
     #[cycle(level)]
-    fn comparisons(&self, tokens: &mut N::Input, before: Span, expr: N::Expr) -> Result<N::Expr, Refusal>
+    fn comparisons(
+        &self,
+        tokens: &mut N::Input,
+        before: Span,
+        expr: N::Expr,
+    ) -> Result<N::Expr, Refusal>
         requires nests { Nests N.Input.place N.tree N.functions self.now.depth F.pre F.post
             self.now.expr }
         requires comes { comes begins_comparison (N.Input.place tokens.old).tokens ≡ true }
@@ -125,7 +131,8 @@ impl<
             return Ok(comparison(&self.nodes, op, expr, right, span)?);
         }
         let ops = self.chain(tokens, op, right)?;
-        Ok(self.nodes.node(Node::Compare(expr, ops), tokens.expand_span(before))?)
+        let span = tokens.expand_span(before);
+        Ok(self.nodes.node(Node::Compare(expr, ops), span)?)
     }
 
     /// The comparisons after the first, and the first, where one more comes.

@@ -4,12 +4,12 @@ ghost use Rattle.minijinja_grammar.specs.Grammar as form;
 ghost use Rattle.minijinja_grammar.specs.Grammar.{expr_at, primary_at};
 ghost use Rattle.minijinja_rules.specs.private.Nests.{Nests, Parses};
 
-use minijinja_stream::marks::{Mark, Part};
 use crate::nodes::{Argument, Node, Nodes};
-use minijinja_stream::refusal::{Refusal, Wanted};
-use minijinja_stream::tokens::Tokens;
 use crate::rules::Rules;
 use minijinja_base::error::Expected;
+use minijinja_stream::marks::{Mark, Part};
+use minijinja_stream::refusal::{Refusal, Wanted};
+use minijinja_stream::tokens::Tokens;
 use minijinja_tree::ast::UnaryOpKind;
 use std::marker::PhantomData;
 
@@ -34,7 +34,12 @@ impl<
     }
 
     /// A filter or a test, after its first token.
-    fn suffix(&self, tokens: &mut N::Input, expr: N::Expr, token: &<N::Input as Tokens>::Token) -> Result<N::Expr, Refusal>
+    fn suffix(
+        &self,
+        tokens: &mut N::Input,
+        expr: N::Expr,
+        token: &<N::Input as Tokens>::Token,
+    ) -> Result<N::Expr, Refusal>
         requires { Nests N.Input.place N.tree N.functions self.now.depth F.pre F.post self.now.expr }
         ensures { Parses N.Input.place N.tree (form.suffix N.functions (expr_at N.functions
             self.now.depth) (primary_at N.functions self.now.depth) (N.tree expr) (N.Input.tok
@@ -57,7 +62,8 @@ impl<
         let from = tokens.current_span();
         let name = self.nodes.name(tokens)?;
         let args = self.maybe_args(tokens)?;
-        Ok(self.nodes.node(Node::Filter(name, expr, args), tokens.expand_span(from))?)
+        let span = tokens.expand_span(from);
+        Ok(self.nodes.node(Node::Filter(name, expr, args), span)?)
     }
 
     /// A test, after the word `is`.
@@ -73,10 +79,11 @@ impl<
         }
         let from = tokens.current_span();
         let test = self.named_test(tokens, expr)?;
-        Ok(self.nodes.node(
-            Node::UnaryOp(UnaryOpKind::Not, test),
-            tokens.expand_span(from),
-        )?)
+        let span = tokens.expand_span(from);
+        Ok(
+            self.nodes
+                .node(Node::UnaryOp(UnaryOpKind::Not, test), span)?,
+        )
     }
 
     /// The name of a test and its arguments.
@@ -90,7 +97,8 @@ impl<
         let from = tokens.current_span();
         let name = self.nodes.name(tokens)?;
         let args = self.test_args(tokens)?;
-        Ok(self.nodes.node(Node::Test(name, expr, args), tokens.expand_span(from))?)
+        let span = tokens.expand_span(from);
+        Ok(self.nodes.node(Node::Test(name, expr, args), span)?)
     }
 
     /// The arguments of a test: in parentheses, or one without them.

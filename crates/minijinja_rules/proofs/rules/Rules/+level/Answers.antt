@@ -100,7 +100,7 @@ comparisons-returns g t c =
     let h : comparison_at s (g.N.Input.Tokens.place c.args.tokens.now) ≡ got (compare_op c.in_ok-op.op, v c.in_ok-op.right) (g.N.Input.Tokens.place c.comparison.new.tokens) = c.in_ok-op.ensures in
     let k : comes begins_comparison (g.N.Input.Tokens.place c.comparison.new.tokens).tokens ≡ true = sym c.begins.ensures ∙ c.if-not-begins.false in
     let m : reads (many (of_kind begins_comparison) (form.comparison s) ((compare_op c.in_ok-op.op, v c.in_ok-op.right) ∷ [])) (g.N.Input.Tokens.place c.comparison.new.tokens) ≡ got (map g.N.Nodes.compared c.in_ok-ops.ops.items) (g.N.Input.Tokens.place c.chain.new.tokens) = c.in_ok-ops.ensures in
-    rw (e, h, k, m, c.in_ok-node.ensures ∙ chain_is _ _ _ (chain_longer s _ _ _ _ k m), c.expand_span.ensures) refl
+    rw (e, h, k, m, c.in_ok-node.ensures ∙ chain_is _ _ _ (chain_longer s _ _ _ _ k m), c.expand_span-span-2.ensures) refl
 
 pub first-returns : goal.first-returns
 first-returns g t c =
@@ -268,4 +268,4 @@ operation-returns g t c =
     let o = operand g.N.Nodes.functions c.args.self.now.depth in
     let e = ap (λ i. operation o (infix_of i) c.args.from c.args.before (v c.args.left) (g.N.Input.Tokens.place c.args.tokens.now)) c.in-Binary.is ∙
     binary_is o c.in-Binary.op c.in-Binary.level c.args.from c.args.before (v c.args.left) (g.N.Input.Tokens.place c.args.tokens.now) in
-    rw (e, c.in_ok-take.ensures, ← c.tighter.ensures, c.in_ok-right.ensures, c.in_ok-node.ensures, c.expand_span.ensures) refl
+    rw (e, c.in_ok-take.ensures, ← c.tighter.ensures, c.in_ok-right.ensures, c.in_ok-node.ensures, c.expand_span-span.ensures) refl
