@@ -1,6 +1,5 @@
 -- What a `Value` is seen as.
 use Rattle.std.specs.Prelude.{List, map}
-use Rattle.std.specs.String.{string_bytes}
 use Rattle.minijinja_value.specs.Outcomes.{map_pairs}
 use Rattle.minijinja_value.specs.ValueContents.{Contents, undefined, silent_undefined, none, truth, integer, text, list, tuple, mapping, keywords, Items, Pairs, items_of, pairs_of}
 use Rattle.minijinja_value.specs.declared.value.Value.{Value, fold-Value}
@@ -14,7 +13,7 @@ contents_step Value-F.SilentUndefined = silent_undefined
 contents_step Value-F.None = none
 contents_step (Value-F.Bool b) = truth b
 contents_step (Value-F.Integer z) = integer z
-contents_step (Value-F.String s) = text (string_bytes s)
+contents_step (Value-F.String s) = text s
 contents_step (Value-F.List v) = list (items_of v.items)
 contents_step (Value-F.Tuple v) = tuple (items_of v.items)
 contents_step (Value-F.Map ps) = mapping ps

@@ -1,2 +1,3 @@
 pub mod IntegerParts
+pub mod TextForms
 pub mod EqualContents

@@ -15,11 +15,14 @@ mod compare;
 pub mod integer;
 mod operate;
 mod print;
+pub mod text;
 
 pub use crate::value::integer::Integer;
 pub use crate::value::print::Quoted;
+pub use crate::value::text::Text;
 use std::alloc::{AllocError, AllocFailed, Global};
 use std::cmp::Ordering;
+use std::mem::size_of;
 
 /// A value type of templates. Each answer is a function of the contents of the values that it is asked of, so that values
 /// of equal contents are interchangeable in every call. Where memory is refused, a call answers [`AllocError`] or
@@ -213,13 +216,16 @@ pub enum Value {
     None,
     Bool(bool),
     Integer(Integer),
-    String(String),
+    String(Text),
     List(Vec<Value>),
     Tuple(Vec<Value>),
     Map(ValueMap),
     /// The keyword arguments of a call, by name.
     Kwargs(ValueMap),
 }
+
+// A value is no larger than an integer makes it, with its kind before it: short texts have room in that.
+const _: () = prove!(size_of::<Value>() == 16 + size_of::<Integer>());
 
 /// As [`TemplateValue::equals`] says, which is asked both ways round: so `==` is an equivalence even of values with maps whose
 /// keys are not known to be distinct.
@@ -357,7 +363,7 @@ impl TemplateValue for Value {
     }
 
     fn of_str(alloc: Global, value: &str) -> Result<Value, AllocError> {
-        Ok(Value::String(String::from_str(alloc, value)?))
+        Ok(Value::String(Text::new(alloc, value)?))
     }
 
     fn list(_alloc: Global, items: Vec<Value>) -> Result<Value, AllocError>
@@ -400,7 +406,7 @@ impl TemplateValue for Value {
             Value::Undefined | Value::SilentUndefined | Value::None => false,
             Value::Bool(value) => *value,
             Value::Integer(value) => !value.is_zero(),
-            Value::String(text) => !text.is_empty(),
+            Value::String(text) => !text.as_str().is_empty(),
             Value::List(items) | Value::Tuple(items) => !items.is_empty(),
             Value::Map(map) | Value::Kwargs(map) => !map.is_empty(),
         }

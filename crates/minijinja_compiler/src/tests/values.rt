@@ -42,6 +42,14 @@ fn values_are_printed(rt: HostRuntime) -> Result<(), Fail> {
         ),
         ("- (2 ** 127)", "-170141183460469231731687303715884105728"),
         ("'a\"b\\\\c\\n'", "\"a\\\"b\\\\c\\n\""),
+        // Texts of 24 bytes and of 25.
+        ("'abcdefghijklmnopqrstuvwx'", "\"abcdefghijklmnopqrstuvwx\""),
+        (
+            "'abcdefghijklmnopqrstuvwxy'",
+            "\"abcdefghijklmnopqrstuvwxy\"",
+        ),
+        ("'abcdefghijklmnopqrstuvé'", "\"abcdefghijklmnopqrstuvé\""),
+        ("'abcdefghijklmnopqrstuvwé'", "\"abcdefghijklmnopqrstuvwé\""),
         ("[1, 'b']", "[1, \"b\"]"),
         ("(1,)", "(1,)"),
         ("()", "()"),
@@ -68,6 +76,8 @@ fn values_are_tested_and_counted(rt: HostRuntime) -> Result<(), Fail> {
         ("18446744073709551616", true, None),
         ("- 1", true, None),
         ("''", false, None),
+        ("'a'", true, None),
+        ("'abcdefghijklmnopqrstuvwxy'", true, None),
         ("(0,)", true, None),
         ("[]", false, None),
         ("{}", false, None),
@@ -121,6 +131,27 @@ fn values_are_joined_compared_and_searched(rt: HostRuntime) -> Result<(), Fail> 
         ("'a' ~ 'b'", "\"ab\""),
         ("'a' ~ 7", "\"a7\""),
         ("none ~ ('a',)", "\"none(\\\"a\\\",)\""),
+        // A text of 24 bytes, and one of 25.
+        (
+            "'abcdefghijkl' ~ 'mnopqrstuvwx' == 'abcdefghijklmnopqrstuvwx'",
+            "true",
+        ),
+        (
+            "'abcdefghijklm' ~ 'nopqrstuvwxy' == 'abcdefghijklmnopqrstuvwxy'",
+            "true",
+        ),
+        (
+            "'abcdefghijklmnopqrstuvwx' == 'abcdefghijklmnopqrstuvwxy'",
+            "false",
+        ),
+        (
+            "'abcdefghijklmnopqrstuvwx' < 'abcdefghijklmnopqrstuvwxy'",
+            "true",
+        ),
+        (
+            "'abcdefghijklmnopqrstuvwx' in 'abcdefghijklmnopqrstuvwxy'",
+            "true",
+        ),
         ("1 == true", "false"),
         ("(1,) == (1,)", "true"),
         ("[1] == (1,)", "false"),
@@ -236,6 +267,7 @@ fn what_is_undefined_is_joined_as_nothing(rt: HostRuntime) -> Result<(), Fail> {
 fn values_are_copied(rt: HostRuntime) -> Result<(), Fail> {
     for text in [
         "['a', 340282366920938463463374607431768211455]",
+        "['abcdefghijklmnopqrstuvwx', 'abcdefghijklmnopqrstuvwxy']",
         "{'a': none}",
     ] {
         let value = value_of(rt.alloc(), text)?;

@@ -50,7 +50,7 @@ pub(super) fn copy(value: &Value) -> Result<Value, AllocError>
         Value::None => Ok(Value::None),
         Value::Bool(truth) => Ok(Value::Bool(*truth)),
         Value::Integer(number) => Ok(Value::Integer(*number)),
-        Value::String(text) => Ok(Value::String(text.clone()?)),
+        Value::String(text) => Ok(Value::String(text.try_clone()?)),
         Value::List(items) => Ok(Value::List(copy_items(items)?)),
         Value::Tuple(items) => Ok(Value::Tuple(copy_items(items)?)),
         Value::Map(map) => Ok(Value::Map(copy_map(map)?)),

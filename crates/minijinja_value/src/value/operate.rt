@@ -6,7 +6,7 @@ ghost use Rattle.minijinja_value.specs.ValueWords.{joined_words};
 ghost use Rattle.minijinja_value.specs.ValueViews.{contents_of};
 
 use super::compare::{has_item, position_of_key};
-use super::{Integer, OpError, Value, ValueFault};
+use super::{Integer, OpError, Text, Value, ValueFault};
 use std::alloc::{AllocError, Global};
 
 /// The texts of two values, joined.
@@ -17,7 +17,7 @@ pub(super) fn concat(left: &Value, alloc: Global, right: &Value) -> Result<Value
     let mut text = String::new(alloc);
     push_joined(&mut text, left)?;
     push_joined(&mut text, right)?;
-    Ok(Value::String(text))
+    Ok(Value::String(Text::from_string(text)))
 }
 
 /// Adds what a value stands for in a joined text.
@@ -27,7 +27,7 @@ fn push_joined(text: &mut String, value: &Value) -> Result<(), AllocError>
 {
     match value {
         Value::Undefined | Value::SilentUndefined => Ok(()),
-        Value::String(own) => text.push_str(own),
+        Value::String(own) => text.push_str(own.as_str()),
         _ => write!(text, "{value}"),
     }
 }
@@ -40,7 +40,7 @@ pub(super) fn contains(value: &Value, item: &Value) -> Result<bool, OpError<Valu
 {
     match value {
         Value::String(text) => match item {
-            Value::String(part) => Ok(has_text(text, part)),
+            Value::String(part) => Ok(has_text(text.as_str(), part.as_str())),
             _ => Err(OpError::Fault(ValueFault::WrongType)),
         },
         Value::List(items) => Ok(has_item(items, item)),

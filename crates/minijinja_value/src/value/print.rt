@@ -29,7 +29,7 @@ fn show<W: fmt::Write>(value: &Value, f: &mut fmt::Formatter<W>) -> fmt::Result
         Value::Bool(true) => f.write_str("true"),
         Value::Bool(false) => f.write_str("false"),
         Value::Integer(value) => write!(f, "{value}"),
-        Value::String(text) => write!(f, "{}", Quoted(text)),
+        Value::String(text) => write!(f, "{}", Quoted(text.as_str())),
         Value::List(items) => {
             f.write_str("[")?;
             show_items(items, f)?;

@@ -1,0 +1,88 @@
+//! The texts of values.
+ghost use Rattle.std.specs.Prelude.{◌≡◌, ◌≤◌, IsOk, IfOk, length, string_bytes};
+
+use arrayvec::ArrayString;
+use std::alloc::{AllocError, Global};
+use std::fmt;
+use std::marker::Model;
+
+/// The most bytes of a text that takes no memory.
+pub const MOST_SHORT_BYTES: usize = 24;
+
+/// A text that does not change. Contracts see its bytes. A short one stands in the value itself and takes no memory.
+#[derive(Drop)]
+pub struct Text {
+    form: Form,
+}
+
+#[derive(Drop)]
+enum Form {
+    Short(ArrayString<MOST_SHORT_BYTES>),
+    Long(String),
+}
+
+impl Model for Text {
+    ghost use Rattle.std.specs.Prelude.{ℕ, List};
+
+    ghost Value = { List ℕ };
+
+    ghost use Rattle.minijinja_value.specs.private.TextForms.{form_bytes, IsFitting};
+
+    ghost view = { λ t. form_bytes t.form };
+
+    ghost invariant = { λ t. IsFitting t.form };
+}
+
+impl Text {
+    /// A copy of a text.
+    pub fn new(alloc: Global, text: &str) -> Result<Text, AllocError>
+        ensures value { IfOk result (λ t. t ≡ text.now) }
+        ensures needs_no_memory { length text.now ≤ MOST_SHORT_BYTES → IsOk result }
+    {
+        let form = match ArrayString::from(text) {
+            Ok(short) => Form::Short(short),
+            Err(_) => Form::Long(String::from_str(alloc, text)?),
+        };
+        Ok(Text { form })
+    }
+
+    /// The text of a string, whose memory is let go where the text is short.
+    pub fn from_string(text: String) -> Text
+        ensures { result ≡ string_bytes text }
+    {
+        let form = match ArrayString::from(text.as_str()) {
+            Ok(short) => Form::Short(short),
+            Err(_) => Form::Long(text),
+        };
+        Text { form }
+    }
+
+    /// The text.
+    pub fn as_str(&self) -> &str
+        ensures { result.now ≡ self.now }
+    {
+        match &self.form {
+            Form::Short(text) => text.as_str(),
+            Form::Long(text) => text.as_str(),
+        }
+    }
+
+    /// The same text, with memory of its own.
+    pub fn try_clone(&self) -> Result<Text, AllocError>
+        ensures value { IfOk result (λ t. t ≡ self.now) }
+        ensures needs_no_memory { length self.now ≤ MOST_SHORT_BYTES → IsOk result }
+    {
+        let form = match &self.form {
+            Form::Short(text) => Form::Short(*text),
+            Form::Long(text) => Form::Long(text.clone()?),
+        };
+        Ok(Text { form })
+    }
+}
+
+/// As that of a `str`.
+impl fmt::Debug for Text {
+    fn fmt<W: fmt::Write>(&self, f: &mut fmt::Formatter<W>) -> fmt::Result {
+        fmt::Debug::fmt(&self.as_str(), f)
+    }
+}
