@@ -1,4 +1,6 @@
 //! Tests of the compiler and of the crates below it: a crate that has tests is proved twice, so they stand here.
+//!
+//! The rows of a subject stand in one text, since a test is proved too, with each text that it names spelled out.
 mod codegen;
 mod compile;
 mod errors;
@@ -9,75 +11,113 @@ mod syntax;
 mod tree;
 mod values;
 
-use crate::error::{Error, ErrorKind};
+use crate::error::{Detail, Error, ErrorKind};
 use crate::syntax::{SyntaxConfig, SyntaxConfigBuilder};
-use std::alloc::Global;
+use std::alloc::{AllocError, Global};
+use std::process::Abort;
 use std::test::Fail;
 
-/// How the tags of a row begin and end, and what is done with the whitespace round them.
-#[derive(Clone, Copy)]
-struct Options {
-    block: (&'static str, &'static str),
-    variable: (&'static str, &'static str),
-    comment: (&'static str, &'static str),
-    line_statement: &'static str,
-    line_comment: &'static str,
-    trim_blocks: bool,
-    lstrip_blocks: bool,
-    keep_trailing_newline: bool,
+/// What a test says of a text.
+trait Subject {
+    fn words(alloc: Global, text: &str) -> Result<String, Fail>;
 }
 
-/// Those of the default syntax.
-const PLAIN: Options = Options {
-    block: ("{%", "%}"),
-    variable: ("{{", "}}"),
-    comment: ("{#", "#}"),
-    line_statement: "",
-    line_comment: "",
-    trim_blocks: false,
-    lstrip_blocks: false,
-    keep_trailing_newline: false,
-};
-
-/// Lines of statements and of comments.
-const LINES: Options = Options {
-    line_statement: "#",
-    line_comment: "##",
-    ..PLAIN
-};
-
-impl Options {
-    fn builder(self, alloc: Global) -> Result<SyntaxConfigBuilder, Error<'static>> {
-        let mut builder = SyntaxConfig::builder();
-        let (start, end) = self.block;
-        builder.block_delimiters(alloc, start, end)?;
-        let (start, end) = self.variable;
-        builder.variable_delimiters(alloc, start, end)?;
-        let (start, end) = self.comment;
-        builder.comment_delimiters(alloc, start, end)?;
-        builder.line_statement_prefix(alloc, self.line_statement)?;
-        builder.line_comment_prefix(alloc, self.line_comment)?;
-        builder.trim_blocks(self.trim_blocks);
-        builder.lstrip_blocks(self.lstrip_blocks);
-        builder.keep_trailing_newline(self.keep_trailing_newline);
-        Ok(builder)
-    }
-
-    fn build(self, alloc: Global) -> Result<SyntaxConfig, Error<'static>> {
-        self.builder(alloc)?.build(alloc)
-    }
-
-    /// The syntax, for tests of what can be built.
-    fn syntax(self, alloc: Global) -> Result<SyntaxConfig, Fail> {
-        Ok(self.build(alloc)?)
-    }
-
-    /// What is wrong with them, for tests of what cannot.
-    fn refusal(self, alloc: Global) -> Result<ErrorKind, Fail> {
-        let error = self.build(alloc).err().ok_or("built")?;
-        if error.span().is_some() || error.name().is_some() {
-            return Err(Fail::from("it names a place"));
+/// Asserts each row: a line `TEXT => WORDS`, or a text alone, of which nothing is to be said.
+fn hold<S: Subject>(rt: &impl Abort, alloc: Global, rows: &str) -> Result<(), Fail> {
+    for row in rows.lines() {
+        if !row.is_empty() {
+            let (text, wanted) = parted(row, " => ");
+            let text = decoded(alloc, text)?;
+            let words = S::words(alloc, text.as_str())?;
+            assert!(rt; words.as_str() == wanted, "{row}: {words}");
         }
-        Ok(error.kind())
     }
+    Ok(())
+}
+
+/// What stands before and after the first of these marks. With no mark nothing stands after it.
+fn parted<'t>(text: &'t str, mark: &str) -> (&'t str, &'t str) {
+    text.split_once(mark).unwrap_or((text, ""))
+}
+
+/// The text that a row writes, in which each symbol of a control character or a space is that character. `␀` is nothing.
+fn decoded(alloc: Global, written: &str) -> Result<String, AllocError> {
+    written.chars().filter_map(character).collect(alloc)
+}
+
+fn character(symbol: char) -> Option<char> {
+    match symbol {
+        '␀' => None,
+        '␉' => Some('\t'),
+        '␊' => Some('\n'),
+        '␍' => Some('\r'),
+        '␠' => Some(' '),
+        _ => Some(symbol),
+    }
+}
+
+/// The pieces of a text one after another. They are parted by ` | `, and one that is `COUNT * TEXT` stands there so often.
+fn repeated(alloc: Global, pieces: &str) -> Result<String, Fail> {
+    let mut text = String::new(alloc);
+    for piece in pieces.split(" | ") {
+        match piece.split_once(" * ") {
+            Some((count, unit)) => {
+                for _ in 0..count.parse::<u32>()? {
+                    text.push_str(unit)?;
+                }
+            }
+            None => text.push_str(piece)?,
+        }
+    }
+    Ok(text)
+}
+
+/// The syntax with these options, which are parted by commas: `default`, the name of a flag that is set, or a name and
+/// its texts.
+fn syntax_of(alloc: Global, options: &str) -> Result<SyntaxConfig, Error<'static>> {
+    let mut builder = SyntaxConfig::builder();
+    for option in options.split(", ") {
+        set(alloc, &mut builder, option)?;
+    }
+    builder.build(alloc)
+}
+
+fn set(
+    alloc: Global,
+    builder: &mut SyntaxConfigBuilder,
+    option: &str,
+) -> Result<(), Error<'static>> {
+    let (name, text) = parted(option, " ");
+    let (start, end) = parted(text, " ");
+    match name {
+        "block" => builder.block_delimiters(alloc, start, end),
+        "variable" => builder.variable_delimiters(alloc, start, end),
+        "comment" => builder.comment_delimiters(alloc, start, end),
+        "line_statement" => builder.line_statement_prefix(alloc, text),
+        "line_comment" => builder.line_comment_prefix(alloc, text),
+        _ => set_flag(builder, name),
+    }
+}
+
+/// Sets the flag of this name, or nothing for `default`.
+fn set_flag(builder: &mut SyntaxConfigBuilder, name: &str) -> Result<(), Error<'static>> {
+    match name {
+        "default" => {}
+        "trim_blocks" => {
+            builder.trim_blocks(true);
+        }
+        "lstrip_blocks" => {
+            builder.lstrip_blocks(true);
+        }
+        "keep_trailing_newline" => {
+            builder.keep_trailing_newline(true);
+        }
+        _ => return Err(no_option()),
+    }
+    Ok(())
+}
+
+fn no_option() -> Error<'static> {
+    let detail = Detail::UnknownStatement("an option");
+    Error::new(ErrorKind::SyntaxError, detail, None, None)
 }

@@ -1,12 +1,15 @@
 //! Runs of the program in memory: what is printed and which status comes is proved by no clause.
+//!
+//! The rows of a subject stand in one text, since a test is proved too, with each text that it names spelled out.
 mod expr;
 mod tokens;
 mod words;
 
 use crate::run::run;
-use std::alloc::Global;
+use std::alloc::{AllocError, Global};
 use std::io::{self, Read, Write};
 use std::process::Abort;
+use std::test::Fail;
 
 const CODE: [&str; 2] = ["code", "-"];
 
@@ -14,9 +17,6 @@ const GREETING: &str = "Hello {{ name }}!";
 
 const GREETING_CODE: &str =
     "template\n0 EmitRaw(\"Hello \")\n1 Lookup(\"name\")\n2 Emit\n3 EmitRaw(\"!\")\nhint 16\n";
-
-const USAGE: &str =
-    "usage: mjc tokens|code|names|replay [OPTION..] FILE [ANSWERS], mjc expr TEXT\n";
 
 /// Gives one byte at a time, and ends or fails after the last.
 #[derive(Drop)]
@@ -74,147 +74,173 @@ impl Write for Short {
     }
 }
 
-/// Asserts what a run on a reader gives: the status, and the texts on `out` and `err`.
-fn assert_run<R: Read>(
-    rt: &impl Abort,
-    alloc: Global,
-    args: &[&str],
-    file: &mut R,
-    wanted_status: u8,
-    printed: &str,
-    said: &str,
-) {
+/// What a test says of a text.
+trait Subject {
+    fn words(alloc: Global, text: &str) -> Result<String, Fail>;
+}
+
+/// Asserts each row: a line `TEXT => WORDS`, or a text alone, of which nothing is to be said.
+fn hold<S: Subject>(rt: &impl Abort, alloc: Global, rows: &str) -> Result<(), Fail> {
+    for row in rows.lines() {
+        if !row.is_empty() {
+            let (text, wanted) = parted(row, " => ");
+            let (text, wanted) = (decoded(alloc, text)?, decoded(alloc, wanted)?);
+            let words = S::words(alloc, text.as_str())?;
+            assert!(rt; words.as_str() == wanted.as_str(), "{row}: {words}");
+        }
+    }
+    Ok(())
+}
+
+/// What stands before and after the first of these marks. With no mark nothing stands after it.
+fn parted<'t>(text: &'t str, mark: &str) -> (&'t str, &'t str) {
+    text.split_once(mark).unwrap_or((text, ""))
+}
+
+/// The text that a row writes, in which each symbol of a control character or a space is that character. `␀` is nothing.
+fn decoded(alloc: Global, written: &str) -> Result<String, AllocError> {
+    written.chars().filter_map(character).collect(alloc)
+}
+
+fn character(symbol: char) -> Option<char> {
+    match symbol {
+        '␀' => None,
+        '␊' => Some('\n'),
+        '␍' => Some('\r'),
+        '␉' => Some('\t'),
+        '␠' => Some(' '),
+        _ => Some(symbol),
+    }
+}
+
+/// What a run on a reader prints, and after it, where the status is not 0 or something is said, `! STATUS ` and what is said.
+fn output<R: Read>(alloc: Global, args: &[&str], file: &mut R) -> Result<String, Fail> {
     let (mut out, mut err) = (Vec::new(alloc), Vec::new(alloc));
     let status = run(alloc, args, file, &mut io::empty(), &mut out, &mut err);
-    assert_eq!(rt; str::from_utf8(&out), Ok(printed));
-    assert_eq!(rt; str::from_utf8(&err), Ok(said));
-    assert_eq!(rt; status, wanted_status);
+    let mut text = String::from_utf8(out)?;
+    if status > 0 || !err.is_empty() {
+        write!(text, "! {status} {}", str::from_utf8(&err)?)?;
+    }
+    Ok(text)
 }
 
-#[test]
-fn prints_code(rt: HostRuntime) {
-    let rows = [
-        (GREETING, GREETING_CODE),
-        ("", "template\nhint 1\n"),
-        ("{{-1}}", "template\n0 LoadConst(1)\n1 Emit\nhint 1\n"),
-        ("x\n", "template\n0 EmitRaw(\"x\")\nhint 2\n"),
-        (
-            "{% set x = a.b %}{{ x }}{{ \"y\" }}{{ 7 }}",
-            "template\n0 Lookup(\"a\")\n1 GetAttr(\"b\")\n2 StoreLocal(\"x\")\n3 Lookup(\"x\")\n4 Emit\n5 LoadConst(\"y\")\n6 Emit\n7 LoadConst(7)\n8 Emit\nhint 1\n",
-        ),
-        (
-            "{{ true }}{{ none }}{{ False }}",
-            "template\n0 LoadConst(true)\n1 Emit\n2 LoadConst(none)\n3 Emit\n4 LoadConst(false)\n5 Emit\nhint 1\n",
-        ),
-        (
-            "a\"b\\c\nd\re\tf",
-            "template\n0 EmitRaw(\"a\\\"b\\\\c\\nd\\re\\tf\")\nhint 32\n",
-        ),
-        (
-            "{% set x = a.b %}abc{{ x }}",
-            "template\n0 Lookup(\"a\")\n1 GetAttr(\"b\")\n2 StoreLocal(\"x\")\n3 EmitRaw(\"abc\")\n4 Lookup(\"x\")\n5 Emit\nhint 8\n",
-        ),
-        ("{{ x }}", "template\n0 Lookup(\"x\")\n1 Emit\nhint 1\n"),
-        ("{{ super() }}", "template\n0 FastSuper\nhint 1\n"),
-        (
-            "{{ super(x) }}",
-            "template\n0 Lookup(\"x\")\n1 CallFunction(\"super\", 1)\n2 Emit\nhint 1\n",
-        ),
-        (
-            "{{ loop(x) }}",
-            "template\n0 Lookup(\"x\")\n1 FastRecurse\nhint 1\n",
-        ),
-        (
-            "{{ loop() }}",
-            "template\n0 CallFunction(\"loop\", 0)\n1 Emit\nhint 1\n",
-        ),
-        (
-            "{{ loop(*x) }}",
-            "template\n0 Lookup(\"x\")\n1 UnpackLists(1)\n2 CallFunction(\"loop\", none)\n3 Emit\nhint 1\n",
-        ),
-        ("{{ self.b(x) }}", "template\n0 CallBlock(\"b\")\nhint 1\n"),
-        (
-            "{{ y.loop(x) }}",
-            "template\n0 Lookup(\"y\")\n1 Lookup(\"x\")\n2 CallMethod(\"loop\", 2)\n3 Emit\nhint 1\n",
-        ),
-    ];
-    for (source, code) in rows {
-        let file = &mut source.as_bytes();
-        assert_run(&rt, rt.alloc(), &CODE, file, 0, code, "");
+/// The output after its head, or after a question mark where it has another.
+fn after_head(alloc: Global, output: &str, head: &str) -> Result<String, AllocError> {
+    match output.strip_prefix(head) {
+        Some(rest) => String::from_str(alloc, rest),
+        None => format!(in alloc; "? {output}"),
+    }
+}
+
+/// Templates: their code.
+enum Code {}
+
+impl Subject for Code {
+    fn words(alloc: Global, text: &str) -> Result<String, Fail> {
+        let output = output(alloc, &CODE, &mut text.as_bytes())?;
+        Ok(after_head(alloc, output.as_str(), "template\n")?)
     }
 }
 
 #[test]
-fn names_the_refusal_and_its_place(rt: HostRuntime) {
-    let rows = [
-        ("{% set loop = a %}", "mjc: SyntaxError at 1:7\n"),
-        ("{{ a", "mjc: SyntaxError at 1:3\n"),
-        ("{{ '\\q' }}", "mjc: BadEscape at 1:3\n"),
-        ("{{ 'a' '\\q' }}", "mjc: BadEscape at 1:7\n"),
-        ("{{ 'a", "mjc: SyntaxError at 1:5\n"),
-        ("{% raw %}x", "mjc: SyntaxError at 1:10\n"),
-    ];
-    for (source, line) in rows {
-        let file = &mut source.as_bytes();
-        assert_run(&rt, rt.alloc(), &CODE, file, 1, "", line);
+fn prints_code(rt: HostRuntime) -> Result<(), Fail> {
+    let rows = r#"
+Hello {{ name }}! => 0 EmitRaw("Hello ")␊1 Lookup("name")␊2 Emit␊3 EmitRaw("!")␊hint 16␊
+␀ => hint 1␊
+{{-1}} => 0 LoadConst(1)␊1 Emit␊hint 1␊
+x␊ => 0 EmitRaw("x")␊hint 2␊
+{% set x = a.b %}{{ x }}{{ "y" }}{{ 7 }} => 0 Lookup("a")␊1 GetAttr("b")␊2 StoreLocal("x")␊3 Lookup("x")␊4 Emit␊5 LoadConst("y")␊6 Emit␊7 LoadConst(7)␊8 Emit␊hint 1␊
+{{ true }}{{ none }}{{ False }} => 0 LoadConst(true)␊1 Emit␊2 LoadConst(none)␊3 Emit␊4 LoadConst(false)␊5 Emit␊hint 1␊
+a"b\c␊d␍e␉f => 0 EmitRaw("a\"b\\c\nd\re\tf")␊hint 32␊
+{% set x = a.b %}abc{{ x }} => 0 Lookup("a")␊1 GetAttr("b")␊2 StoreLocal("x")␊3 EmitRaw("abc")␊4 Lookup("x")␊5 Emit␊hint 8␊
+{{ x }} => 0 Lookup("x")␊1 Emit␊hint 1␊
+{{ super() }} => 0 FastSuper␊hint 1␊
+{{ super(x) }} => 0 Lookup("x")␊1 CallFunction("super", 1)␊2 Emit␊hint 1␊
+{{ loop(x) }} => 0 Lookup("x")␊1 FastRecurse␊hint 1␊
+{{ loop() }} => 0 CallFunction("loop", 0)␊1 Emit␊hint 1␊
+{{ loop(*x) }} => 0 Lookup("x")␊1 UnpackLists(1)␊2 CallFunction("loop", none)␊3 Emit␊hint 1␊
+{{ self.b(x) }} => 0 CallBlock("b")␊hint 1␊
+{{ y.loop(x) }} => 0 Lookup("y")␊1 Lookup("x")␊2 CallMethod("loop", 2)␊3 Emit␊hint 1␊
+"#;
+    hold::<Code>(&rt, rt.alloc(), rows)
+}
+
+/// Templates: why and where they are refused.
+enum Refused {}
+
+impl Subject for Refused {
+    fn words(alloc: Global, text: &str) -> Result<String, Fail> {
+        let output = output(alloc, &CODE, &mut text.as_bytes())?;
+        Ok(after_head(alloc, output.as_str(), "! 1 mjc: ")?)
     }
 }
 
 #[test]
-fn reads_to_the_end(rt: HostRuntime) {
+fn names_the_refusal_and_its_place(rt: HostRuntime) -> Result<(), Fail> {
+    let rows = r#"
+{% set loop = a %} => SyntaxError at 1:7␊
+{{ a => SyntaxError at 1:3␊
+{{ '\q' }} => BadEscape at 1:3␊
+{{ 'a' '\q' }} => BadEscape at 1:7␊
+{{ 'a => SyntaxError at 1:5␊
+{% raw %}x => SyntaxError at 1:10␊
+"#;
+    hold::<Refused>(&rt, rt.alloc(), rows)
+}
+
+#[test]
+fn reads_to_the_end(rt: HostRuntime) -> Result<(), Fail> {
     let mut whole = Trickle {
         rest: GREETING.as_bytes(),
         end: Ok(0),
     };
-    assert_run(&rt, rt.alloc(), &CODE, &mut whole, 0, GREETING_CODE, "");
+    assert!(rt; output(rt.alloc(), &CODE, &mut whole)?.as_str() == GREETING_CODE);
     let mut broken = Trickle {
         rest: GREETING.as_bytes(),
         end: Err(io::Error::from(io::ErrorKind::ConnectionReset)),
     };
     let args = &["code", "a/b"];
-    let unread = "mjc: cannot read a/b\n";
-    assert_run(&rt, rt.alloc(), args, &mut broken, 2, "", unread);
-    assert_run(
-        &rt,
-        rt.alloc(),
-        args,
-        &mut b"a\xff".as_slice(),
-        2,
-        "",
-        unread,
-    );
+    let unread = "! 2 mjc: cannot read a/b\n";
+    assert!(rt; output(rt.alloc(), args, &mut broken)?.as_str() == unread);
+    assert!(rt; output(rt.alloc(), args, &mut b"a\xff".as_slice())?.as_str() == unread);
+    Ok(())
+}
+
+/// Whether a run succeeds that can write so often. It says where it cannot, and what it wrote is the start of the output.
+fn succeeds(rt: &impl Abort, alloc: Global, writes: usize) -> bool {
+    let (mut out, mut err) = (Short::new(alloc, writes), Vec::new(alloc));
+    let file = &mut GREETING.as_bytes();
+    let status = run(alloc, &CODE, file, &mut io::empty(), &mut out, &mut err);
+    assert!(rt; GREETING_CODE.as_bytes().starts_with(&out.taken));
+    if status == 0 {
+        assert!(rt; out.taken.len() == GREETING_CODE.len() && err.is_empty() && writes > 0);
+        return true;
+    }
+    assert!(rt; status == 2 && err.as_slice() == b"mjc: cannot write\n".as_slice());
+    false
 }
 
 #[test]
 fn ends_at_a_failing_write(rt: HostRuntime) {
-    let alloc = rt.alloc();
     for writes in 0..100 {
-        let (mut out, mut err) = (Short::new(alloc, writes), Vec::new(alloc));
-        let file = &mut GREETING.as_bytes();
-        let status = run(alloc, &CODE, file, &mut io::empty(), &mut out, &mut err);
-        assert!(rt; GREETING_CODE.as_bytes().starts_with(&out.taken));
-        if status == 0 {
-            assert_eq!(rt; out.taken.as_slice(), GREETING_CODE.as_bytes());
-            assert!(rt; err.is_empty() && writes > 0);
+        if succeeds(&rt, rt.alloc(), writes) {
             return;
         }
-        assert_eq!(rt;
-            (status, err.as_slice()),
-            (2, b"mjc: cannot write\n".as_slice())
-        );
     }
     panic!(rt; "no number of writes is enough");
 }
 
+/// The status of a run on a template that can say nothing.
+fn status_unsaid(alloc: Global, source: &str) -> u8 {
+    let (mut out, mut err) = (Vec::new(alloc), Short::new(alloc, 0));
+    let file = &mut source.as_bytes();
+    run(alloc, &CODE, file, &mut io::empty(), &mut out, &mut err)
+}
+
 #[test]
 fn keeps_the_status_when_no_line_can_be_said(rt: HostRuntime) {
-    let alloc = rt.alloc();
-    for (source, wanted) in [("{{ a", 1u8), ("a", 0)] {
-        let (mut out, mut err) = (Vec::new(alloc), Short::new(alloc, 0));
-        let file = &mut source.as_bytes();
-        let status = run(alloc, &CODE, file, &mut io::empty(), &mut out, &mut err);
-        assert_eq!(rt; status, wanted);
-    }
+    assert!(rt; status_unsaid(rt.alloc(), "{{ a") == 1);
+    assert!(rt; status_unsaid(rt.alloc(), "a") == 0);
 }
 
 /// Takes no memory itself, so that it may run with an allocation that fails.

@@ -1,77 +1,119 @@
 //! The generator and its lists of instructions. What they make of texts stands in the tests of the program.
+use super::{Subject, hold};
 use crate::ast::{Expr, Spanned, Var};
 use crate::codegen::CodeGenerator;
+use crate::error::Error;
 use crate::instructions::{Instruction, Instructions};
 use crate::parser::{parse, parse_expr};
 use crate::syntax::SyntaxConfig;
 use crate::tokens::Span;
 use crate::value::Value;
+use std::alloc::{AllocError, Global};
 use std::process::Abort;
 use std::test::Fail;
 
-/// A chain of 51 filters, one more than have an id of their own.
-const FILTERS: &str =
-    "x|a0|a1|a2|a3|a4|a5|a6|a7|a8|a9|b0|b1|b2|b3|b4|b5|b6|b7|b8|b9|c0|c1|c2|c3|c4|c5|c6|c7|c8|c9\
-     |d0|d1|d2|d3|d4|d5|d6|d7|d8|d9|e0|e1|e2|e3|e4|e5|e6|e7|e8|e9|f0";
+/// The code of expressions, one after another.
+fn code_of<'s>(alloc: Global, texts: &'s str) -> Result<Instructions<'s, Value>, Error<'s>> {
+    let mut generator = CodeGenerator::new(alloc, "name", texts);
+    for text in texts.split(", ") {
+        generator.compile_expr(&parse_expr::<Value>(alloc, text)?)?;
+    }
+    let (code, _) = generator.finish();
+    Ok(code)
+}
 
-fn id_of(rt: &impl Abort, code: &Instructions<'static, Value>, index: u32, id: u8) {
-    match code.get(index) {
-        Some(Instruction::ApplyFilter(_, _, known)) => assert_eq!(rt; *known, id),
-        Some(Instruction::PerformTest(_, _, known)) => assert_eq!(rt; *known, id),
-        _ => assert!(rt; false, "no id at {index}"),
+fn push_id(words: &mut String, instruction: &Instruction<'_, Value>) -> Result<(), AllocError> {
+    match instruction {
+        Instruction::ApplyFilter(_, _, id) | Instruction::PerformTest(_, _, id) => {
+            write!(words, "{id} ")
+        }
+        _ => Ok(()),
     }
 }
 
+/// Expressions: the ids of their filters and tests.
+enum Ids {}
+
+impl Subject for Ids {
+    fn words(alloc: Global, text: &str) -> Result<String, Fail> {
+        let code = code_of(alloc, text)?;
+        let mut words = String::new(alloc);
+        for index in 0..200 {
+            if let Some(instruction) = code.get(index) {
+                push_id(&mut words, instruction)?;
+            }
+        }
+        words.push_str("end")?;
+        Ok(words)
+    }
+}
+
+/// Fifty names have an id of their own.
 #[test]
 fn names_have_ids_by_first_use(rt: HostRuntime) -> Result<(), Fail> {
-    let mut generator = CodeGenerator::new(rt.alloc(), "name", "source");
-    for text in [FILTERS, "x|a1", "x is f0"] {
-        generator.compile_expr(&parse_expr::<Value>(rt.alloc(), text)?)?;
-    }
-    let (code, _) = generator.finish();
-    id_of(&rt, &code, 1, 0);
-    id_of(&rt, &code, 50, 49);
-    id_of(&rt, &code, 51, 255);
-    id_of(&rt, &code, 53, 1);
-    id_of(&rt, &code, 55, 0);
-    Ok(())
+    let rows =
+        "x|a0|a1|a2|a3|a4|a5|a6|a7|a8|a9|b0|b1|b2|b3|b4|b5|b6|b7|b8|b9|c0|c1|c2|c3|c4|c5|c6|c7|c8|c9\
+         |d0|d1|d2|d3|d4|d5|d6|d7|d8|d9|e0|e1|e2|e3|e4|e5|e6|e7|e8|e9|f0, x|a1, x is f0 => \
+         0 1 2 3 4 5 6 7 8 9 10 11 12 13 14 15 16 17 18 19 20 21 22 23 24 25 26 27 28 29 \
+         30 31 32 33 34 35 36 37 38 39 40 41 42 43 44 45 46 47 48 49 255 1 0 end";
+    hold::<Ids>(&rt, rt.alloc(), rows)
+}
+
+/// Two instructions.
+fn pair_of_instructions(alloc: Global) -> Result<Instructions<'static, Value>, Error<'static>> {
+    let mut list = Instructions::new(alloc, "name", "source");
+    list.add(Instruction::Lookup("x"))?;
+    list.add(Instruction::Emit)?;
+    Ok(list)
 }
 
 #[test]
 fn a_list_is_filled_with_ample_memory(rt: HostRuntime) -> Result<(), Fail> {
-    let mut list = Instructions::<Value>::new(rt.alloc(), "name", "source");
-    assert!(rt; list.is_empty());
-    assert_eq!(rt; list.add(Instruction::Lookup("x"))?, 0);
-    assert_eq!(rt; list.add(Instruction::Emit)?, 1);
-    assert_eq!(rt; list.len(), 2);
-    assert_eq!(rt; list.name(), "name");
-    assert_eq!(rt; list.source(), "source");
+    assert!(rt; Instructions::<Value>::new(rt.alloc(), "name", "source").is_empty());
+    let list = pair_of_instructions(rt.alloc())?;
+    assert!(rt; list.len() == 2);
+    assert!(rt; list.name() == "name" && list.source() == "source");
     assert!(rt; matches!(list.get(0), Some(Instruction::Lookup("x"))));
     assert!(rt; matches!(list.get(1), Some(Instruction::Emit)));
     assert!(rt; list.get(2).is_none());
     Ok(())
 }
 
-#[test]
-fn each_kind_of_node_compiles_with_ample_memory(rt: HostRuntime) -> Result<(), Fail> {
-    let mut generator = CodeGenerator::new(rt.alloc(), "name", "source");
-    generator.compile_expr(&parse_expr::<Value>(rt.alloc(), "1")?)?;
+/// A name that is assigned to.
+fn target(alloc: Global) -> Result<Spanned<Var<'static>>, Error<'static>> {
     let span = Span {
         start_line: 1,
         ..Span::default()
     };
-    let node = Spanned::new(rt.alloc(), Var { id: "x" }, span)?;
-    assert_eq!(rt; node.node().id, "x");
-    assert_eq!(rt; node.span(), span);
-    generator.compile_assignment(&Expr::Var(node))?;
+    Spanned::new(alloc, Var { id: "x" }, span)
+}
+
+#[test]
+fn a_node_is_made_with_ample_memory(rt: HostRuntime) -> Result<(), Fail> {
+    let node = target(rt.alloc())?;
+    assert!(rt; node.node().id == "x" && node.span().start_line == 1);
+    Ok(())
+}
+
+/// The code of an expression, of an assignment of its value and of a template, with the hint and how many blocks there are.
+fn code_of_each(
+    alloc: Global,
+) -> Result<(Instructions<'static, Value>, usize, usize), Error<'static>> {
+    let mut generator = CodeGenerator::new(alloc, "name", "source");
+    generator.compile_expr(&parse_expr::<Value>(alloc, "1")?)?;
+    generator.compile_assignment(&Expr::Var(target(alloc)?))?;
     let syntax = SyntaxConfig::default();
-    generator.compile_stmt(&parse(rt.alloc(), "abc{{ x }}", "name", &syntax)?)?;
-    assert_eq!(rt; generator.buffer_size_hint(), 8);
+    generator.compile_stmt(&parse(alloc, "abc{{ x }}", "name", &syntax)?)?;
+    let hint = generator.buffer_size_hint();
     let (code, blocks) = generator.finish();
-    assert!(rt; blocks.is_empty());
-    assert_eq!(rt; code.name(), "name");
-    assert_eq!(rt; code.source(), "source");
-    assert_eq!(rt; code.len(), 5);
+    Ok((code, hint, blocks.len()))
+}
+
+#[test]
+fn each_kind_of_node_compiles_with_ample_memory(rt: HostRuntime) -> Result<(), Fail> {
+    let (code, hint, blocks) = code_of_each(rt.alloc())?;
+    assert!(rt; hint == 8 && blocks == 0 && code.len() == 5);
+    assert!(rt; code.name() == "name" && code.source() == "source");
     assert!(rt; matches!(code.get(0), Some(Instruction::LoadConst(_))));
     assert!(rt; matches!(code.get(1), Some(Instruction::StoreLocal("x"))));
     assert!(rt; matches!(code.get(2), Some(Instruction::EmitRaw("abc"))));

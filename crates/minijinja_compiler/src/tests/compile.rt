@@ -1,180 +1,178 @@
+use super::{Subject, hold};
 use crate::compile::{compile, compile_expression};
-use crate::error::ErrorKind;
-use crate::instructions::Instruction;
+use crate::error::{Error, ErrorKind};
+use crate::instructions::Instructions;
 use crate::syntax::SyntaxConfig;
 use crate::value::Value;
+use std::alloc::{AllocError, Global};
+use std::process::Abort;
 use std::test::Fail;
 
-#[test]
-fn compiles_with_ample_memory(rt: HostRuntime) -> Result<(), Fail> {
-    let syntax = SyntaxConfig::default();
-    let compiled = compile::<Value>(rt.alloc(), "Hello {{ name }}!", "page", &syntax)
-        .ok()
-        .ok_or("refused")?;
-    assert_eq!(rt; compiled.instructions.len(), 4);
-    assert_eq!(rt; compiled.instructions.name(), "page");
-    assert!(rt; matches!(compiled.instructions.get(0), Some(Instruction::EmitRaw(_))));
-    assert!(rt; matches!(compiled.instructions.get(1), Some(Instruction::Lookup(_))));
-    assert!(rt; matches!(compiled.instructions.get(2), Some(Instruction::Emit)));
-    assert_eq!(rt; compiled.buffer_size_hint, 16);
-    Ok(())
+/// The kind of a refusal, and the end of its words, which are to name the source and the line that it shows.
+fn refusal(alloc: Global, error: Error<'_>) -> Result<String, AllocError> {
+    let name = error.name().unwrap_or("");
+    let end = format!(in alloc; " (in {name}:{})", error.line().unwrap_or(0))?;
+    let words = error.to_string(alloc)?;
+    if !words.ends_with(end.as_str()) {
+        return Ok(words);
+    }
+    format!(in alloc; "{:?}{end}", error.kind())
 }
 
-#[test]
-fn refuses_what_the_grammar_does_not_derive(rt: HostRuntime) {
-    let syntax = SyntaxConfig::default();
-    let (wrong, bad_escape) = (ErrorKind::SyntaxError, ErrorKind::BadEscape);
-    let rows = [
-        ("{{", wrong),
-        ("{{ a", wrong),
-        ("{{ }}", wrong),
-        ("{{ ( }}", wrong),
-        ("{{ a b }}", wrong),
-        ("{{ a. }}", wrong),
-        ("{{ (a }}", wrong),
-        ("{{ a | }}", wrong),
-        ("{{ a[ }}", wrong),
-        ("{{ f(a=1, b) }}", wrong),
-        ("{{ a is defined if b }}", wrong),
-        ("{{ 1.5 }}", wrong),
-        ("{{ 1_ }}", wrong),
-        ("{{ 1e5 }}", wrong),
-        ("{{ \"a }}", wrong),
-        ("{{ a -}", wrong),
-        ("{# c", wrong),
-        ("{% raw %}x", wrong),
-        ("{% set loop = a %}", wrong),
-        ("{% set a.b = c %}", wrong),
-        ("{% set a = b, c %}", wrong),
-        ("{% set in = a %}", wrong),
-        ("{% set a %}", wrong),
-        ("{% if a %}", wrong),
-        ("{% endraw %}", wrong),
-        ("{% set %}", wrong),
-        ("{% %}", wrong),
-        ("{{ '\\q' }}", bad_escape),
-        ("{{ '\\ud800' }}", bad_escape),
-        ("{{ 'a' '\\q' }}", bad_escape),
-        ("{{ a '\\q' }}", bad_escape),
-        ("{{ a b }}{{ '\\q' }}", wrong),
-    ];
-    for (source, kind) in rows {
-        match compile::<Value>(rt.alloc(), source, "page", &syntax) {
-            Ok(_) => assert!(rt; false, "{source} is accepted"),
-            Err(error) => {
-                assert!(rt; error.kind() == kind, "{source}");
-                assert_eq!(rt; error.name(), Some("page"), "{source}");
+/// Templates: the name and the length of their code and the hint, or why they are refused.
+enum Templates {}
+
+impl Subject for Templates {
+    fn words(alloc: Global, text: &str) -> Result<String, Fail> {
+        match compile::<Value>(alloc, text, "page", &SyntaxConfig::default()) {
+            Ok(compiled) => {
+                let code = &compiled.instructions;
+                let hint = compiled.buffer_size_hint;
+                Ok(format!(in alloc; "{}: {}, hint {hint}", code.name(), code.len())?)
             }
+            Err(error) => Ok(refusal(alloc, error)?),
         }
     }
 }
 
 #[test]
-fn compiles_expressions_with_ample_memory(rt: HostRuntime) -> Result<(), Fail> {
-    let code = compile_expression::<Value>(rt.alloc(), "a + 1 * 2")
-        .ok()
-        .ok_or("refused")?;
-    assert_eq!(rt; code.name(), "<expression>");
-    assert_eq!(rt; code.source(), "a + 1 * 2");
-    assert_eq!(rt; code.len(), 3);
-    assert!(rt; matches!(code.get(0), Some(Instruction::Lookup("a"))));
-    assert!(rt; matches!(code.get(1), Some(Instruction::LoadConst(_))));
-    assert!(rt; matches!(code.get(2), Some(Instruction::Add)));
-    Ok(())
+fn compiles_with_ample_memory(rt: HostRuntime) -> Result<(), Fail> {
+    hold::<Templates>(&rt, rt.alloc(), "Hello {{ name }}! => page: 4, hint 16")
+}
+
+#[test]
+fn refuses_what_the_grammar_does_not_derive(rt: HostRuntime) -> Result<(), Fail> {
+    let rows = r#"
+{{ => SyntaxError (in page:1)
+{{ a => SyntaxError (in page:1)
+{{ }} => SyntaxError (in page:1)
+{{ ( }} => SyntaxError (in page:1)
+{{ a b }} => SyntaxError (in page:1)
+{{ a. }} => SyntaxError (in page:1)
+{{ (a }} => SyntaxError (in page:1)
+{{ a | }} => SyntaxError (in page:1)
+{{ a[ }} => SyntaxError (in page:1)
+{{ f(a=1, b) }} => SyntaxError (in page:1)
+{{ a is defined if b }} => SyntaxError (in page:1)
+{{ 1.5 }} => SyntaxError (in page:1)
+{{ 1_ }} => SyntaxError (in page:1)
+{{ 1e5 }} => SyntaxError (in page:1)
+{{ "a }} => SyntaxError (in page:1)
+{{ a -} => SyntaxError (in page:1)
+{# c => SyntaxError (in page:1)
+{% raw %}x => SyntaxError (in page:1)
+{% set loop = a %} => SyntaxError (in page:1)
+{% set a.b = c %} => SyntaxError (in page:1)
+{% set a = b, c %} => SyntaxError (in page:1)
+{% set in = a %} => SyntaxError (in page:1)
+{% set a %} => SyntaxError (in page:1)
+{% if a %} => SyntaxError (in page:1)
+{% endraw %} => SyntaxError (in page:1)
+{% set %} => SyntaxError (in page:1)
+{% %} => SyntaxError (in page:1)
+{{ '\q' }} => BadEscape (in page:1)
+{{ '\ud800' }} => BadEscape (in page:1)
+{{ 'a' '\q' }} => BadEscape (in page:1)
+{{ a '\q' }} => BadEscape (in page:1)
+{{ a b }}{{ '\q' }} => SyntaxError (in page:1)
+a␊{{ b␊ c }} => SyntaxError (in page:3)
+"#;
+    hold::<Templates>(&rt, rt.alloc(), rows)
+}
+
+/// The name and the length of an expression's code, which has its source.
+fn length_of(
+    alloc: Global,
+    code: &Instructions<'_, Value>,
+    source: &str,
+) -> Result<String, AllocError> {
+    if code.source() != source {
+        return String::from_str(alloc, "another source");
+    }
+    format!(in alloc; "{}: {}", code.name(), code.len())
+}
+
+/// The kind and the place of an expression's refusal, and the end of its words.
+fn place_of(alloc: Global, error: Error<'_>) -> Result<String, AllocError> {
+    let span = error.span().unwrap_or_default();
+    let words = refusal(alloc, error)?;
+    format!(in alloc; "{}:{} {words}", span.start_line, span.start_col)
+}
+
+/// Expressions: the name and the length of their code, or why and where they are refused.
+enum Expressions {}
+
+impl Subject for Expressions {
+    fn words(alloc: Global, text: &str) -> Result<String, Fail> {
+        match compile_expression::<Value>(alloc, text) {
+            Ok(code) => Ok(length_of(alloc, &code, text)?),
+            Err(error) => Ok(place_of(alloc, error)?),
+        }
+    }
 }
 
 /// The lengths are those of the upstream program's code, with constants folded as this project's values fold.
 #[test]
-fn code_of_expressions_is_as_long_as_upstream(rt: HostRuntime) {
-    let rows = [
-        ("x[1:].k|f is not g(2)", 10),
-        ("self.b()", 3),
-        ("[1, (2,), {'k': a}]", 6),
-        ("a.0.b['c'](d)", 8),
-        ("'x' ~ 1 ~ a", 3),
-    ];
-    for (text, length) in rows {
-        match compile_expression::<Value>(rt.alloc(), text) {
-            Ok(code) => assert_eq!(rt; code.len(), length, "{text}"),
-            Err(error) => assert!(rt; false, "{text}: {error}"),
-        }
-    }
+fn code_of_expressions_is_as_long_as_upstream(rt: HostRuntime) -> Result<(), Fail> {
+    let rows = r#"
+a + 1 * 2 => <expression>: 3
+x[1:].k|f is not g(2) => <expression>: 10
+self.b() => <expression>: 3
+[1, (2,), {'k': a}] => <expression>: 6
+a.0.b['c'](d) => <expression>: 8
+'x' ~ 1 ~ a => <expression>: 3
+"#;
+    hold::<Expressions>(&rt, rt.alloc(), rows)
 }
 
 /// The places are those of the upstream program but for floats and bad escapes, to which it gives none.
 #[test]
 fn refusals_of_expressions_name_their_place(rt: HostRuntime) -> Result<(), Fail> {
-    let (wrong, bad_escape) = (ErrorKind::SyntaxError, ErrorKind::BadEscape);
-    let rows = [
-        ("  ", wrong, (0, 0)),
-        ("a +\n  ?", wrong, (2, 2)),
-        ("a\n+ b\n  c", wrong, (3, 2)),
-        ("[a,\nb", wrong, (2, 0)),
-        ("a if b\nelse", wrong, (2, 0)),
-        ("x[", wrong, (1, 1)),
-        ("x[]", wrong, (1, 2)),
-        ("x[1:", wrong, (1, 3)),
-        ("f('a'=1)", wrong, (1, 5)),
-        ("f(a=1, b)", wrong, (1, 7)),
-        ("f(,)", wrong, (1, 2)),
-        ("[1", wrong, (1, 1)),
-        ("{'a'", wrong, (1, 1)),
-        ("{'a':", wrong, (1, 4)),
-        ("{'a': 1", wrong, (1, 6)),
-        ("x.", wrong, (1, 1)),
-        ("a <", wrong, (1, 2)),
-        ("a not", wrong, (1, 2)),
-        ("1e5", wrong, (1, 1)),
-        ("a +\n'b' '\\x'", bad_escape, (2, 4)),
-    ];
-    for (text, kind, place) in rows {
-        let error = compile_expression::<Value>(rt.alloc(), text)
-            .err()
-            .ok_or(text)?;
-        let start = error.span().map(|span| (span.start_line, span.start_col));
-        assert!(rt; error.kind() == kind, "{text}: {error}");
-        assert_eq!(rt; start, Some(place), "{text}");
-        assert_eq!(rt; error.name(), Some("<expression>"), "{text}");
-    }
-    Ok(())
+    let rows = r#"
+␠␠ => 0:0 SyntaxError (in <expression>:0)
+a +␊  ? => 2:2 SyntaxError (in <expression>:2)
+a␊+ b␊  c => 3:2 SyntaxError (in <expression>:3)
+[a,␊b => 2:0 SyntaxError (in <expression>:2)
+a if b␊else => 2:0 SyntaxError (in <expression>:2)
+x[ => 1:1 SyntaxError (in <expression>:1)
+x[] => 1:2 SyntaxError (in <expression>:1)
+x[1: => 1:3 SyntaxError (in <expression>:1)
+f('a'=1) => 1:5 SyntaxError (in <expression>:1)
+f(a=1, b) => 1:7 SyntaxError (in <expression>:1)
+f(,) => 1:2 SyntaxError (in <expression>:1)
+[1 => 1:1 SyntaxError (in <expression>:1)
+{'a' => 1:1 SyntaxError (in <expression>:1)
+{'a': => 1:4 SyntaxError (in <expression>:1)
+{'a': 1 => 1:6 SyntaxError (in <expression>:1)
+x. => 1:1 SyntaxError (in <expression>:1)
+a < => 1:2 SyntaxError (in <expression>:1)
+a not => 1:2 SyntaxError (in <expression>:1)
+1e5 => 1:1 SyntaxError (in <expression>:1)
+a +␊'b' '\x' => 2:4 BadEscape (in <expression>:2)
+a␊) => 2:0 SyntaxError (in <expression>:2)
+"#;
+    hold::<Expressions>(&rt, rt.alloc(), rows)
 }
 
-/// The line is that of the place.
-#[test]
-fn refusals_name_the_source_and_the_line(rt: HostRuntime) -> Result<(), Fail> {
-    let syntax = SyntaxConfig::default();
-    let error = compile::<Value>(rt.alloc(), "a\n{{ b\n c }}", "pages/index", &syntax)
-        .err()
-        .ok_or("accepted")?;
-    assert_eq!(rt; error.name(), Some("pages/index"));
-    assert_eq!(rt; error.line(), Some(3));
-    let words = error.to_string(rt.alloc())?;
-    assert!(rt; words.ends_with(" (in pages/index:3)"));
-    let error = compile_expression::<Value>(rt.alloc(), "a\n)")
-        .err()
-        .ok_or("accepted")?;
-    assert_eq!(rt; error.line(), Some(2));
-    let words = error.to_string(rt.alloc())?;
-    assert!(rt; words.ends_with(" (in <expression>:2)"));
-    Ok(())
+/// Whether a refusal is want of memory, which names no place.
+fn is_of_memory(error: Error<'_>) -> bool {
+    error.kind() == ErrorKind::OutOfMemory && error.name().is_none() && error.span().is_none()
 }
 
 /// Takes no memory itself, so that it may run with an allocation that fails.
 #[test]
 fn says_that_memory_is_refused(rt: HostRuntime) {
-    let syntax = SyntaxConfig::default();
-    match compile::<Value>(rt.alloc(), "x{{ f(a, *b)|g }}", "page", &syntax) {
-        Ok(compiled) => assert_eq!(rt; compiled.instructions.len(), 8),
-        Err(error) => {
-            assert!(rt; error.kind() == ErrorKind::OutOfMemory);
-            assert!(rt; error.name().is_none() && error.span().is_none());
-        }
+    match compile::<Value>(
+        rt.alloc(),
+        "x{{ f(a, *b)|g }}",
+        "page",
+        &SyntaxConfig::default(),
+    ) {
+        Ok(compiled) => assert!(rt; compiled.instructions.len() == 8),
+        Err(error) => assert!(rt; is_of_memory(error)),
     }
     match compile_expression::<Value>(rt.alloc(), "f(a, *b)|g") {
-        Ok(code) => assert_eq!(rt; code.len(), 6),
-        Err(error) => {
-            assert!(rt; error.kind() == ErrorKind::OutOfMemory);
-            assert!(rt; error.name().is_none() && error.span().is_none());
-        }
+        Ok(code) => assert!(rt; code.len() == 6),
+        Err(error) => assert!(rt; is_of_memory(error)),
     }
 }

@@ -1,7 +1,8 @@
 //! The words of refusals and of places.
 use crate::error::{Detail, Error, ErrorKind, Expected};
 use crate::tokens::{Span, Token};
-use std::alloc::AllocError;
+use std::alloc::{AllocError, Global};
+use std::process::Abort;
 use std::test::Fail;
 
 const THIRD_LINE: Span = Span {
@@ -13,122 +14,99 @@ const THIRD_LINE: Span = Span {
     end_offset: 31,
 };
 
+/// What can be wrong, each with a kind.
+fn details() -> [(ErrorKind, Detail<'static>); 19] {
+    let syntax = ErrorKind::SyntaxError;
+    [
+        (ErrorKind::InvalidDelimiter, Detail::InvalidDelimiter),
+        (syntax, Detail::UnexpectedCharacter),
+        (syntax, Detail::UnterminatedString),
+        (ErrorKind::BadEscape, Detail::BadEscape),
+        (syntax, Detail::MissingDigits),
+        (syntax, Detail::DigitOutOfRange),
+        (syntax, Detail::TrailingUnderscore),
+        (syntax, Detail::IntegerTooLarge),
+        (syntax, Detail::FloatLiteral),
+        (syntax, Detail::UnexpectedEnd(Expected::BlockEnd)),
+        (syntax, Detail::UnexpectedToken(Expected::Identifier)),
+        (syntax, Detail::UnknownStatement("unless")),
+        (syntax, Detail::ReservedName("loop")),
+        (syntax, Detail::TooDeep),
+        (syntax, Detail::TooManyArguments),
+        (syntax, Detail::PlainAfterKeyword),
+        (ErrorKind::OutOfMemory, Detail::OutOfMemory),
+        (ErrorKind::SourceTooLong, Detail::SourceTooLong),
+        (ErrorKind::TooManyInstructions, Detail::TooManyInstructions),
+    ]
+}
+
+/// Whether a refusal is printed as these words and then its place.
+fn is_printed(
+    alloc: Global,
+    error: Error<'_>,
+    words: &str,
+    place: &str,
+) -> Result<bool, AllocError> {
+    let printed = error.to_string(alloc)?;
+    Ok(printed.as_str().strip_prefix(words) == Some(place))
+}
+
+/// Whether a refusal is printed as these words, and then as much of a place as it names.
+fn is_printed_at_each_place(
+    alloc: Global,
+    kind: ErrorKind,
+    detail: Detail<'_>,
+    words: &str,
+) -> Result<bool, AllocError> {
+    let (page, line) = (Some("page"), Some(THIRD_LINE));
+    Ok(
+        is_printed(
+            alloc,
+            Error::new(kind, detail, page, line),
+            words,
+            " (in page:3)",
+        )? && is_printed(
+            alloc,
+            Error::new(kind, detail, page, None),
+            words,
+            " (in page)",
+        )? && is_printed(alloc, Error::new(kind, detail, None, line), words, "")?
+            && is_printed(alloc, Error::new(kind, detail, None, None), words, "")?,
+    )
+}
+
 #[test]
 fn refusals_are_printed_with_their_place(rt: HostRuntime) -> Result<(), Fail> {
-    let alloc = rt.alloc();
-    let syntax = ErrorKind::SyntaxError;
-    let rows = [
-        (
-            ErrorKind::InvalidDelimiter,
-            Detail::InvalidDelimiter,
-            "invalid delimiter: invalid delimiter",
-        ),
-        (
-            syntax,
-            Detail::UnexpectedCharacter,
-            "syntax error: unexpected character",
-        ),
-        (
-            syntax,
-            Detail::UnterminatedString,
-            "syntax error: unexpected end of string",
-        ),
-        (
-            ErrorKind::BadEscape,
-            Detail::BadEscape,
-            "bad string escape: invalid string escape",
-        ),
-        (
-            syntax,
-            Detail::MissingDigits,
-            "syntax error: a number has no digits",
-        ),
-        (
-            syntax,
-            Detail::DigitOutOfRange,
-            "syntax error: a digit is out of the number's radix",
-        ),
-        (
-            syntax,
-            Detail::TrailingUnderscore,
-            "syntax error: '_' may not occur at end of number",
-        ),
-        (
-            syntax,
-            Detail::IntegerTooLarge,
-            "syntax error: integer too large",
-        ),
-        (
-            syntax,
-            Detail::FloatLiteral,
-            "syntax error: float literals are not supported",
-        ),
-        (
-            syntax,
-            Detail::UnexpectedEnd(Expected::BlockEnd),
-            "syntax error: unexpected end of input, expected end of block",
-        ),
-        (
-            syntax,
-            Detail::UnexpectedToken(Expected::Identifier),
-            "syntax error: unexpected token, expected identifier",
-        ),
-        (
-            syntax,
-            Detail::UnknownStatement("unless"),
-            "syntax error: unknown statement unless",
-        ),
-        (
-            syntax,
-            Detail::ReservedName("loop"),
-            "syntax error: cannot assign to reserved name loop",
-        ),
-        (
-            syntax,
-            Detail::TooDeep,
-            "syntax error: template exceeds maximum recursion limits",
-        ),
-        (
-            syntax,
-            Detail::TooManyArguments,
-            "syntax error: too many arguments in function call",
-        ),
-        (
-            syntax,
-            Detail::PlainAfterKeyword,
-            "syntax error: non-keyword arg after keyword arg",
-        ),
-        (
-            ErrorKind::OutOfMemory,
-            Detail::OutOfMemory,
-            "out of memory: out of memory",
-        ),
-        (
-            ErrorKind::SourceTooLong,
-            Detail::SourceTooLong,
-            "source too long: source too long",
-        ),
-        (
-            ErrorKind::TooManyInstructions,
-            Detail::TooManyInstructions,
-            "too many instructions: too many instructions",
-        ),
-    ];
-    let places = [
-        (Some("page"), Some(THIRD_LINE), " (in page:3)"),
-        (Some("page"), None, " (in page)"),
-        (None, Some(THIRD_LINE), ""),
-        (None, None, ""),
-    ];
-    for (kind, detail, words) in rows {
-        for (name, span, place) in places {
-            let shown = Error::new(kind, detail, name, span).to_string(alloc)?;
-            let wanted = format!(in alloc; "{words}{place}")?;
-            assert_eq!(rt; shown.as_str(), wanted.as_str());
-        }
+    let words = "invalid delimiter: invalid delimiter
+syntax error: unexpected character
+syntax error: unexpected end of string
+bad string escape: invalid string escape
+syntax error: a number has no digits
+syntax error: a digit is out of the number's radix
+syntax error: '_' may not occur at end of number
+syntax error: integer too large
+syntax error: float literals are not supported
+syntax error: unexpected end of input, expected end of block
+syntax error: unexpected token, expected identifier
+syntax error: unknown statement unless
+syntax error: cannot assign to reserved name loop
+syntax error: template exceeds maximum recursion limits
+syntax error: too many arguments in function call
+syntax error: non-keyword arg after keyword arg
+out of memory: out of memory
+source too long: source too long
+too many instructions: too many instructions";
+    let mut lines = words.lines();
+    for (kind, detail) in details() {
+        let words = lines.next().unwrap_or("no words");
+        assert!(rt;
+            is_printed_at_each_place(rt.alloc(), kind, detail, words)?,
+            "{words}"
+        );
     }
-    let shown = Error::from(AllocError).to_string(alloc)?;
-    assert_eq!(rt; shown.as_str(), "out of memory: out of memory");
+    assert!(rt; lines.next().is_none());
+    let error = Error::from(AllocError);
+    assert!(rt; is_printed(rt.alloc(), error, "out of memory: out of memory", "")?);
     Ok(())
 }
 
@@ -142,15 +120,8 @@ fn spans_are_printed_by_line_and_column(rt: HostRuntime) -> Result<(), Fail> {
         end_col: u16::MAX,
         end_offset: u32::MAX,
     };
-    let rows = [
-        (Span::default(), " @ 0:0-0:0"),
-        (THIRD_LINE, " @ 3:4-5:6"),
-        (most, " @ 65535:65535-65535:65535"),
-    ];
-    for (span, words) in rows {
-        let shown = format!(in rt.alloc(); "{span:?}")?;
-        assert_eq!(rt; shown.as_str(), words);
-    }
+    let words = format!(in rt.alloc(); "{:?}{THIRD_LINE:?}{most:?}", Span::default())?;
+    assert!(rt; words.as_str() == " @ 0:0-0:0 @ 3:4-5:6 @ 65535:65535-65535:65535");
     Ok(())
 }
 
@@ -159,10 +130,9 @@ fn tokens_and_details_can_be_compared(rt: HostRuntime) {
     assert!(rt; Token::Ident("a") == Token::Ident("a"));
     assert!(rt; Token::Ident("a") != Token::Str("a"));
     assert!(rt; Token::Int(1) != Token::Int(2));
-    assert!(rt;
-        Detail::UnexpectedEnd(Expected::BlockEnd) == Detail::UnexpectedEnd(Expected::BlockEnd)
+    let (end, token) = (
+        Detail::UnexpectedEnd(Expected::BlockEnd),
+        Detail::UnexpectedToken(Expected::BlockEnd),
     );
-    assert!(rt;
-        Detail::UnexpectedEnd(Expected::BlockEnd) != Detail::UnexpectedToken(Expected::BlockEnd)
-    );
+    assert!(rt; end == end && end != token);
 }

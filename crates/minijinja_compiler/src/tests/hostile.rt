@@ -1,94 +1,65 @@
 //! Texts of about 1 MiB, of the forms that a search that goes back would read in square time: a test has a minute.
-use super::{LINES, Options, PLAIN};
+use super::{Subject, hold, parted, repeated, syntax_of};
 use crate::lexer::Tokenizer;
+use crate::syntax::SyntaxConfig;
 use std::alloc::Global;
-use std::process::Abort;
 use std::test::Fail;
 
-/// A text with so many of one part between a start and an end.
-fn repeated(alloc: Global, start: &str, unit: &str, count: u32, end: &str) -> Result<String, Fail> {
-    let mut text = String::from_str(alloc, start)?;
-    for _ in 0..count {
-        text.push_str(unit)?;
-    }
-    text.push_str(end)?;
-    Ok(text)
-}
-
 /// How many tokens a template has, and where the last one ends. A refusal ends them.
-fn count_tokens(
-    rt: &impl Abort,
-    alloc: Global,
-    options: Options,
-    source: &str,
-) -> Result<(u32, u32), Fail> {
-    assert!(rt; source.len() < 4_294_967_296);
-    let syntax = options.syntax(alloc)?;
-    let mut tokenizer = Tokenizer::new(alloc, source, "page", false, &syntax);
+fn count_tokens(alloc: Global, syntax: &SyntaxConfig, source: &str) -> (u32, u32) {
     let mut end = 0;
-    for count in 0..u32::MAX {
-        match tokenizer.next_token() {
-            Ok(Some((_, span))) => end = span.end_offset,
-            Ok(None) | Err(_) => return Ok((count, end)),
+    if source.len() < 4_294_967_296 {
+        let mut tokens = Tokenizer::new(alloc, source, "page", false, syntax);
+        for count in 0..u32::MAX {
+            match tokens.next_token() {
+                Ok(Some((_, span))) => end = span.end_offset,
+                Ok(None) | Err(_) => return (count, end),
+            }
         }
     }
-    Err(Fail::from("too many tokens"))
+    (u32::MAX, end)
 }
 
-const STRIPPED: Options = Options {
-    lstrip_blocks: true,
-    ..PLAIN
-};
+/// A template, after its options, in pieces: how many tokens it has. The last ends where the text does.
+enum Large {}
 
-/// A text, which has so many of one part, is read as so many tokens, and so many more for each part. The last ends where
-/// the text does.
-fn is_read(
-    rt: &impl Abort,
-    alloc: Global,
-    options: Options,
-    text: (&str, &str, u32, &str),
-    tokens: u64,
-    tokens_of_part: u64,
-) -> Result<(), Fail> {
-    let (start, unit, count, end) = text;
-    let source = repeated(alloc, start, unit, count, end)?;
-    let (found, last) = count_tokens(rt, alloc, options, source.as_str())?;
-    let wanted = u64::from(count)
-        .saturating_mul(tokens_of_part)
-        .saturating_add(tokens);
-    assert_eq!(rt; u64::from(found), wanted, "of {start}{unit}");
-    assert_eq!(rt; u64::from(last), source.len() as u64, "of {start}{unit}");
-    Ok(())
+impl Subject for Large {
+    fn words(alloc: Global, text: &str) -> Result<String, Fail> {
+        let (options, pieces) = parted(text, " | ");
+        let syntax = syntax_of(alloc, options)?;
+        let source = repeated(alloc, pieces)?;
+        let (count, end) = count_tokens(alloc, &syntax, source.as_str());
+        if u64::from(end) == source.len() as u64 {
+            Ok(count.to_string(alloc)?)
+        } else {
+            Ok(String::from_str(alloc, "another end")?)
+        }
+    }
 }
 
 #[test]
 fn large_texts_are_read_in_linear_time(rt: HostRuntime) -> Result<(), Fail> {
-    let rows = [
-        (PLAIN, ("{#", " x", 524_288, "#}{{ x }}"), 3),
-        (PLAIN, ("{{ x }}{#", "{#", 524_288, "#}{{ x }}"), 6),
-        (
-            PLAIN,
-            ("{% raw %}", "{% endrax %}", 87_382, "{% endraw %}{{ x }}"),
-            4,
-        ),
-        (PLAIN, ("", "{ ", 524_288, "{{ x }}"), 4),
-        (PLAIN, ("a", " ", 1_048_576, "{{- x }}"), 4),
-        (PLAIN, ("{{ x -}}", " ", 1_048_576, "{{ x }}"), 6),
-        (STRIPPED, ("a\n", " ", 1_048_576, "{% x %}"), 4),
-        (STRIPPED, ("a", "\n", 1_048_576, "{% x %}"), 4),
-        (PLAIN, ("{{ '", "x", 1_048_576, "' }}"), 3),
-        (PLAIN, ("{{ ", "x", 1_048_576, " }}"), 3),
-    ];
-    for (options, text, tokens) in rows {
-        is_read(&rt, rt.alloc(), options, text, tokens, 0)?;
-    }
-    Ok(())
+    let rows = r#"
+default | {# | 524288 * ␠x | #}{{ x }} => 3
+default | {{ x }}{# | 524288 * {# | #}{{ x }} => 6
+default | {% raw %} | 87382 * {% endrax %} | {% endraw %}{{ x }} => 4
+default | 524288 * {␠ | {{ x }} => 4
+default | a | 1048576 * ␠ | {{- x }} => 4
+default | {{ x -}} | 1048576 * ␠ | {{ x }} => 6
+lstrip_blocks | a␊ | 1048576 * ␠ | {% x %} => 4
+lstrip_blocks | a | 1048576 * ␊ | {% x %} => 4
+default | {{ ' | 1048576 * x | ' }} => 3
+default | {{␠ | 1048576 * x | ␠}} => 3
+"#;
+    hold::<Large>(&rt, rt.alloc(), rows)
 }
 
-/// Half as large, since each place of such a syntax is looked at for each marker.
+/// Half as large, since each place of such a syntax is looked at for each marker. A line has three tokens.
 #[test]
 fn large_texts_of_lines_are_read_in_linear_time(rt: HostRuntime) -> Result<(), Fail> {
-    let alloc = rt.alloc();
-    is_read(&rt, alloc, LINES, ("", "# x\n", 131_072, "# x"), 3, 3)?;
-    is_read(&rt, alloc, LINES, ("", " ", 524_288, "# x"), 3, 0)
+    let rows = r#"
+line_statement #, line_comment ## | 131072 * # x␊ | # x => 393219
+line_statement #, line_comment ## | 524288 * ␠ | # x => 3
+"#;
+    hold::<Large>(&rt, rt.alloc(), rows)
 }

@@ -1,192 +1,234 @@
 //! What the parser accepts, how deep it goes, and what it answers after a tree and after a refusal.
 ghost use Rattle.std.specs.Prelude.{◌<◌, ◌^◌, length};
 
+use super::{Subject, hold, repeated};
 use crate::ast::Stmt;
 use crate::error::{Error, ErrorKind};
 use crate::parser::{Parser, TokenStream, parse, parse_expr};
 use crate::syntax::SyntaxConfig;
-use crate::tokens::{Span, Token};
+use crate::tokens::Span;
 use crate::value::Value;
-use std::alloc::Global;
+use std::alloc::{AllocError, Global};
 use std::process::Abort;
 use std::test::Fail;
 
-fn parsed<'s>(rt: &HostRuntime, source: &'s str) -> Result<Stmt<'s, Value>, Error<'s>> {
-    parse(rt.alloc(), source, "page", &SyntaxConfig::default())
+/// The words of a refusal: its kind.
+fn kind(alloc: Global, error: Error<'_>) -> Result<String, AllocError> {
+    format!(in alloc; "{:?}", error.kind())
 }
 
-fn is_expression(rt: &HostRuntime, source: &str) -> bool {
-    parse_expr::<Value>(rt.alloc(), source).is_ok()
-}
-
-/// The text between so many of the opening and the closing one.
-fn nested(
-    rt: &HostRuntime,
-    open: &str,
-    text: &str,
-    close: &str,
-    count: usize,
-) -> Result<String, Fail> {
-    let mut source = String::new(rt.alloc());
-    for _ in 0..count {
-        source.push_str(open)?;
+/// Appends where what an output shows begins.
+fn push_output(words: &mut String, part: &Stmt<'_, Value>) -> Result<(), AllocError> {
+    match part {
+        Stmt::EmitExpr(output) => {
+            let span = output.node().expr.span();
+            write!(words, ", {}:{}", span.start_line, span.start_col)
+        }
+        _ => Ok(()),
     }
-    source.push_str(text)?;
-    for _ in 0..count {
-        source.push_str(close)?;
-    }
-    Ok(source)
 }
 
+/// How many parts a template has, and where what its outputs show begins.
+fn parts(alloc: Global, tree: &Stmt<'_, Value>) -> Result<String, Fail> {
+    let Stmt::Template(template) = tree else {
+        return Err(Fail::from("no template"));
+    };
+    let children = &template.node().children;
+    let mut words = format!(in alloc; "{} parts", children.len())?;
+    for part in children {
+        push_output(&mut words, part)?;
+    }
+    Ok(words)
+}
+
+/// Templates, which are well formed: their parts.
+enum Templates {}
+
+impl Subject for Templates {
+    fn words(alloc: Global, text: &str) -> Result<String, Fail> {
+        match parse(alloc, text, "page", &SyntaxConfig::default()) {
+            Ok(tree) if tree.is_well_formed() => parts(alloc, &tree),
+            Ok(_) => Ok(String::from_str(alloc, "ill formed")?),
+            Err(error) => Ok(kind(alloc, error)?),
+        }
+    }
+}
+
+/// A name stands at its own tokens.
 #[test]
 fn accepts_each_kind_of_statement(rt: HostRuntime) -> Result<(), Fail> {
-    let source = "a{% set x = a.b %}{{ x }}{{ \"y\" }}{{ 7 }}";
-    let tree = parsed(&rt, source).ok().ok_or("refused")?;
-    let Stmt::Template(template) = &tree else {
-        return Err(Fail::from("a template"));
-    };
-    assert!(rt; template.node().children.len() == 5);
-    assert!(rt; parsed(&rt, "").is_ok());
-    Ok(())
+    let rows = r#"
+␀ => 0 parts
+a{% set x = a.b %}{{ x }}{{ "y" }}{{ 7 }} => 5 parts, 1:21, 1:28, 1:37
+{{ x }}␊{{ x }} => 3 parts, 1:3, 2:3
+a{% set x = 1 %}{{ x }} => 3 parts, 1:19
+"#;
+    hold::<Templates>(&rt, rt.alloc(), rows)
 }
 
-#[test]
-fn names_stand_at_their_own_tokens(rt: HostRuntime) -> Result<(), Fail> {
-    let tree = parsed(&rt, "{{ x }}\n{{ x }}").ok().ok_or("refused")?;
-    let Stmt::Template(template) = &tree else {
-        return Err(Fail::from("a template"));
-    };
-    for (index, line) in [(0, 1), (2, 2)] {
-        let Some(Stmt::EmitExpr(output)) = template.node().children.get(index) else {
-            return Err(Fail::from("an output"));
-        };
-        let span = output.node().expr.span();
-        assert_eq!(rt; (span.start_line, span.start_col), (line, 3));
+fn refused(alloc: Global, text: &str) -> Result<String, Fail> {
+    match parse_expr::<Value>(alloc, text) {
+        Ok(_) => Ok(String::new(alloc)),
+        Err(error) => Ok(kind(alloc, error)?),
     }
-    Ok(())
+}
+
+/// Expressions: why they are refused.
+enum Expressions {}
+
+impl Subject for Expressions {
+    fn words(alloc: Global, text: &str) -> Result<String, Fail> {
+        refused(alloc, text)
+    }
 }
 
 #[test]
-fn accepts_each_form_of_expression(rt: HostRuntime) {
-    for source in [
-        "x",
-        "true",
-        "None",
-        "'a' \"b\"",
-        "12_3",
-        "340282366920938463463374607431768211455",
-        "()",
-        "(x)",
-        "(x,)",
-        "(x, y,)",
-        "[]",
-        "[x, y,]",
-        "{}",
-        "{'a': x, y: z,}",
-        "x.a",
-        "x.1",
-        "x.1.0",
-        "x[y]",
-        "x[:]",
-        "x[1:2]",
-        "x[::3]",
-        "f()",
-        "f(a, *b, c=d, **e,)",
-        "f((a)=1)",
-        "x|f",
-        "x|f(1)|g",
-        "x|a . b",
-        "x is f",
-        "x is not f",
-        "x is f(1)",
-        "x is f y",
-        "x is f - y",
-        "- x ** - y",
-        "a ** b ** c",
-        "a * b / c // d % e",
-        "a ~ b",
-        "a + b - c",
-        "a == b",
-        "a < b <= c != d",
-        "a in b",
-        "a not in b",
-        "not not a",
-        "a and b or c",
-        "a if b",
-        "a if b else c if d",
-        "1 if a is defined else 2",
-    ] {
-        assert!(rt; is_expression(&rt, source));
+fn accepts_each_form_of_expression(rt: HostRuntime) -> Result<(), Fail> {
+    let rows = r#"
+x
+true
+None
+'a' "b"
+12_3
+340282366920938463463374607431768211455
+()
+(x)
+(x,)
+(x, y,)
+[]
+[x, y,]
+{}
+{'a': x, y: z,}
+x.a
+x.1
+x.1.0
+x[y]
+x[:]
+x[1:2]
+x[::3]
+f()
+f(a, *b, c=d, **e,)
+f((a)=1)
+x|f
+x|f(1)|g
+x|a . b
+x is f
+x is not f
+x is f(1)
+x is f y
+x is f - y
+- x ** - y
+a ** b ** c
+a * b / c // d % e
+a ~ b
+a + b - c
+a == b
+a < b <= c != d
+a in b
+a not in b
+not not a
+a and b or c
+a if b
+a if b else c if d
+1 if a is defined else 2
+"#;
+    hold::<Expressions>(&rt, rt.alloc(), rows)
+}
+
+/// Expressions in pieces: why they are refused.
+enum LongExpressions {}
+
+impl Subject for LongExpressions {
+    fn words(alloc: Global, text: &str) -> Result<String, Fail> {
+        refused(alloc, repeated(alloc, text)?.as_str())
     }
 }
 
 #[test]
 fn nests_up_to_150_deep(rt: HostRuntime) -> Result<(), Fail> {
-    assert!(rt; is_expression(&rt, nested(&rt, "(", "x", ")", 74)?.as_str()));
-    assert!(rt; !is_expression(&rt, nested(&rt, "(", "x", ")", 75)?.as_str()));
-    assert!(rt; is_expression(&rt, nested(&rt, "x[", "x", "]", 148)?.as_str()));
-    assert!(rt; !is_expression(&rt, nested(&rt, "x[", "x", "]", 149)?.as_str()));
-    assert!(rt; is_expression(&rt, nested(&rt, "not ", "x", "", 200)?.as_str()));
-    assert!(rt; is_expression(&rt, nested(&rt, "-", "x", "", 200)?.as_str()));
-    Ok(())
+    let rows = r#"
+74 * ( | x | 74 * )
+75 * ( | x | 75 * ) => SyntaxError
+148 * x[ | x | 148 * ]
+149 * x[ | x | 149 * ] => SyntaxError
+200 * not␠ | x
+200 * - | x
+"#;
+    hold::<LongExpressions>(&rt, rt.alloc(), rows)
 }
 
 #[test]
 fn takes_2000_arguments(rt: HostRuntime) -> Result<(), Fail> {
-    let most = nested(&rt, "", "f(x", ", x", 1999)?;
-    assert!(rt; !is_expression(&rt, most.as_str()));
-    let mut accepted = most;
-    accepted.push(')')?;
-    assert!(rt; is_expression(&rt, accepted.as_str()));
-    let mut refused = nested(&rt, "", "f(x", ", x", 2000)?;
-    refused.push(')')?;
-    assert!(rt; !is_expression(&rt, refused.as_str()));
-    Ok(())
+    let rows = r#"
+f(x | 1999 * , x => SyntaxError
+f(x | 1999 * , x | )
+f(x | 2000 * , x | ) => SyntaxError
+"#;
+    hold::<LongExpressions>(&rt, rt.alloc(), rows)
 }
 
-/// Both calls answer the first refusal again.
-fn stands(rt: &impl Abort, alloc: Global, source: &str, kind: ErrorKind) -> Result<(), Fail>
+/// The kind and the place of a refusal.
+#[derive(Clone, Copy, PartialEq, Eq)]
+struct Refusal {
+    kind: ErrorKind,
+    span: Option<Span>,
+}
+
+fn refusal_of(error: Error<'_>) -> Refusal {
+    Refusal {
+        kind: error.kind(),
+        span: error.span(),
+    }
+}
+
+fn of_template(parser: &mut Parser<'_, '_>) -> Option<Refusal> {
+    parser.parse::<Value>().err().map(refusal_of)
+}
+
+fn of_expression(parser: &mut Parser<'_, '_>) -> Option<Refusal> {
+    parser
+        .parse_standalone_expr::<Value>()
+        .err()
+        .map(refusal_of)
+}
+
+/// The refusal of a template that both calls answer again.
+fn standing_refusal(alloc: Global, source: &str) -> Option<Refusal>
     requires { length source.now < 2 ^ 32 }
 {
     let syntax = SyntaxConfig::default();
     let mut parser = Parser::new(alloc, source, "page", false, &syntax);
-    let first = parser.parse::<Value>().err().ok_or("accepted")?;
-    assert!(rt; first.kind() == kind);
-    let again = parser.parse::<Value>().err().ok_or("accepted")?;
-    assert!(rt; again.kind() == kind);
-    assert!(rt; again.span() == first.span());
-    let other = parser
-        .parse_standalone_expr::<Value>()
-        .err()
-        .ok_or("accepted")?;
-    assert!(rt; other.kind() == kind);
-    assert!(rt; other.span() == first.span());
-    Ok(())
+    let first = of_template(&mut parser);
+    if of_template(&mut parser) == first && of_expression(&mut parser) == first {
+        first
+    } else {
+        None
+    }
+}
+
+/// Templates: the kind of the refusal that stands.
+enum Standing {}
+
+impl Subject for Standing {
+    fn words(alloc: Global, text: &str) -> Result<String, Fail> {
+        if text.len() < 4_294_967_296
+            && let Some(refusal) = standing_refusal(alloc, text)
+        {
+            return Ok(format!(in alloc; "{:?}", refusal.kind)?);
+        }
+        Ok(String::new(alloc))
+    }
 }
 
 #[test]
 fn a_refusal_stands(rt: HostRuntime) -> Result<(), Fail> {
-    let alloc = rt.alloc();
-    stands(&rt, alloc, "{% if a %}", ErrorKind::SyntaxError)?;
-    stands(&rt, alloc, "a {% set loop = a %} b", ErrorKind::SyntaxError)?;
-    stands(&rt, alloc, "{% ?", ErrorKind::SyntaxError)?;
-    stands(&rt, alloc, "{% '\\q' %}", ErrorKind::BadEscape)?;
-    Ok(())
-}
-
-#[test]
-fn after_a_tree_stands_the_empty_template(rt: HostRuntime) -> Result<(), Fail> {
-    let syntax = SyntaxConfig::default();
-    let mut parser = Parser::new(rt.alloc(), "page", "name", false, &syntax);
-    assert!(rt; parser.filename() == "name");
-    assert!(rt; children_of(parser.parse::<Value>().ok()) == Some(1));
-    assert!(rt; children_of(parser.parse::<Value>().ok()) == Some(0));
-    let error = parser
-        .parse_standalone_expr::<Value>()
-        .err()
-        .ok_or("accepted")?;
-    assert!(rt; error.kind() == ErrorKind::SyntaxError);
-    Ok(())
+    let rows = r#"
+{% if a %} => SyntaxError
+a {% set loop = a %} b => SyntaxError
+{% ? => SyntaxError
+{% '\q' %} => BadEscape
+"#;
+    hold::<Standing>(&rt, rt.alloc(), rows)
 }
 
 fn children_of(tree: Option<Stmt<'_, Value>>) -> Option<usize> {
@@ -197,19 +239,54 @@ fn children_of(tree: Option<Stmt<'_, Value>>) -> Option<usize> {
 }
 
 #[test]
-fn the_next_token_is_in_view(rt: HostRuntime) -> Result<(), Fail> {
+fn after_a_tree_stands_the_empty_template(rt: HostRuntime) {
     let syntax = SyntaxConfig::default();
-    let mut stream = TokenStream::new(rt.alloc(), "a\n{{", "page", false, &syntax);
-    assert!(rt; stream.last_span() == Span::default());
-    let first = stream.current_span();
-    assert!(rt; (first.start_line, first.end_line) == (1, 2));
-    assert!(rt; matches!(stream.next(), Ok(Some((Token::TemplateData(_), _)))));
-    assert!(rt; stream.last_span() == first);
-    assert!(rt; matches!(stream.current(), Ok(Some((Token::VariableStart, _)))));
-    let second = stream.current_span();
-    assert!(rt; matches!(stream.next(), Ok(Some((Token::VariableStart, _)))));
-    assert!(rt; stream.current_span() == second);
-    assert!(rt; stream.expand_span(first).end_col == second.end_col);
-    assert!(rt; stream.expand_span(first).start_line == 1);
+    let mut parser = Parser::new(rt.alloc(), "page", "name", false, &syntax);
+    assert!(rt; parser.filename() == "name");
+    assert!(rt; children_of(parser.parse::<Value>().ok()) == Some(1));
+    assert!(rt; children_of(parser.parse::<Value>().ok()) == Some(0));
+    let refusal = of_expression(&mut parser).map(|refusal| refusal.kind);
+    assert!(rt; refusal == Some(ErrorKind::SyntaxError));
+}
+
+/// Appends the token in view, if there is one, and its place.
+fn push_view(words: &mut String, stream: &TokenStream<'_, '_>) -> Result<(), Fail> {
+    match stream.current() {
+        Ok(Some((token, _))) => write!(words, "{token}")?,
+        Ok(None) => words.push_str("end")?,
+        Err(_) => words.push_str("refused")?,
+    }
+    write!(words, "{:?}", stream.current_span())?;
     Ok(())
+}
+
+/// Templates of two tokens: each token in view, and where the one before it stands. Last comes the span from the start of
+/// the first token to the end of the last.
+enum Views {}
+
+impl Subject for Views {
+    fn words(alloc: Global, text: &str) -> Result<String, Fail> {
+        let mut words = String::new(alloc);
+        if text.len() < 4_294_967_296 {
+            let syntax = SyntaxConfig::default();
+            let mut stream = TokenStream::new(alloc, text, "page", false, &syntax);
+            let first = stream.current_span();
+            for _ in 0..3 {
+                push_view(&mut words, &stream)?;
+                write!(words, ", after{:?}, ", stream.last_span())?;
+                let _ = stream.next();
+            }
+            write!(words, "all{:?}", stream.expand_span(first))?;
+        }
+        Ok(words)
+    }
+}
+
+/// At the end stands the last token.
+#[test]
+fn the_next_token_is_in_view(rt: HostRuntime) -> Result<(), Fail> {
+    let rows = "a␊{{ => template-data @ 1:0-2:0, after @ 0:0-0:0, \
+        start of variable block @ 2:0-2:2, after @ 1:0-2:0, \
+        end @ 2:0-2:2, after @ 2:0-2:2, all @ 1:0-2:2";
+    hold::<Views>(&rt, rt.alloc(), rows)
 }

@@ -1,262 +1,273 @@
 //! How syntaxes are built, and which start marker a search finds.
-ghost use Rattle.std.specs.Prelude.{◌≤◌, length};
-
-use super::{LINES, Options, PLAIN};
-use crate::error::ErrorKind;
+use super::{Subject, hold, parted, syntax_of};
+use crate::error::Error;
 use crate::syntax::{StartMarker, StartMarkerMatcher, SyntaxConfig};
-use std::alloc::Global;
+use std::alloc::{AllocError, Global};
 use std::process::Abort;
 use std::test::Fail;
 
-/// Options that go together.
-const BUILT: [Options; 5] = [
-    PLAIN,
-    LINES,
-    Options {
-        block: ("\\BLOCK{", "}"),
-        variable: ("\\VAR{", "}"),
-        comment: ("\\#{", "}"),
-        trim_blocks: true,
-        keep_trailing_newline: true,
-        ..PLAIN
-    },
-    Options {
-        variable: ("«", "»"),
-        line_statement: "%",
-        lstrip_blocks: true,
-        ..PLAIN
-    },
-    Options {
-        block: ("{{%", "%}}"),
-        line_comment: "//",
-        trim_blocks: true,
-        lstrip_blocks: true,
-        ..PLAIN
-    },
-];
-
-/// A start and an end are those of the row.
-fn is_pair(rt: &impl Abort, found: (&str, &str), wanted: (&str, &str)) {
-    let (start, end) = found;
-    let (wanted_start, wanted_end) = wanted;
-    assert_eq!(rt; start, wanted_start);
-    assert_eq!(rt; end, wanted_end);
+/// The delimiters that a syntax shows.
+fn delimiters_of(alloc: Global, syntax: &SyntaxConfig) -> Result<String, AllocError> {
+    let (block, block_end) = syntax.block_delimiters();
+    let (variable, variable_end) = syntax.variable_delimiters();
+    let (comment, comment_end) = syntax.comment_delimiters();
+    format!(in alloc;
+        "block {block} {block_end}, variable {variable} {variable_end}, comment {comment} {comment_end}"
+    )
 }
 
-/// The syntax has these delimiters, prefixes and flags.
-fn is_of(rt: &impl Abort, syntax: &SyntaxConfig, options: Options) {
-    is_pair(rt, syntax.block_delimiters(), options.block);
-    is_pair(rt, syntax.variable_delimiters(), options.variable);
-    is_pair(rt, syntax.comment_delimiters(), options.comment);
-    let prefix = syntax.line_statement_prefix();
-    assert_eq!(rt; prefix.is_some(), !options.line_statement.is_empty());
-    assert_eq!(rt; prefix.unwrap_or(""), options.line_statement);
-    let prefix = syntax.line_comment_prefix();
-    assert_eq!(rt; prefix.is_some(), !options.line_comment.is_empty());
-    assert_eq!(rt; prefix.unwrap_or(""), options.line_comment);
-    assert_eq!(rt; syntax.trim_blocks(), options.trim_blocks);
-    assert_eq!(rt; syntax.lstrip_blocks(), options.lstrip_blocks);
-    assert_eq!(rt;
+fn push_prefix(words: &mut String, name: &str, prefix: Option<&str>) -> Result<(), AllocError> {
+    match prefix {
+        Some(prefix) => write!(words, ", {name} {prefix}"),
+        None => Ok(()),
+    }
+}
+
+fn push_flag(words: &mut String, name: &str, is_set: bool) -> Result<(), AllocError> {
+    if is_set {
+        write!(words, ", {name}")
+    } else {
+        Ok(())
+    }
+}
+
+/// The options that a syntax shows.
+fn options_of(alloc: Global, syntax: &SyntaxConfig) -> Result<String, AllocError> {
+    let mut words = delimiters_of(alloc, syntax)?;
+    push_prefix(&mut words, "line_statement", syntax.line_statement_prefix())?;
+    push_prefix(&mut words, "line_comment", syntax.line_comment_prefix())?;
+    push_flag(&mut words, "trim_blocks", syntax.trim_blocks())?;
+    push_flag(&mut words, "lstrip_blocks", syntax.lstrip_blocks())?;
+    push_flag(
+        &mut words,
+        "keep_trailing_newline",
         syntax.keep_trailing_newline(),
-        options.keep_trailing_newline
-    );
+    )?;
+    Ok(words)
 }
 
-fn copied(syntax: &SyntaxConfig) -> Result<SyntaxConfig, Fail> {
-    Ok(syntax.try_clone()?)
+fn shows(alloc: Global, syntax: &SyntaxConfig, options: &str) -> Result<bool, AllocError> {
+    let shown = options_of(alloc, syntax)?;
+    Ok(shown.as_str() == options)
 }
 
-fn rebuilt(syntax: &SyntaxConfig, alloc: Global) -> Result<SyntaxConfig, Fail> {
-    Ok(syntax.to_builder(alloc)?.build(alloc)?)
+/// A syntax that is built from one that is there.
+fn rebuilt(alloc: Global, syntax: &SyntaxConfig) -> Result<SyntaxConfig, Error<'static>> {
+    syntax.to_builder(alloc)?.build(alloc)
+}
+
+/// Whether a copy of a syntax, and one that is built from it, shows these options.
+fn has_copies(alloc: Global, syntax: &SyntaxConfig, options: &str) -> Result<bool, Fail> {
+    let (copy, rebuilt) = (syntax.try_clone()?, rebuilt(alloc, syntax)?);
+    Ok(shows(alloc, &copy, options)? && shows(alloc, &rebuilt, options)?)
+}
+
+/// The kind of a refusal, which names no place.
+fn refusal(alloc: Global, error: Error<'_>) -> Result<String, AllocError> {
+    if error.span().is_some() || error.name().is_some() {
+        return String::from_str(alloc, "it names a place");
+    }
+    format!(in alloc; "{:?}", error.kind())
+}
+
+/// Options: those that their syntax shows, or why there is no such syntax.
+enum Built {}
+
+impl Subject for Built {
+    fn words(alloc: Global, text: &str) -> Result<String, Fail> {
+        match syntax_of(alloc, text) {
+            Ok(syntax) => {
+                let options = options_of(alloc, &syntax)?;
+                if !has_copies(alloc, &syntax, options.as_str())? {
+                    return Ok(String::from_str(alloc, "a copy differs")?);
+                }
+                Ok(options)
+            }
+            Err(error) => Ok(refusal(alloc, error)?),
+        }
+    }
 }
 
 #[test]
 fn a_syntax_is_what_its_builder_was_given(rt: HostRuntime) -> Result<(), Fail> {
-    is_of(&rt, &SyntaxConfig::default(), PLAIN);
-    for options in BUILT {
-        let syntax = options.syntax(rt.alloc())?;
-        is_of(&rt, &syntax, options);
-        is_of(&rt, &copied(&syntax)?, options);
-        is_of(&rt, &rebuilt(&syntax, rt.alloc())?, options);
-    }
-    Ok(())
+    let options = options_of(rt.alloc(), &SyntaxConfig::default())?;
+    assert!(rt; options.as_str() == "block {% %}, variable {{ }}, comment {# #}");
+    let rows = r#"
+default => block {% %}, variable {{ }}, comment {# #}
+line_statement #, line_comment ## => block {% %}, variable {{ }}, comment {# #}, line_statement #, line_comment ##
+block \BLOCK{ }, variable \VAR{ }, comment \#{ }, trim_blocks, keep_trailing_newline => block \BLOCK{ }, variable \VAR{ }, comment \#{ }, trim_blocks, keep_trailing_newline
+variable « », line_statement %, lstrip_blocks => block {% %}, variable « », comment {# #}, line_statement %, lstrip_blocks
+block {{% %}}, line_comment //, trim_blocks, lstrip_blocks => block {{% %}}, variable {{ }}, comment {# #}, line_comment //, trim_blocks, lstrip_blocks
+"#;
+    hold::<Built>(&rt, rt.alloc(), rows)
 }
 
-/// A start and an end.
-type Pair = (&'static str, &'static str);
-
-/// Delimiters of blocks, variables and comments, and prefixes of lines of statements and of comments, that do not go together.
-const CLASHES: [(Pair, Pair, Pair, &str, &str); 16] = [
-    (("", "%}"), ("{{", "}}"), ("{#", "#}"), "", ""),
-    (("{%", ""), ("{{", "}}"), ("{#", "#}"), "", ""),
-    (("{%", "%}"), ("", "}}"), ("{#", "#}"), "", ""),
-    (("{%", "%}"), ("{{", ""), ("{#", "#}"), "", ""),
-    (("{%", "%}"), ("{{", "}}"), ("", "#}"), "", ""),
-    (("{%", "%}"), ("{{", "}}"), ("{#", ""), "", ""),
-    (("x", "}"), ("x", "}"), ("c", "}"), "d", "e"),
-    (("b", "}"), ("x", "}"), ("x", "}"), "d", "e"),
-    (("b", "}"), ("x", "}"), ("c", "}"), "x", "e"),
-    (("b", "}"), ("x", "}"), ("c", "}"), "d", "x"),
-    (("x", "}"), ("a", "}"), ("x", "}"), "d", "e"),
-    (("x", "}"), ("a", "}"), ("c", "}"), "x", "e"),
-    (("x", "}"), ("a", "}"), ("c", "}"), "d", "x"),
-    (("b", "}"), ("a", "}"), ("x", "}"), "x", "e"),
-    (("b", "}"), ("a", "}"), ("x", "}"), "d", "x"),
-    (("b", "}"), ("a", "}"), ("c", "}"), "x", "x"),
-];
-
+/// Options that do not go together.
 #[test]
 fn empty_delimiters_and_equal_starts_are_refused(rt: HostRuntime) -> Result<(), Fail> {
-    for (block, variable, comment, line_statement, line_comment) in CLASHES {
-        let options = Options {
-            block,
-            variable,
-            comment,
-            line_statement,
-            line_comment,
-            ..PLAIN
-        };
-        assert!(rt; options.refusal(rt.alloc())? == ErrorKind::InvalidDelimiter);
-    }
-    Ok(())
+    let rows = r#"
+block ␀ %}, variable {{ }}, comment {# #} => InvalidDelimiter
+block {% ␀, variable {{ }}, comment {# #} => InvalidDelimiter
+block {% %}, variable ␀ }}, comment {# #} => InvalidDelimiter
+block {% %}, variable {{ ␀, comment {# #} => InvalidDelimiter
+block {% %}, variable {{ }}, comment ␀ #} => InvalidDelimiter
+block {% %}, variable {{ }}, comment {# ␀ => InvalidDelimiter
+block x }, variable x }, comment c }, line_statement d, line_comment e => InvalidDelimiter
+block b }, variable x }, comment x }, line_statement d, line_comment e => InvalidDelimiter
+block b }, variable x }, comment c }, line_statement x, line_comment e => InvalidDelimiter
+block b }, variable x }, comment c }, line_statement d, line_comment x => InvalidDelimiter
+block x }, variable a }, comment x }, line_statement d, line_comment e => InvalidDelimiter
+block x }, variable a }, comment c }, line_statement x, line_comment e => InvalidDelimiter
+block x }, variable a }, comment c }, line_statement d, line_comment x => InvalidDelimiter
+block b }, variable a }, comment x }, line_statement x, line_comment e => InvalidDelimiter
+block b }, variable a }, comment x }, line_statement d, line_comment x => InvalidDelimiter
+block b }, variable a }, comment c }, line_statement x, line_comment x => InvalidDelimiter
+"#;
+    hold::<Built>(&rt, rt.alloc(), rows)
 }
 
-/// A search of the text from there on finds that marker, and so does that of a matcher.
-fn finds(
-    rt: &impl Abort,
-    alloc: Global,
-    syntax: &SyntaxConfig,
-    source: &str,
-    offset: usize,
-    wanted: Option<(usize, StartMarker, usize)>,
-) -> Result<(), Fail> {
-    assert!(rt; offset <= source.len(), "in {source}");
-    assert_eq!(rt; syntax.find_marker(source, offset), wanted, "in {source}");
-    let matcher = StartMarkerMatcher::new(alloc, syntax)?;
-    assert_eq!(rt; matcher.find(source, offset), wanted, "in {source}");
-    Ok(())
+/// What is found: how many bytes on, which marker, and how many bytes it has.
+type Found = Option<(usize, StartMarker, usize)>;
+
+fn is_same(found: Found, other: Found) -> bool {
+    found == other
 }
 
-/// Starts of words.
-const WORDED: Options = Options {
-    block: ("\\BLOCK{", "}"),
-    variable: ("\\VAR{", "}"),
-    comment: ("\\#{", "}"),
-    ..PLAIN
-};
-
-/// What is found in a text from a place on: where, which and how long.
-const MARKED: [(Options, &str, usize, Option<(usize, StartMarker, usize)>); 10] = [
-    (PLAIN, "a {{ b", 0, Some((2, StartMarker::Variable, 2))),
-    (PLAIN, "{{ {% {#", 1, Some((2, StartMarker::Block, 2))),
-    (PLAIN, "{ { % }}", 0, None),
-    (WORDED, "a\\BLOCK{x}", 0, Some((1, StartMarker::Block, 7))),
-    (
-        LINES,
-        "a # b\n \t# for",
-        0,
-        Some((8, StartMarker::LineStatement, 1)),
-    ),
-    (LINES, "x ## y", 0, Some((2, StartMarker::LineComment, 2))),
-    (LINES, "## y", 1, None),
-    (
-        LINES,
-        "a\r # b",
-        3,
-        Some((0, StartMarker::LineStatement, 1)),
-    ),
-    (LINES, "# {# b", 0, Some((0, StartMarker::LineStatement, 1))),
-    (LINES, "a # {# b", 0, Some((4, StartMarker::Comment, 2))),
-];
-
-#[test]
-fn the_leftmost_and_then_the_longest_marker_is_found(rt: HostRuntime) -> Result<(), Fail> {
-    for (options, source, offset, wanted) in MARKED {
-        let syntax = options.syntax(rt.alloc())?;
-        finds(&rt, rt.alloc(), &syntax, source, offset, wanted)?;
-    }
-    Ok(())
-}
-
-/// Sources that the tests of this program read, and others that begin as tags do.
-const WORKED: [&str; 34] = [
-    "",
-    "{",
-    "}",
-    "a {{ b",
-    "{{ {% {#",
-    "{ { % }}",
-    "{{{",
-    "{%{#{{",
-    "{#{#{#",
-    "{{%",
-    "{{{{{{{{%{",
-    "x{",
-    "{{",
-    "{%",
-    "{#",
-    "Hello {{ name }}!",
-    "{% set x = a.b %}{{ x }}{{ \"y\" }}{{ 7 }}",
-    "a {#-#} b",
-    "{% raw %}{{ a }}{% endraw %}",
-    "{% raw -%}  a {%- endraw %}b",
-    "x{# a",
-    "{{ name -}}  x",
-    "{% set a = 1 %}\r\nx",
-    "a\n  {% x %} {{ y }}\n\t{# c #}b {% z %}",
-    "## This block is\n## completely removed\n<ul>\n  # for item in [1, 2]\n    <li>{{ item }}\n</ul>",
-    "# set a = 1\r\nx",
-    "{{ {'}}': [1]} }}",
-    "«é» {{ \"é\" }} € {% é %}",
-    "é{é%é#é{{",
-    "\u{10ffff}{\u{10ffff}{{\u{10ffff}",
-    "{{ 18446744073709551616 'a\\tb' 18446744073709551615 }}",
-    "<html>{\"a\": {\"b\": [1, 2]}}</html>",
-    "{\n{\r\n{ %} #} }}",
-    "a\n{{ b\n c }}",
-];
-
-/// Both syntaxes and a matcher of each find the same marker there.
+/// Whether both syntaxes and a matcher of the first find the same marker there, if that is a place of the text.
 fn agree(
-    rt: &impl Abort,
     syntax: &SyntaxConfig,
     matcher: &StartMarkerMatcher,
     other: &SyntaxConfig,
     source: &str,
     offset: usize,
-)
-    requires { offset ≤ length source.now }
-{
+) -> bool {
+    if offset > source.len() {
+        return false;
+    }
     let found = syntax.find_marker(source, offset);
-    assert_eq!(rt;
-        matcher.find(source, offset),
-        found,
-        "at {offset} of {source}"
-    );
-    assert_eq!(rt;
-        other.find_marker(source, offset),
-        found,
-        "at {offset} of {source}"
-    );
+    is_same(matcher.find(source, offset), found)
+        && is_same(other.find_marker(source, offset), found)
 }
 
-/// A prefix that stands in none of the sources changes nothing but the way in which they are searched.
+/// What is found in a text from a place on, in words.
+fn marker_at(
+    alloc: Global,
+    syntax: &SyntaxConfig,
+    source: &str,
+    offset: usize,
+) -> Result<String, AllocError> {
+    if offset <= source.len()
+        && let Some((at, marker, len)) = syntax.find_marker(source, offset)
+    {
+        return format!(in alloc; "{marker:?} {at} {len}");
+    }
+    String::from_str(alloc, "none")
+}
+
+/// A text after its options and the place from which it is searched: which marker is found, how many bytes on, and how
+/// many it has.
+enum Markers {}
+
+impl Subject for Markers {
+    fn words(alloc: Global, text: &str) -> Result<String, Fail> {
+        let (options, rest) = parted(text, " | ");
+        let (offset, source) = parted(rest, " | ");
+        let syntax = syntax_of(alloc, options)?;
+        let matcher = StartMarkerMatcher::new(alloc, &syntax)?;
+        let offset = offset.parse::<usize>()?;
+        if !agree(&syntax, &matcher, &syntax, source, offset) {
+            return Ok(String::from_str(alloc, "a matcher finds another")?);
+        }
+        Ok(marker_at(alloc, &syntax, source, offset)?)
+    }
+}
+
+#[test]
+fn the_leftmost_and_then_the_longest_marker_is_found(rt: HostRuntime) -> Result<(), Fail> {
+    let rows = r#"
+default | 0 | a {{ b => Variable 2 2
+default | 1 | {{ {% {# => Block 2 2
+default | 0 | { { % }} => none
+block \BLOCK{ }, variable \VAR{ }, comment \#{ } | 0 | a\BLOCK{x} => Block 1 7
+line_statement #, line_comment ## | 0 | a # b␊ ␉# for => LineStatement 8 1
+line_statement #, line_comment ## | 0 | x ## y => LineComment 2 2
+line_statement #, line_comment ## | 1 | ## y => none
+line_statement #, line_comment ## | 3 | a␍ # b => LineStatement 0 1
+line_statement #, line_comment ## | 0 | # {# b => LineStatement 0 1
+line_statement #, line_comment ## | 0 | a # {# b => Comment 4 2
+"#;
+    hold::<Markers>(&rt, rt.alloc(), rows)
+}
+
+/// The first place of a text at which two searches do not agree.
+fn differs_at(
+    syntax: &SyntaxConfig,
+    matcher: &StartMarkerMatcher,
+    other: &SyntaxConfig,
+    source: &str,
+) -> Option<usize> {
+    for offset in 0..=source.len() {
+        if source.is_char_boundary(offset) && !agree(syntax, matcher, other, source, offset) {
+            return Some(offset);
+        }
+    }
+    None
+}
+
+/// A text: where two searches of it do not agree. A prefix that does not stand in it changes nothing but the way in which
+/// it is searched.
+enum Searches {}
+
+impl Subject for Searches {
+    fn words(alloc: Global, text: &str) -> Result<String, Fail> {
+        let default = SyntaxConfig::default();
+        let matcher = StartMarkerMatcher::new(alloc, &default)?;
+        let general = syntax_of(alloc, "line_comment \u{1}\u{2}")?;
+        match differs_at(&default, &matcher, &general, text) {
+            Some(offset) => Ok(offset.to_string(alloc)?),
+            None => Ok(String::new(alloc)),
+        }
+    }
+}
+
+/// Texts that the tests of this program read, and others that begin as tags do.
 #[test]
 fn searches_agree_at_each_place(rt: HostRuntime) -> Result<(), Fail> {
-    let default = SyntaxConfig::default();
-    let matcher = StartMarkerMatcher::new(rt.alloc(), &default)?;
-    let general = Options {
-        line_comment: "\u{1}\u{2}",
-        ..PLAIN
-    };
-    let general = general.syntax(rt.alloc())?;
-    for source in WORKED {
-        for offset in 0..source.len() {
-            if source.is_char_boundary(offset) {
-                agree(&rt, &default, &matcher, &general, source, offset);
-            }
-        }
-        agree(&rt, &default, &matcher, &general, source, source.len());
-    }
-    Ok(())
+    let rows = r#"
+␀
+{
+}
+a {{ b
+{{ {% {#
+{ { % }}
+{{{
+{%{#{{
+{#{#{#
+{{%
+{{{{{{{{%{
+x{
+{{
+{%
+{#
+Hello {{ name }}!
+{% set x = a.b %}{{ x }}{{ "y" }}{{ 7 }}
+a {#-#} b
+{% raw %}{{ a }}{% endraw %}
+{% raw -%}  a {%- endraw %}b
+x{# a
+{{ name -}}  x
+{% set a = 1 %}␍␊x
+a␊  {% x %} {{ y }}␊␉{# c #}b {% z %}
+## This block is␊## completely removed␊<ul>␊  # for item in [1, 2]␊    <li>{{ item }}␊</ul>
+# set a = 1␍␊x
+{{ {'}}': [1]} }}
+«é» {{ "é" }} € {% é %}
+é{é%é#é{{
+{{ 18446744073709551616 'a\tb' 18446744073709551615 }}
+<html>{"a": {"b": [1, 2]}}</html>
+{␊{␍␊{ %} #} }}
+a␊{{ b␊ c }}
+"#;
+    hold::<Searches>(&rt, rt.alloc(), rows)?;
+    hold::<Searches>(&rt, rt.alloc(), "\u{10ffff}{\u{10ffff}{{\u{10ffff}")
 }

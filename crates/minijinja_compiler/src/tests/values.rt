@@ -1,324 +1,312 @@
 //! What values are printed as, and what operators make of them.
-use crate::ast::BinOpKind;
+use super::{Subject, hold, parted};
+use crate::error::Error;
 use crate::parser::parse_expr;
 use crate::value::{OpError, TemplateValue, Value, ValueFault, ValueMap};
-use std::alloc::Global;
+use std::alloc::{AllocError, Global};
 use std::process::Abort;
 use std::test::Fail;
 
-/// The value that a constant expression has. The two that no expression has go by the words that they are printed as.
+/// The value that an expression has, if one is known. The two that no expression has go by the words that they are printed
+/// as.
+fn known(alloc: Global, text: &str) -> Result<Option<Value>, Error<'_>> {
+    match text {
+        "undefined" => Ok(Some(Value::Undefined)),
+        "silent" => Ok(Some(Value::silent_undefined())),
+        _ => Ok(parse_expr::<Value>(alloc, text)?.as_const(alloc)?),
+    }
+}
+
 fn value_of(alloc: Global, text: &str) -> Result<Value, Fail> {
-    if text == "undefined" {
-        return Ok(Value::Undefined);
-    }
-    if text == "silent" {
-        return Ok(Value::silent_undefined());
-    }
-    let value = parse_expr::<Value>(alloc, text)?.as_const(alloc)?;
-    Ok(value.ok_or("no value")?)
+    Ok(known(alloc, text)?.ok_or("no value")?)
 }
 
-/// Each expression has a value that is printed as the words beside it.
-fn fold(rt: &impl Abort, alloc: Global, rows: &[(&str, &str)]) -> Result<(), Fail> {
-    for (text, words) in rows {
-        let shown = value_of(alloc, text)?.to_string(alloc)?;
-        assert_eq!(rt; shown.as_str(), *words, "{text}");
+/// What a value is printed as, and `unknown` where none is known.
+pub fn printed(alloc: Global, value: Option<Value>) -> Result<String, AllocError> {
+    match value {
+        Some(value) => value.to_string(alloc),
+        None => String::from_str(alloc, "unknown"),
     }
-    Ok(())
 }
 
+/// Expressions: their values.
+pub enum Constants {}
+
+impl Subject for Constants {
+    fn words(alloc: Global, text: &str) -> Result<String, Fail> {
+        Ok(printed(alloc, known(alloc, text)?)?)
+    }
+}
+
+/// An equal key of a map keeps its place and takes the new value.
 #[test]
 fn values_are_printed(rt: HostRuntime) -> Result<(), Fail> {
-    let rows = [
-        ("undefined", "undefined"),
-        ("silent", "silent"),
-        ("none", "none"),
-        ("true", "true"),
-        ("false", "false"),
-        ("0", "0"),
-        (
-            "340282366920938463463374607431768211455",
-            "340282366920938463463374607431768211455",
-        ),
-        ("- (2 ** 127)", "-170141183460469231731687303715884105728"),
-        ("'a\"b\\\\c\\n'", "\"a\\\"b\\\\c\\n\""),
-        // Texts of 24 bytes and of 25.
-        ("'abcdefghijklmnopqrstuvwx'", "\"abcdefghijklmnopqrstuvwx\""),
-        (
-            "'abcdefghijklmnopqrstuvwxy'",
-            "\"abcdefghijklmnopqrstuvwxy\"",
-        ),
-        ("'abcdefghijklmnopqrstuvé'", "\"abcdefghijklmnopqrstuvé\""),
-        ("'abcdefghijklmnopqrstuvwé'", "\"abcdefghijklmnopqrstuvwé\""),
-        ("[1, 'b']", "[1, \"b\"]"),
-        ("(1,)", "(1,)"),
-        ("()", "()"),
-        ("{'a': 1, 'b': 2}", "{\"a\": 1, \"b\": 2}"),
-        ("{}", "{}"),
-        // An equal key keeps its place and takes the new value.
-        ("{'a': 1, 'b': 2, 'a': 3}", "{\"a\": 3, \"b\": 2}"),
-    ];
-    fold(&rt, rt.alloc(), &rows)
+    let rows = r#"
+undefined => undefined
+silent => silent
+none => none
+true => true
+false => false
+0 => 0
+340282366920938463463374607431768211455 => 340282366920938463463374607431768211455
+- (2 ** 127) => -170141183460469231731687303715884105728
+'a"b\\c\n' => "a\"b\\c\n"
+'abcdefghijklmnopqrstuvwx' => "abcdefghijklmnopqrstuvwx"
+'abcdefghijklmnopqrstuvwxy' => "abcdefghijklmnopqrstuvwxy"
+'abcdefghijklmnopqrstuvé' => "abcdefghijklmnopqrstuvé"
+'abcdefghijklmnopqrstuvwé' => "abcdefghijklmnopqrstuvwé"
+[1, 'b'] => [1, "b"]
+(1,) => (1,)
+() => ()
+{'a': 1, 'b': 2} => {"a": 1, "b": 2}
+{} => {}
+{'a': 1, 'b': 2, 'a': 3} => {"a": 3, "b": 2}
+"#;
+    hold::<Constants>(&rt, rt.alloc(), rows)
+}
+
+/// Whether a value counts as true, and which count it is.
+enum Counted {}
+
+impl Subject for Counted {
+    fn words(alloc: Global, text: &str) -> Result<String, Fail> {
+        let value = value_of(alloc, text)?;
+        Ok(format!(in alloc; "{} {:?}", value.is_true(), value.as_count())?)
+    }
 }
 
 /// False is what is undefined, empty or zero, and a count is an integer from 0 to 2^64 - 1.
 #[test]
 fn values_are_tested_and_counted(rt: HostRuntime) -> Result<(), Fail> {
-    let rows = [
-        ("undefined", false, None),
-        ("silent", false, None),
-        ("none", false, None),
-        ("false", false, None),
-        ("true", true, None),
-        ("0", false, Some(0)),
-        ("7", true, Some(7)),
-        ("18446744073709551615", true, Some(usize::MAX)),
-        ("18446744073709551616", true, None),
-        ("- 1", true, None),
-        ("''", false, None),
-        ("'a'", true, None),
-        ("'abcdefghijklmnopqrstuvwxy'", true, None),
-        ("(0,)", true, None),
-        ("[]", false, None),
-        ("{}", false, None),
-        ("{'a': 1}", true, None),
-    ];
-    for (text, holds, count) in rows {
-        let value = value_of(rt.alloc(), text)?;
-        assert_eq!(rt; value.is_true(), holds, "{text}");
-        assert_eq!(rt; value.as_count(), count, "{text}");
-    }
-    Ok(())
+    let rows = r#"
+undefined => false None
+silent => false None
+none => false None
+false => false None
+true => true None
+0 => false Some(0)
+7 => true Some(7)
+18446744073709551615 => true Some(18446744073709551615)
+18446744073709551616 => true None
+- 1 => true None
+'' => false None
+'a' => true None
+'abcdefghijklmnopqrstuvwxy' => true None
+(0,) => true None
+[] => false None
+{} => false None
+{'a': 1} => true None
+"#;
+    hold::<Counted>(&rt, rt.alloc(), rows)
 }
 
 #[test]
 fn integers_are_computed_with(rt: HostRuntime) -> Result<(), Fail> {
-    let rows = [
-        ("2 + - 3", "-1"),
-        ("2 - - 3", "5"),
-        (
-            "340282366920938463463374607431768211455 - 340282366920938463463374607431768211455",
-            "0",
-        ),
-        ("7 * - 2", "-14"),
-        ("7 // 2", "3"),
-        ("- 7 // 2", "-4"),
-        ("7 // - 2", "-3"),
-        ("- 7 // - 2", "4"),
-        ("7 % - 2", "1"),
-        ("- 7 % 2", "1"),
-        (
-            "- (2 ** 127) // - 1",
-            "170141183460469231731687303715884105728",
-        ),
-        (
-            "- 1 % 340282366920938463463374607431768211455",
-            "340282366920938463463374607431768211454",
-        ),
-        ("0 ** 0", "1"),
-        ("0 ** 340282366920938463463374607431768211455", "0"),
-        ("1 ** 340282366920938463463374607431768211455", "1"),
-        ("(- 1) ** 340282366920938463463374607431768211455", "-1"),
-        ("(- 2) ** 127", "-170141183460469231731687303715884105728"),
-        ("3 ** 80", "147808829414345923316083210206383297601"),
-    ];
-    fold(&rt, rt.alloc(), &rows)
+    let rows = r#"
+2 + - 3 => -1
+2 - - 3 => 5
+340282366920938463463374607431768211455 - 340282366920938463463374607431768211455 => 0
+7 * - 2 => -14
+7 // 2 => 3
+- 7 // 2 => -4
+7 // - 2 => -3
+- 7 // - 2 => 4
+7 % - 2 => 1
+- 7 % 2 => 1
+- (2 ** 127) // - 1 => 170141183460469231731687303715884105728
+- 1 % 340282366920938463463374607431768211455 => 340282366920938463463374607431768211454
+0 ** 0 => 1
+0 ** 340282366920938463463374607431768211455 => 0
+1 ** 340282366920938463463374607431768211455 => 1
+(- 1) ** 340282366920938463463374607431768211455 => -1
+(- 2) ** 127 => -170141183460469231731687303715884105728
+3 ** 80 => 147808829414345923316083210206383297601
+"#;
+    hold::<Constants>(&rt, rt.alloc(), rows)
 }
 
+/// What has no order is neither less nor more, nor at most nor at least.
 #[test]
 fn values_are_joined_compared_and_searched(rt: HostRuntime) -> Result<(), Fail> {
-    let rows = [
-        ("'a' ~ 'b'", "\"ab\""),
-        ("'a' ~ 7", "\"a7\""),
-        ("none ~ ('a',)", "\"none(\\\"a\\\",)\""),
-        // A text of 24 bytes, and one of 25.
-        (
-            "'abcdefghijkl' ~ 'mnopqrstuvwx' == 'abcdefghijklmnopqrstuvwx'",
-            "true",
-        ),
-        (
-            "'abcdefghijklm' ~ 'nopqrstuvwxy' == 'abcdefghijklmnopqrstuvwxy'",
-            "true",
-        ),
-        (
-            "'abcdefghijklmnopqrstuvwx' == 'abcdefghijklmnopqrstuvwxy'",
-            "false",
-        ),
-        (
-            "'abcdefghijklmnopqrstuvwx' < 'abcdefghijklmnopqrstuvwxy'",
-            "true",
-        ),
-        (
-            "'abcdefghijklmnopqrstuvwx' in 'abcdefghijklmnopqrstuvwxy'",
-            "true",
-        ),
-        ("1 == true", "false"),
-        ("(1,) == (1,)", "true"),
-        ("[1] == (1,)", "false"),
-        ("{'a': 1, 'b': 2} == {'a': 1, 'b': 2}", "true"),
-        (
-            "{'a': 1, 'b': 2, 'a': 3} == {'b': 1, 'b': 2, 'a': 3}",
-            "true",
-        ),
-        ("{'a': 1, 'b': 2} == {'b': 1, 'a': 2}", "false"),
-        (
-            "{'a': 1, 'b': 2, 'a': 3} == {'c': 1, 'b': 2, 'a': 3}",
-            "false",
-        ),
-        ("- 5 < 2", "true"),
-        ("false < true", "true"),
-        ("'b' > 'abc'", "true"),
-        ("[1, 2] < [1, 3]", "true"),
-        ("(1,) > ()", "true"),
-        // What has no order is neither less nor more, nor at most nor at least.
-        ("[none, 1] < [none, 2]", "false"),
-        ("[none, 1] >= [none, 2]", "false"),
-        ("none <= none", "false"),
-        ("1 < true", "false"),
-        ("1 >= true", "false"),
-        ("'bc' in 'abc'", "true"),
-        ("'' in 'abc'", "true"),
-        ("'ca' in 'abc'", "false"),
-        ("2 in (2,)", "true"),
-        ("3 in [1, 2]", "false"),
-        ("'b' in {'a': 1, 'b': 2}", "true"),
-        ("1 in {'a': 1, 'b': 2}", "false"),
-    ];
-    fold(&rt, rt.alloc(), &rows)
+    let rows = r#"
+'a' ~ 'b' => "ab"
+'a' ~ 7 => "a7"
+'abcdefghijkl' ~ 'mnopqrstuvwx' == 'abcdefghijklmnopqrstuvwx' => true
+'abcdefghijklm' ~ 'nopqrstuvwxy' == 'abcdefghijklmnopqrstuvwxy' => true
+'abcdefghijklmnopqrstuvwx' == 'abcdefghijklmnopqrstuvwxy' => false
+'abcdefghijklmnopqrstuvwx' < 'abcdefghijklmnopqrstuvwxy' => true
+'abcdefghijklmnopqrstuvwx' in 'abcdefghijklmnopqrstuvwxy' => true
+none ~ ('a',) => "none(\"a\",)"
+1 == true => false
+(1,) == (1,) => true
+[1] == (1,) => false
+{'a': 1, 'b': 2} == {'a': 1, 'b': 2} => true
+{'a': 1, 'b': 2, 'a': 3} == {'b': 1, 'b': 2, 'a': 3} => true
+{'a': 1, 'b': 2} == {'b': 1, 'a': 2} => false
+{'a': 1, 'b': 2, 'a': 3} == {'c': 1, 'b': 2, 'a': 3} => false
+- 5 < 2 => true
+false < true => true
+'b' > 'abc' => true
+[1, 2] < [1, 3] => true
+(1,) > () => true
+[none, 1] < [none, 2] => false
+[none, 1] >= [none, 2] => false
+none <= none => false
+1 < true => false
+1 >= true => false
+'bc' in 'abc' => true
+'' in 'abc' => true
+'ca' in 'abc' => false
+2 in (2,) => true
+3 in [1, 2] => false
+'b' in {'a': 1, 'b': 2} => true
+1 in {'a': 1, 'b': 2} => false
+"#;
+    hold::<Constants>(&rt, rt.alloc(), rows)
 }
 
-/// What an operator makes of two values.
-fn applied(
+/// What an operator makes of two values; `neg` has the second alone.
+fn apply(
     alloc: Global,
-    op: BinOpKind,
+    op: &str,
     left: &Value,
     right: &Value,
 ) -> Result<Value, OpError<ValueFault>> {
     match op {
-        BinOpKind::Add => left.add(alloc, right),
-        BinOpKind::Sub => left.sub(alloc, right),
-        BinOpKind::Mul => left.mul(alloc, right),
-        BinOpKind::FloorDiv => left.int_div(alloc, right),
-        BinOpKind::Rem => left.rem(alloc, right),
-        BinOpKind::Pow => left.pow(alloc, right),
-        BinOpKind::Concat => Ok(left.concat(alloc, right)?),
-        BinOpKind::In => Ok(Value::of_bool(right.contains(alloc, left)?)),
+        "+" => left.add(alloc, right),
+        "-" => left.sub(alloc, right),
+        "*" => left.mul(alloc, right),
+        "//" => left.int_div(alloc, right),
+        "%" => left.rem(alloc, right),
+        "**" => left.pow(alloc, right),
+        "~" => Ok(left.concat(alloc, right)?),
+        "in" => Ok(Value::of_bool(right.contains(alloc, left)?)),
+        "neg" => right.neg(alloc),
         _ => Ok(Value::of_bool(left.equals(right))),
     }
 }
 
-/// Why an operator has no answer, which an expression does not tell.
+/// A value, an operator and a value: what comes of them, or why nothing does, which an expression does not tell.
+enum Applied {}
+
+impl Subject for Applied {
+    fn words(alloc: Global, text: &str) -> Result<String, Fail> {
+        let (left, rest) = parted(text, " | ");
+        let (op, right) = parted(rest, " | ");
+        let (left, right) = (value_of(alloc, left)?, value_of(alloc, right)?);
+        match apply(alloc, op, &left, &right) {
+            Ok(value) => Ok(value.to_string(alloc)?),
+            Err(error) => Ok(format!(in alloc; "{error:?}")?),
+        }
+    }
+}
+
 #[test]
 fn operators_fault(rt: HostRuntime) -> Result<(), Fail> {
-    let most = "340282366920938463463374607431768211455";
-    let (wrong, overflow) = (ValueFault::WrongType, ValueFault::Overflow);
-    let rows = [
-        (most, BinOpKind::Add, "1", overflow),
-        ("- (2 ** 127)", BinOpKind::Sub, "1", overflow),
-        (most, BinOpKind::Mul, "2", overflow),
-        (most, BinOpKind::FloorDiv, "- 1", overflow),
-        ("2", BinOpKind::Pow, "128", overflow),
-        ("3", BinOpKind::Pow, most, overflow),
-        ("1", BinOpKind::FloorDiv, "0", ValueFault::DivisionByZero),
-        ("1", BinOpKind::Rem, "0", ValueFault::DivisionByZero),
-        ("true", BinOpKind::Add, "1", wrong),
-        ("1", BinOpKind::Sub, "none", wrong),
-        ("'a'", BinOpKind::Mul, "2", wrong),
-        ("'a'", BinOpKind::FloorDiv, "0", wrong),
-        ("1", BinOpKind::Rem, "(1,)", wrong),
-        ("undefined", BinOpKind::Pow, "0", wrong),
-        ("2", BinOpKind::Pow, "- 1", wrong),
-        ("1", BinOpKind::In, "'1'", wrong),
-        ("1", BinOpKind::In, "1", wrong),
-    ];
-    for (left, op, right, fault) in rows {
-        let (first, second) = (value_of(rt.alloc(), left)?, value_of(rt.alloc(), right)?);
-        let answer = applied(rt.alloc(), op, &first, &second).err();
-        assert_eq!(rt;
-            answer,
-            Some(OpError::Fault(fault)),
-            "{left} {op:?} {right}"
-        );
-    }
-    for (text, fault) in [(most, overflow), ("'1'", wrong)] {
-        let answer = value_of(rt.alloc(), text)?.neg(rt.alloc()).err();
-        assert_eq!(rt; answer, Some(OpError::Fault(fault)), "{text}");
-    }
-    Ok(())
+    let rows = r#"
+340282366920938463463374607431768211455 | + | 1 => Fault(Overflow)
+- (2 ** 127) | - | 1 => Fault(Overflow)
+340282366920938463463374607431768211455 | * | 2 => Fault(Overflow)
+340282366920938463463374607431768211455 | // | - 1 => Fault(Overflow)
+2 | ** | 128 => Fault(Overflow)
+3 | ** | 340282366920938463463374607431768211455 => Fault(Overflow)
+1 | // | 0 => Fault(DivisionByZero)
+1 | % | 0 => Fault(DivisionByZero)
+true | + | 1 => Fault(WrongType)
+1 | - | none => Fault(WrongType)
+'a' | * | 2 => Fault(WrongType)
+'a' | // | 0 => Fault(WrongType)
+1 | % | (1,) => Fault(WrongType)
+undefined | ** | 0 => Fault(WrongType)
+2 | ** | - 1 => Fault(WrongType)
+1 | in | '1' => Fault(WrongType)
+1 | in | 1 => Fault(WrongType)
+none | neg | 340282366920938463463374607431768211455 => Fault(Overflow)
+none | neg | '1' => Fault(WrongType)
+"#;
+    hold::<Applied>(&rt, rt.alloc(), rows)
 }
 
 #[test]
 fn what_is_undefined_is_joined_as_nothing(rt: HostRuntime) -> Result<(), Fail> {
-    let rows = [
-        ("silent", BinOpKind::Concat, "('a',)", "\"(\\\"a\\\",)\""),
-        ("undefined", BinOpKind::Concat, "none", "\"none\""),
-        ("undefined", BinOpKind::Eq, "silent", "true"),
-        ("undefined", BinOpKind::Eq, "none", "false"),
-    ];
-    for (left, op, right, words) in rows {
-        let (left, right) = (value_of(rt.alloc(), left)?, value_of(rt.alloc(), right)?);
-        let answer = applied(rt.alloc(), op, &left, &right)?;
-        assert_eq!(rt; answer.to_string(rt.alloc())?.as_str(), words);
+    let rows = r#"
+silent | ~ | ('a',) => "(\"a\",)"
+undefined | ~ | none => "none"
+undefined | == | silent => true
+undefined | == | none => false
+"#;
+    hold::<Applied>(&rt, rt.alloc(), rows)
+}
+
+/// Values: how a copy differs.
+enum Copied {}
+
+impl Subject for Copied {
+    fn words(alloc: Global, text: &str) -> Result<String, Fail> {
+        let value = value_of(alloc, text)?;
+        let copy = value.try_clone()?;
+        let differs = if copy.equals(&value) {
+            ""
+        } else {
+            "another value"
+        };
+        Ok(String::from_str(alloc, differs)?)
     }
-    Ok(())
 }
 
 #[test]
 fn values_are_copied(rt: HostRuntime) -> Result<(), Fail> {
-    for text in [
-        "['a', 340282366920938463463374607431768211455]",
-        "['abcdefghijklmnopqrstuvwx', 'abcdefghijklmnopqrstuvwxy']",
-        "{'a': none}",
-    ] {
-        let value = value_of(rt.alloc(), text)?;
-        assert!(rt; value.try_clone()?.equals(&value), "{text}");
-    }
-    Ok(())
+    let rows = r#"
+['a', 340282366920938463463374607431768211455]
+['abcdefghijklmnopqrstuvwx', 'abcdefghijklmnopqrstuvwxy']
+{'a': none}
+"#;
+    hold::<Copied>(&rt, rt.alloc(), rows)
 }
 
 /// A map that is made by hand keeps an equal key's place and takes its new value.
-#[test]
-fn maps_made_by_hand_have_no_equal_keys(rt: HostRuntime) -> Result<(), Fail> {
-    let alloc = rt.alloc();
+fn map_of_two_keys(alloc: Global) -> Result<ValueMap, AllocError> {
     let mut map = ValueMap::new(alloc);
-    assert!(rt; map.is_empty());
     map.insert(Value::of_u64(1), Value::of_bool(true))?;
     map.insert(Value::of_u64(2), Value::none())?;
     map.insert(Value::of_u64(1), Value::of_bool(false))?;
-    assert_eq!(rt; map.len(), 2);
-    assert_eq!(rt; map.pairs().len(), 2);
-    assert_eq!(rt; map.get(&Value::of_u64(1)), Some(&Value::of_bool(false)));
-    assert_eq!(rt; map.get(&Value::of_u64(3)), None);
-    let made = value_of(alloc, "{2: none, 1: false}")?;
-    assert_eq!(rt; Value::Map(map), made);
+    Ok(map)
+}
+
+#[test]
+fn maps_made_by_hand_have_no_equal_keys(rt: HostRuntime) -> Result<(), Fail> {
+    assert!(rt; ValueMap::new(rt.alloc()).is_empty());
+    let map = map_of_two_keys(rt.alloc())?;
+    assert!(rt; map.len() == 2 && map.pairs().len() == 2);
+    assert!(rt; map.get(&Value::of_u64(1)) == Some(&Value::of_bool(false)));
+    assert!(rt; map.get(&Value::of_u64(3)).is_none());
+    assert!(rt; Value::Map(map) == value_of(rt.alloc(), "{2: none, 1: false}")?);
     Ok(())
 }
 
-/// An integer by its sign and magnitude, and as an `i128` and a `u128` where it fits.
-#[test]
-fn integers_are_read(rt: HostRuntime) -> Result<(), Fail> {
-    let rows = [
-        ("0", false, 0, Some(0), Some(0)),
-        ("7", false, 7, Some(7), Some(7)),
-        ("-7", true, 7, Some(-7), None),
-        ("- (2 ** 127)", true, 1 << 127, Some(i128::MIN), None),
-        ("2 ** 127", false, 1 << 127, None, Some(1 << 127)),
-        (
-            "340282366920938463463374607431768211455",
-            false,
-            u128::MAX,
-            None,
-            Some(u128::MAX),
-        ),
-    ];
-    for (text, is_negative, magnitude, signed, unsigned) in &rows {
-        let Value::Integer(number) = value_of(rt.alloc(), text)? else {
+/// An integer: whether it is negative, its magnitude, and itself as an `i128` and a `u128` where it fits.
+enum Integers {}
+
+impl Subject for Integers {
+    fn words(alloc: Global, text: &str) -> Result<String, Fail> {
+        let Value::Integer(number) = value_of(alloc, text)? else {
             return Err(Fail::from("no integer"));
         };
-        assert_eq!(rt; number.is_negative(), *is_negative, "{text}");
-        assert_eq!(rt; number.magnitude(), *magnitude, "{text}");
-        assert_eq!(rt; number.as_i128(), *signed, "{text}");
-        assert_eq!(rt; number.as_u128(), *unsigned, "{text}");
+        let (negative, magnitude) = (number.is_negative(), number.magnitude());
+        let (signed, unsigned) = (number.as_i128(), number.as_u128());
+        Ok(format!(in alloc; "{negative} {magnitude} {signed:?} {unsigned:?}")?)
     }
-    Ok(())
+}
+
+#[test]
+fn integers_are_read(rt: HostRuntime) -> Result<(), Fail> {
+    let rows = r#"
+0 => false 0 Some(0) Some(0)
+7 => false 7 Some(7) Some(7)
+-7 => true 7 Some(-7) None
+- (2 ** 127) => true 170141183460469231731687303715884105728 Some(-170141183460469231731687303715884105728) None
+2 ** 127 => false 170141183460469231731687303715884105728 None Some(170141183460469231731687303715884105728)
+340282366920938463463374607431768211455 => false 340282366920938463463374607431768211455 None Some(340282366920938463463374607431768211455)
+"#;
+    hold::<Integers>(&rt, rt.alloc(), rows)
 }

@@ -1,64 +1,105 @@
 //! The words of a command, and the syntax that its options ask for.
-use super::{GREETING, Trickle, USAGE, assert_run};
-use std::io;
+use super::{GREETING, Subject, Trickle, hold, output, parted};
+use std::alloc::Global;
+use std::io::{self, Read};
+use std::test::Fail;
 
-#[test]
-fn refuses_bad_usage(rt: HostRuntime) {
-    let rows: [&[&str]; 24] = [
-        &[],
-        &["code"],
-        &["tokens"],
-        &["code", "--help"],
-        &["code", "--"],
-        &["code", "a", "b"],
-        &["names", "a"],
-        &["replay", "a", "b"],
-        &["expr"],
-        &["expr", "a", "b"],
-        &["expr", "--trim-blocks", "a"],
-        &["Code", "a"],
-        &["", "a"],
-        &["--trim-blocks", "code", "a"],
-        &["code", "a", "--trim-blocks"],
-        &["code", "--trim-blocks"],
-        &["tokens", "--unknown", "a"],
-        &["tokens", "--trim", "a"],
-        &["tokens", "--block"],
-        &["tokens", "--block", "a"],
-        &["tokens", "--block", "a", "b"],
-        &["tokens", "--line-statement"],
-        &["tokens", "--line-comment", "a"],
-        &["tokens", "--keep-newline", "a", "b"],
-    ];
-    for args in rows {
-        let file = &mut GREETING.as_bytes();
-        assert_run(&rt, rt.alloc(), args, file, 2, "", USAGE);
+/// What a command, whose words are parted by commas, prints of a file.
+fn output_of<R: Read>(alloc: Global, words: &str, file: &mut R) -> Result<String, Fail> {
+    if words.is_empty() {
+        return output(alloc, &[], file);
+    }
+    let args: Vec<&str> = words.split(", ").collect(alloc)?;
+    output(alloc, &args, file)
+}
+
+/// Commands, each before the text of its file: what they print.
+pub enum Commands {}
+
+impl Subject for Commands {
+    fn words(alloc: Global, text: &str) -> Result<String, Fail> {
+        let (words, source) = parted(text, " < ");
+        output_of(alloc, words, &mut source.as_bytes())
+    }
+}
+
+/// Commands: what they print but for how the program is called.
+enum Misused {}
+
+impl Subject for Misused {
+    fn words(alloc: Global, text: &str) -> Result<String, Fail> {
+        let usage =
+            "! 2 usage: mjc tokens|code|names|replay [OPTION..] FILE [ANSWERS], mjc expr TEXT\n";
+        let output = output_of(alloc, text, &mut GREETING.as_bytes())?;
+        let others = if output.as_str() == usage {
+            ""
+        } else {
+            "another"
+        };
+        Ok(String::from_str(alloc, others)?)
     }
 }
 
 #[test]
-fn heeds_options_of_code(rt: HostRuntime) {
-    let args = &["code", "--trim-blocks", "--variable", "[[", "]]", "-"];
-    let file = &mut "[[ x ]]".as_bytes();
-    let code = "template\n0 Lookup(\"x\")\n1 Emit\nhint 1\n";
-    assert_run(&rt, rt.alloc(), args, file, 0, code, "");
+fn refuses_bad_usage(rt: HostRuntime) -> Result<(), Fail> {
+    let rows = r#"
+␀
+code
+tokens
+code, --help
+code, --
+code, a, b
+names, a
+replay, a, b
+expr
+expr, a, b
+expr, --trim-blocks, a
+Code, a
+␀, a
+--trim-blocks, code, a
+code, a, --trim-blocks
+code, --trim-blocks
+tokens, --unknown, a
+tokens, --trim, a
+tokens, --block
+tokens, --block, a
+tokens, --block, a, b
+tokens, --line-statement
+tokens, --line-comment, a
+tokens, --keep-newline, a, b
+"#;
+    hold::<Misused>(&rt, rt.alloc(), rows)
 }
 
-/// Also where the file cannot be read.
 #[test]
-fn refuses_a_syntax_first(rt: HostRuntime) {
-    let rows: [&[&str]; 4] = [
-        &["tokens", "--block", "{{", "%}", "-"],
-        &["code", "--block", "{{", "%}", "-"],
-        &["code", "--comment", "{#", "", "-"],
-        &["code", "--line-statement", "#", "--line-comment", "#", "-"],
-    ];
-    for args in rows {
+fn heeds_options_of_code(rt: HostRuntime) -> Result<(), Fail> {
+    let rows = r#"
+code, --trim-blocks, --variable, [[, ]], - < [[ x ]] => template␊0 Lookup("x")␊1 Emit␊hint 1␊
+"#;
+    hold::<Commands>(&rt, rt.alloc(), rows)
+}
+
+/// Commands: what they print of a file that cannot be read.
+enum Unread {}
+
+impl Subject for Unread {
+    fn words(alloc: Global, text: &str) -> Result<String, Fail> {
         let mut broken = Trickle {
             rest: b"",
             end: Err(io::Error::from(io::ErrorKind::ConnectionReset)),
         };
-        let said = "mjc: InvalidDelimiter at 0:0\n";
-        assert_run(&rt, rt.alloc(), args, &mut broken, 1, "", said);
+        output_of(alloc, text, &mut broken)
     }
+}
+
+/// Also where the file cannot be read.
+#[test]
+fn refuses_a_syntax_first(rt: HostRuntime) -> Result<(), Fail> {
+    let rows = r#"
+tokens, --block, {{, %}, - => ! 1 mjc: InvalidDelimiter at 0:0␊
+code, --block, {{, %}, - => ! 1 mjc: InvalidDelimiter at 0:0␊
+code, --comment, {#, ␀, - => ! 1 mjc: InvalidDelimiter at 0:0␊
+code, --line-statement, #, --line-comment, #, - => ! 1 mjc: InvalidDelimiter at 0:0␊
+"#;
+    hold::<Unread>(&rt, rt.alloc(), rows)
 }
