@@ -4,11 +4,6 @@ use Rattle.minijinja_syntax.specs.Texts.{Text}
 use Rattle.minijinja_tree.specs.Callees.{Callee, function, method, block, object, callee}
 use Rattle.minijinja_tree.specs.Tree.{Expr, variable, call, Args, no_args, pos}
 
--- the variable that stands for the template itself
-abbrev pub is_self : {C : Type 0} → Expr C → Bool
-is_self (variable x) = bytes_eq x (codes "self")
-is_self _ = false
-
 -- what is written: what the block above holds, a turn of the loop round it on other items, a block, or a value
 pub data Written (C : Type 0) : Type 0 where
   Super : Written C

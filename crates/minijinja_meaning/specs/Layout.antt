@@ -5,11 +5,13 @@ use Rattle.minijinja_value.specs.Values.{Functions}
 use Rattle.minijinja_tree.specs.CompareOps.{CompareOp, eq, ne, lt, lte, gt, gte, is_in, not_in}
 use Rattle.minijinja_tree.specs.Operators.{Working, Makes, Divides, IfTrue, IfFalse, working, Eq, Ne, Lt, Lte, Gt, Gte, In}
 use Rattle.minijinja_tree.specs.Tree.{UnaryOp, logical_not, negation, Expr, variable, constant, slice, unary, binary, compare, if_expr, filter, test, attribute, item, call, list, tuple, map, Optional, absent, present, Exprs, no_more, more, Comparisons, compared, against, Args, no_args, pos, pos_splat, kwarg, kwarg_splat, Stmt, template, data_text, output, assignment, Stmts, done, also}
-use Rattle.minijinja_code.specs.Events.{EmitRaw, Emit, Lookup, StoreLocal, GetAttr, GetItem, Slice, Div, ApplyFilter, PerformTest, CallFunction, CallMethod, CallObject, MergeKwargs, UnpackLists, BeginCapture, EndCapture, CallBlock, FastSuper, FastRecurse, Capture}
-use Rattle.minijinja_code.specs.Calls.{is_self, Written, Super, Recursion, BlockOf, Plain, written}
+use Rattle.minijinja_tree.specs.Callees.{Callee, function, method, block, object, callee}
 use Rattle.minijinja_tree.specs.Folding.{fold, constant_keywords, fold_keywords}
-use Rattle.minijinja_code.specs.Code.{Instr, Load, Do, Call, Apply, Operate, Neg, Not, CompareAndPreserve, BuildMap, BuildKwargs, BuildList, BuildTuple, DiscardTop, Swap, Jump, JumpIfFalseOrPop, JumpIfTrueOrPop}
-use Rattle.minijinja_code.specs.Pieces.{Here, behind, Piece, nothing, one, ◌▸◌, skipping, branches, id_of, noted}
+use Rattle.minijinja_tree.specs.WellFormed.{expr_count}
+use Rattle.minijinja_meaning.specs.Events.{EmitRaw, Emit, Lookup, StoreLocal, GetAttr, GetItem, Slice, Div, ApplyFilter, PerformTest, CallFunction, CallMethod, CallObject, MergeKwargs, UnpackLists, BeginCapture, EndCapture, CallBlock, FastSuper, FastRecurse, Capture}
+use Rattle.minijinja_meaning.specs.Calls.{Written, Super, Recursion, BlockOf, Plain, written}
+use Rattle.minijinja_meaning.specs.Code.{Instr, Load, Do, Call, Apply, Operate, Neg, Not, CompareAndPreserve, BuildMap, BuildKwargs, BuildList, BuildTuple, DiscardTop, Swap, Jump, JumpIfFalseOrPop, JumpIfTrueOrPop}
+use Rattle.minijinja_meaning.specs.Pieces.{Here, behind, Piece, Leading, Exits, outside, Open, nothing, one, ◌▸◌, plain, ◌▹◌, skipping, branches, id_of, noted}
 
 -- a constant in place of the piece that computes it
 unfoldable pub folded : {C : Type 0} → Option C → Piece C → Piece C
@@ -40,13 +42,8 @@ comparison is_in = one (Operate In)
 comparison not_in = one (Operate In) ▸ one Not
 
 -- comparisons after their two first operands, which lead to a place where one is false
-pub record Failing (C : Type 0) : Type 0 where
-  pub past : Here → Here
-  pub code : (failed : ℕ) → Here → List (Instr C)
-
--- the last one leads nowhere
-abbrev pub last : {C : Type 0} → Piece C → Failing C
-last p = record { past = p.past; code = λ failed h. p.code h }
+abbrev pub Failing : Type 0 → Type 0
+Failing C = Leading ℕ C
 
 -- a comparison, and then the next operand and the others
 abbrev pub and_then : {C : Type 0} → CompareOp → Piece C → Failing C → Failing C
@@ -64,22 +61,11 @@ chained p r = record {
       p.code h ++ (r.code failed.place (p.past h) ++ Jump (behind 1 (behind 1 failed)).place ∷ Swap ∷ DiscardTop ∷ []);
 }
 
--- how many keys have a value
-abbrev pub pair_count : {X Y : Type 0} → List X → List Y → ℕ
-pair_count [] vs = 0
-pair_count (k ∷ ks) [] = 0
-pair_count (k ∷ ks) (v ∷ vs) = suc (pair_count ks vs)
-
 -- keys and values in turn
 abbrev pub paired : {C : Type 0} → List (Piece C) → List (Piece C) → Piece C
 paired [] vs = nothing
 paired (k ∷ ks) [] = nothing
 paired (k ∷ ks) (v ∷ vs) = k ▸ v ▸ paired ks vs
-
--- how many expressions there are
-abbrev pub item_count : {C : Type 0} → Exprs C → ℕ
-item_count no_more = 0
-item_count (more e es) = suc (item_count es)
 
 -- how many batches of arguments are complete, and how many arguments wait for the rest of their batch
 pub record Count : Type 0 where
@@ -182,9 +168,12 @@ perform_test x n = record {
   code = λ h. Apply PerformTest x n (id_of x h.tests) ∷ [];
 }
 
--- a call of a block is captured
-abbrev pub captured : {C : Type 0} → Text → Piece C
-captured x = one (Do (BeginCapture Capture) [] 0) ▸ one (Do CallBlock x 0) ▸ one (Do EndCapture [] 0)
+-- a call of this, of the pieces of what it is an attribute of, of its value, and of the arguments after so many operands
+abbrev pub call_of : {C : Type 0} → Callee C → Piece C → Piece C → (ℕ → Piece C) → (ℕ → Option ℕ) → Piece C
+call_of (function x) base value given count = given 0 ▸ one (Call CallFunction x (count 0))
+call_of (block x) base value given count = one (Do (BeginCapture Capture) [] 0) ▸ one (Do CallBlock x 0) ▸ one (Do EndCapture [] 0)
+call_of (method e x) base value given count = base ▸ given 1 ▸ one (Call CallMethod x (count 1))
+call_of (object e) base value given count = value ▸ given 1 ▸ one (Call CallObject [] (count 1))
 
 -- an expression
 abbrev mutual
@@ -203,21 +192,15 @@ abbrev mutual
       expr f e ▸ arguments f args 1 (positional f args 1) (keyword f args 0) ▸ perform_test x (argument_count args 1)
   expr f (attribute e x) = expr f e ▸ one (Do GetAttr x 1)
   expr f (item e k) = expr f e ▸ expr f k ▸ one (Do GetItem [] 2)
-  -- a function
-  expr f (call (variable x) args) =
-      arguments f args 0 (positional f args 0) (keyword f args 0) ▸ one (Call CallFunction x (argument_count args 0))
-  -- a block of the template, or a method
-  expr f (call (attribute e x) args) = if is_self e then captured x else
-      (expr f e ▸ arguments f args 1 (positional f args 1) (keyword f args 0) ▸ one (Call CallMethod x (argument_count args 1)))
-  -- an object
-  expr f (call e args) =
-      expr f e ▸ arguments f args 1 (positional f args 1) (keyword f args 0) ▸ one (Call CallObject [] (argument_count args 1))
-  expr f (list es) = folded (fold f (list es)) (items f es ▸ one (BuildList (Some (item_count es))))
-  expr f (tuple es) = folded (fold f (tuple es)) (items f es ▸ one (BuildTuple (Some (item_count es))))
-  expr f (map ks vs) =
-      let keys = each f ks in
-      let values = each f vs in
-      folded (fold f (map ks vs)) (paired keys values ▸ one (BuildMap (pair_count keys values)))
+  expr f (call e args) = call_of (callee e) (base f e) (expr f e) (λ n. arguments f args n (positional f args n) (keyword f args 0)) (argument_count args)
+  expr f (list es) = folded (fold f (list es)) (items f es ▸ one (BuildList (Some (expr_count es))))
+  expr f (tuple es) = folded (fold f (tuple es)) (items f es ▸ one (BuildTuple (Some (expr_count es))))
+  expr f (map ks vs) = folded (fold f (map ks vs)) (paired (each f ks) (each f vs) ▸ one (BuildMap (expr_count ks)))
+
+  -- what an attribute is taken of; what is no attribute has no base, and none stands in for it
+  pub base : {C F : Type 0} → Functions C F → Expr C → Piece C
+  base f (attribute e x) = expr f e
+  base f _ = one (Load f.none)
 
   -- an expression, or what stands in for it
   pub optional : {C F : Type 0} → Functions C F → C → Optional C → Piece C
@@ -246,7 +229,7 @@ abbrev mutual
 
   -- a comparison whose operands are there, and those after it
   pub comparisons : {C F : Type 0} → Functions C F → CompareOp → Comparisons C → Failing C
-  comparisons f o compared = last (comparison o)
+  comparisons f o compared = plain (comparison o)
   comparisons f o (against o' e cs) = and_then o (expr f e) (comparisons f o' cs)
 
   -- positional and `*` arguments, where so many wait
@@ -277,18 +260,18 @@ write f (Recursion e) value = expr f e ▸ one (Do FastRecurse [] 1)
 write f (BlockOf x) value = one (Do CallBlock x 0)
 write f Plain value = value ▸ one (Do Emit [] 1)
 
--- a statement
+-- a statement, where this is open within its loop
 abbrev mutual
-  pub stmt : {C F : Type 0} → Functions C F → Stmt C → Piece C
-  stmt f (template ss) = stmts f ss
-  stmt f (data_text t) = one (Do EmitRaw t 0)
-  stmt f (output e) = write f (written e) (expr f e)
-  stmt f (assignment e v) = expr f v ▸ target e
+  pub stmt : {C F : Type 0} → Functions C F → List Open → Stmt C → Leading Exits C
+  stmt f os (template ss) = stmts f os ss
+  stmt f os (data_text t) = plain (one (Do EmitRaw t 0))
+  stmt f os (output e) = plain (write f (written e) (expr f e))
+  stmt f os (assignment e v) = plain (expr f v ▸ target e)
 
   -- statements in order
-  pub stmts : {C F : Type 0} → Functions C F → Stmts C → Piece C
-  stmts f done = nothing
-  stmts f (also s rest) = stmt f s ▸ stmts f rest
+  pub stmts : {C F : Type 0} → Functions C F → List Open → Stmts C → Leading Exits C
+  stmts f os done = plain nothing
+  stmts f os (also s rest) = stmt f os s ▹ stmts f os rest
 
 -- what stands after the code of an expression
 abbrev pub past_expr : {C F : Type 0} → Functions C F → Expr C → Here → Here
@@ -298,13 +281,13 @@ past_expr f e = (expr f e).past
 abbrev pub expr_code : {C F : Type 0} → Functions C F → Expr C → Here → List (Instr C)
 expr_code f e = (expr f e).code
 
--- what stands after the code of a statement
+-- what stands after the code of a statement outside of all loops
 abbrev pub past_stmt : {C F : Type 0} → Functions C F → Stmt C → Here → Here
-past_stmt f s = (stmt f s).past
+past_stmt f s = (stmt f [] s).past
 
 -- its instructions
 abbrev pub stmt_code : {C F : Type 0} → Functions C F → Stmt C → Here → List (Instr C)
-stmt_code f s = (stmt f s).code
+stmt_code f s = (stmt f [] s).code outside
 
 -- what stands after the code of an assignment to a target
 abbrev pub past_target : {C : Type 0} → Expr C → Here → Here

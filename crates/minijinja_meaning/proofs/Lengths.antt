@@ -1,32 +1,38 @@
 -- The place after a piece is where its instructions end.
 use Rattle.std.proofs.Common.{◌≡◌, ℕ, zero, suc, ◌+◌, ◌≤◌, List, [], ◌∷◌, ◌++◌, length, Option, Some, None, arith, length-append}
-use Rattle.std.specs.Prelude.{Bool, true, false, if◌then◌else◌}
 use Rattle.minijinja_syntax.specs.Texts.{Text}
 use Rattle.minijinja_value.specs.Values.{Functions}
 use Rattle.minijinja_tree.specs.CompareOps.{CompareOp, eq, ne, lt, lte, gt, gte, is_in, not_in}
 use Rattle.minijinja_tree.specs.Operators.{Working, Makes, Divides, IfTrue, IfFalse, working}
 use Rattle.minijinja_tree.specs.Tree.{Expr, variable, constant, slice, unary, binary, compare, if_expr, filter, test, attribute, item, call, list, tuple, map, Optional, absent, present, Exprs, no_more, more, Comparisons, compared, against, Args, no_args, pos, pos_splat, kwarg, kwarg_splat, Stmt, template, data_text, output, assignment, Stmts, done, also}
-use Rattle.minijinja_code.specs.Calls.{is_self, Written, Super, Recursion, BlockOf, Plain, written}
+use Rattle.minijinja_meaning.specs.Calls.{Written, Super, Recursion, BlockOf, Plain, written}
+use Rattle.minijinja_tree.specs.Callees.{Callee, function, method, block, object, callee}
 use Rattle.minijinja_tree.specs.Folding.{fold, constant_keywords, fold_keywords}
-use Rattle.minijinja_code.specs.Code.{Instr, JumpIfFalseOrPop, JumpIfTrueOrPop, BuildList, BuildKwargs, Jump, Swap, DiscardTop}
-use Rattle.minijinja_code.specs.Pieces.{Here, behind, Piece, nothing, one, ◌▸◌, skipping, branches}
-use Rattle.minijinja_code.specs.Layout.{folded, operation, comparison, Failing, last, and_then, chained, paired, batch, merged, spreading, arguments, Count, count_keyword, apply_filter, perform_test, expr, optional, operand, items, each, chain, comparisons, positional, keyword, target, write, stmt, stmts}
+use Rattle.minijinja_meaning.specs.Code.{Instr, JumpIfFalseOrPop, JumpIfTrueOrPop, BuildList, BuildKwargs, Jump, Swap, DiscardTop}
+use Rattle.minijinja_meaning.specs.Pieces.{Here, behind, Piece, Leading, Open, nothing, one, ◌▸◌, plain, leading_to, ◌▹◌, skipping, branches}
+use Rattle.minijinja_meaning.specs.Layout.{folded, operation, comparison, Failing, and_then, chained, paired, batch, merged, spreading, arguments, argument_count, Count, count_keyword, apply_filter, perform_test, call_of, expr, base, optional, operand, items, each, chain, comparisons, positional, keyword, target, write, stmt, stmts}
 
 -- what stands after a piece begins where its instructions end
 pub record Exact {C : Type 0} (p : Piece C) : Type 0 where
   pub ends : (h : Here) → h.place + length (p.code h) ≡ (p.past h).place
 
--- the same of comparisons that lead to a place where they fail
-pub record FailingExact {C : Type 0} (p : Failing C) : Type 0 where
-  pub ends : (failed : ℕ) (h : Here) → h.place + length (p.code failed h) ≡ (p.past h).place
+-- the same of one that leads elsewhere, wherever that is
+pub record LeadingExact {X C : Type 0} (p : Leading X C) : Type 0 where
+  pub ends : (x : X) (h : Here) → h.place + length (p.code x h) ≡ (p.past h).place
 
 module _ {C : Type 0} where
   -- nothing goes back
   pub grows : {p : Piece C} → Exact p → (h : Here) → h.place ≤ (p.past h).place
   grows {p} e h = omega (arith, e.ends h)
 
-  pub failing_grows : {p : Failing C} → FailingExact p → (h : Here) → h.place ≤ (p.past h).place
-  failing_grows {p} e h = omega (arith, e.ends 0 h)
+  pub exact_to : {X : Type 0} {p : Leading X C} → LeadingExact p → (x : X) → Exact (leading_to x p)
+  exact_to e x = record { ends = e.ends x }
+
+  pub plain_exact : {X : Type 0} {p : Piece C} → Exact p → LeadingExact {X = X} (plain p)
+  plain_exact e = record { ends = λ x h. e.ends h }
+
+  pub and_exact : {X : Type 0} {p q : Leading X C} → LeadingExact p → LeadingExact q → LeadingExact (p ▹ q)
+  and_exact {p = p} {q = q} e e' = record { ends = λ x h. omega (arith, length-append (p.code x h) (q.code x (p.past h)), e.ends x h, e'.ends x (p.past h)) }
 
   pub nothing_exact : Exact {C = C} nothing
   nothing_exact = record { ends = λ h. omega arith }
@@ -74,13 +80,10 @@ module _ {C : Type 0} where
   comparison_exact is_in = one_exact _
   comparison_exact not_in = then_exact (one_exact _) (one_exact _)
 
-  last_exact : {p : Piece C} → Exact p → FailingExact (last p)
-  last_exact e = record { ends = λ failed h. e.ends h }
-
-  and_then_exact : (o : CompareOp) {p : Piece C} {r : Failing C} → Exact p → FailingExact r → FailingExact (and_then o p r)
+  and_then_exact : (o : CompareOp) {p : Piece C} {r : Failing C} → Exact p → LeadingExact r → LeadingExact (and_then o p r)
   and_then_exact o {p} {r} e e' = record { ends = λ failed h. omega (arith, length-append (p.code (behind 1 (behind 1 h))) (r.code failed (p.past (behind 1 (behind 1 h)))), e.ends (behind 1 (behind 1 h)), e'.ends failed (p.past (behind 1 (behind 1 h)))) }
 
-  chained_exact : {p : Piece C} {r : Failing C} → Exact p → FailingExact r → Exact (chained p r)
+  chained_exact : {p : Piece C} {r : Failing C} → Exact p → LeadingExact r → Exact (chained p r)
   chained_exact {p} {r} e e' = record {
     ends = λ h.
         let failed = behind 1 (r.past (p.past h)) in
@@ -113,9 +116,11 @@ module _ {C : Type 0} where
   spreading_exact zero n = nothing_exact
   spreading_exact (suc b) n = then_exact (batch_exact (λ n. BuildList (Some n)) n) (one_exact _)
 
-  pub either_exact : (b : Bool) {p q : Piece C} → Exact p → Exact q → Exact (if b then p else q)
-  either_exact true e e' = e
-  either_exact false e e' = e'
+  pub call_exact : (c : Callee C) {base value : Piece C} {given : ℕ → Piece C} (count : ℕ → Option ℕ) → Exact base → Exact value → ((n : ℕ) → Exact (given n)) → Exact (call_of c base value given count)
+  call_exact (function x) count b v g = then_exact (g 0) (one_exact _)
+  call_exact (block x) count b v g = then_exact (one_exact _) (then_exact (one_exact _) (one_exact _))
+  call_exact (method e x) count b v g = then_exact b (then_exact (g 1) (one_exact _))
+  call_exact (object e) count b v g = then_exact v (then_exact (g 1) (one_exact _))
 
 module _ {C F : Type 0} (f : Functions C F) where
   pub arguments_exact : (args : Args C) (n : ℕ) {p q : Piece C} → Exact p → Exact q → Exact (arguments f args n p q)
@@ -136,14 +141,14 @@ module _ {C F : Type 0} (f : Functions C F) where
     expr_exact (test e x args) = then_exact (expr_exact e) (then_exact (arguments_exact args 1 (positional_exact args 1) (keyword_exact args 0)) (test_exact _ _))
     expr_exact (attribute e x) = then_exact (expr_exact e) (one_exact _)
     expr_exact (item e k) = then_exact (expr_exact e) (then_exact (expr_exact k) (one_exact _))
-    expr_exact (call (variable x) args) = then_exact (arguments_exact args 0 (positional_exact args 0) (keyword_exact args 0)) (one_exact _)
-    expr_exact (call (attribute e x) args) =
-        either_exact (is_self e) (then_exact (one_exact _) (then_exact (one_exact _) (one_exact _)))
-        (then_exact (expr_exact e) (then_exact (arguments_exact args 1 (positional_exact args 1) (keyword_exact args 0)) (one_exact _)))
-    expr_exact (call e args) = then_exact (expr_exact e) (then_exact (arguments_exact args 1 (positional_exact args 1) (keyword_exact args 0)) (one_exact _))
+    expr_exact (call e args) = call_exact (callee e) (argument_count args) (base_exact e) (expr_exact e) (λ n. arguments_exact args n (positional_exact args n) (keyword_exact args 0))
     expr_exact (list es) = folded_exact (fold f (list es)) (then_exact (items_exact es) (one_exact _))
     expr_exact (tuple es) = folded_exact (fold f (tuple es)) (then_exact (items_exact es) (one_exact _))
     expr_exact (map ks vs) = folded_exact (fold f (map ks vs)) (then_exact (paired_exact (each f ks) (each f vs) (each_exact ks) (each_exact vs)) (one_exact _))
+
+    pub base_exact : (e : Expr C) → Exact (base f e)
+    base_exact (attribute e x) = expr_exact e
+    base_exact e = one_exact _
 
     pub optional_exact : (d : C) (o : Optional C) → Exact (optional f d o)
     optional_exact d absent = one_exact _
@@ -165,8 +170,8 @@ module _ {C F : Type 0} (f : Functions C F) where
     chain_exact compared = nothing_exact
     chain_exact (against o e cs) = chained_exact (expr_exact e) (comparisons_exact cs o)
 
-    pub comparisons_exact : (cs : Comparisons C) (o : CompareOp) → FailingExact (comparisons f o cs)
-    comparisons_exact compared o = last_exact (comparison_exact o)
+    pub comparisons_exact : (cs : Comparisons C) (o : CompareOp) → LeadingExact (comparisons f o cs)
+    comparisons_exact compared o = plain_exact (comparison_exact o)
     comparisons_exact (against o' e cs) o = and_then_exact o (expr_exact e) (comparisons_exact cs o')
 
     pub positional_exact : (args : Args C) (n : ℕ) → Exact (positional f args n)
@@ -194,12 +199,12 @@ module _ {C F : Type 0} (f : Functions C F) where
   write_exact Plain e = then_exact e (one_exact _)
 
   mutual
-    pub stmt_exact : (s : Stmt C) → Exact (stmt f s)
-    stmt_exact (template ss) = stmts_exact ss
-    stmt_exact (data_text t) = one_exact _
-    stmt_exact (output e) = write_exact (written e) (expr_exact e)
-    stmt_exact (assignment e v) = then_exact (expr_exact v) (target_exact e)
+    pub stmt_exact : (s : Stmt C) (os : List Open) → LeadingExact (stmt f os s)
+    stmt_exact (template ss) os = stmts_exact ss os
+    stmt_exact (data_text t) os = plain_exact (one_exact _)
+    stmt_exact (output e) os = plain_exact (write_exact (written e) (expr_exact e))
+    stmt_exact (assignment e v) os = plain_exact (then_exact (expr_exact v) (target_exact e))
 
-    pub stmts_exact : (ss : Stmts C) → Exact (stmts f ss)
-    stmts_exact done = nothing_exact
-    stmts_exact (also s rest) = then_exact (stmt_exact s) (stmts_exact rest)
+    pub stmts_exact : (ss : Stmts C) (os : List Open) → LeadingExact (stmts f os ss)
+    stmts_exact done os = plain_exact nothing_exact
+    stmts_exact (also s rest) os = and_exact (stmt_exact s os) (stmts_exact rest os)

@@ -1,7 +1,7 @@
 -- Pieces of code: what stands after a piece that begins here, and its instructions.
 use Rattle.std.specs.Prelude.{ℕ, suc, ◌+◌, List, [], ◌∷◌, ◌++◌, if◌then◌else◌, bytes_eq, nat_lt}
 use Rattle.minijinja_syntax.specs.Texts.{Text}
-use Rattle.minijinja_code.specs.Code.{Instr, Jump, JumpIfFalse}
+use Rattle.minijinja_meaning.specs.Code.{Instr, Jump, JumpIfFalse}
 
 -- where code stands: its place in the list, and the names of filters and of tests that have an id by then, in order of first use
 pub record Here : Type 0 where
@@ -17,6 +17,24 @@ behind n h = record h { place = h.place + n }
 pub record Piece (C : Type 0) : Type 0 where
   pub past : Here → Here
   pub code : Here → List (Instr C)
+
+-- a piece of code that may lead to places outside of it, wherever it stands; what stands after it does not depend on these
+pub record Leading (X C : Type 0) : Type 0 where
+  pub past : Here → Here
+  pub code : X → Here → List (Instr C)
+
+-- where a loop's turn is left, and the loop
+pub record Exits : Type 0 where
+  pub break_to : ℕ
+  pub continue_to : ℕ
+
+-- outside of all loops nothing is left
+abbrev pub outside : Exits
+outside = record { break_to = 0; continue_to = 0 }
+
+-- what a statement may stand in, within its loop, that has to be closed where the loop's turn is left
+pub data Open : Type 0 where
+  OpenScope OpenAutoEscape OpenCapture : Open
 
 -- where the code of a template, or of an expression by itself, begins
 abbrev pub start : Here
@@ -34,6 +52,19 @@ one i = record { past = behind 1; code = λ h. i ∷ [] }
 infixr 5 ◌▸◌
 abbrev pub ◌▸◌ : {C : Type 0} → Piece C → Piece C → Piece C
 p ▸ q = record { past = λ h. q.past (p.past h); code = λ h. p.code h ++ q.code (p.past h) }
+
+-- a piece that leads nowhere else
+abbrev pub plain : {X C : Type 0} → Piece C → Leading X C
+plain p = record { past = p.past; code = λ x h. p.code h }
+
+-- one that leads to these places
+abbrev pub leading_to : {X C : Type 0} → X → Leading X C → Piece C
+leading_to x p = record { past = p.past; code = p.code x }
+
+-- one piece that may lead elsewhere, and then another
+infixr 5 ◌▹◌
+abbrev pub ◌▹◌ : {X C : Type 0} → Leading X C → Leading X C → Leading X C
+p ▹ q = record { past = λ h. q.past (p.past h); code = λ x h. p.code x h ++ q.code x (p.past h) }
 
 -- an instruction that may lead past a piece, and the piece
 abbrev pub skipping : {C : Type 0} → (ℕ → Instr C) → Piece C → Piece C

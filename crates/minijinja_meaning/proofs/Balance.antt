@@ -6,11 +6,11 @@ use Rattle.minijinja_value.specs.Values.{Functions}
 use Rattle.minijinja_tree.specs.Operators.{Working, Makes, Divides, IfTrue, IfFalse, working}
 use Rattle.minijinja_tree.specs.Comparisons.{compares}
 use Rattle.minijinja_tree.specs.Tree.{UnaryOp, logical_not, negation, Expr, variable, constant, slice, unary, binary, compare, if_expr, filter, test, attribute, item, call, list, tuple, map, Optional, absent, present, Exprs, no_more, more, Comparisons, compared, against, Args, no_args, pos, pos_splat, kwarg, kwarg_splat, Stmt, template, data_text, output, assignment, Stmts, done, also}
-use Rattle.minijinja_code.specs.Events.{Event, Answer, Fault, Values, World, Did, Gave, Ended, Act, next, give, choose, operated, fitted, answered, ask}
-use Rattle.minijinja_code.specs.Calls.{is_self, Written, Super, Recursion, BlockOf, Plain, written}
-use Rattle.minijinja_code.specs.Meaning.{operate_one, operate, in_pairs, Taken, keyword_map, spread, arguments, block, expr, optional, items, each, chain, positional, keyword, Signal, On, Broke, Continued, if_on, assign, write, stmt, stmts}
-use Rattle.minijinja_code.specs.Brackets.{Bracket, Capture, opening, closing, bracket, brackets, IsBalanced}
-use Rattle.minijinja_code.specs.Correct.{fresh}
+use Rattle.minijinja_meaning.specs.Events.{Event, Answer, Fault, Values, World, Did, Gave, Ended, Act, next, give, choose, operated, fitted, answered, ask}
+use Rattle.minijinja_meaning.specs.Calls.{is_self, Written, Super, Recursion, BlockOf, Plain, written}
+use Rattle.minijinja_meaning.specs.Meaning.{operate_one, operate, in_pairs, Taken, keyword_map, spread, arguments, block, expr, optional, items, each, chain, positional, keyword, Signal, On, Broke, Continued, if_on, assign, write, stmt, stmts}
+use Rattle.minijinja_meaning.specs.Brackets.{Bracket, Capture, opening, closing, bracket, brackets, IsBalanced}
+use Rattle.minijinja_meaning.specs.Correct.{fresh}
 
 -- this is open where the run goes on
 abbrev pub Opened : {C F X : Type 0} → Option (List Bracket) → Did C F X → Type 0

@@ -2,24 +2,24 @@
 use Rattle.std.proofs.Common.{◌≡◌, ℕ, zero, suc, ◌+◌, ◌-◌, ◌*◌, ◌≤◌, List, [], ◌∷◌, ◌++◌, length, refl, sym, ap, ◌∙◌, subst, arith, length-append, eq-eqb}
 use Rattle.std.specs.Prelude.{Bool, cond, slice_get}
 use Rattle.minijinja_value.specs.Values.{Functions}
-use Rattle.minijinja_code.specs.Laws.{Laws}
+use Rattle.minijinja_meaning.specs.Laws.{Laws}
 use Rattle.minijinja_tree.specs.Tree.{Expr, Stmt}
 use Rattle.minijinja_tree.specs.WellFormed.{IsWhole, IsWellFormed}
-use Rattle.minijinja_code.specs.Events.{Answer, Did, Gave, Ended, Act}
-use Rattle.minijinja_code.specs.Answers.{AreFew}
-use Rattle.minijinja_code.specs.Meaning.{expr as expr_meaning, stmt as stmt_meaning}
-use Rattle.minijinja_code.specs.Code.{Instr}
-use Rattle.minijinja_code.specs.Pieces.{Here, start, Piece}
-use Rattle.minijinja_code.specs.Layout.{expr, stmt, expr_code, stmt_code}
-use Rattle.minijinja_code.specs.Machine.{State, At, after, act, step, run}
-use Rattle.minijinja_code.specs.Brackets.{IsBalanced}
-use Rattle.minijinja_code.specs.Correct.{fresh, over, DoesFrom, Does, DoesExpr}
-use Rattle.minijinja_code.proofs.Runs.{budget, Stands, stands_behind, run_then, Comes}
-use Rattle.minijinja_code.proofs.Lengths.{Exact, expr_exact, stmt_exact}
-use Rattle.minijinja_code.proofs.Parts.{Simulates}
-use Rattle.minijinja_code.proofs.Simulation.{expr_sim}
-use Rattle.minijinja_code.proofs.StatementSimulation.{root_sim}
-use Rattle.minijinja_code.proofs.Balance.{balanced_from, expr_keeps, stmt_keeps}
+use Rattle.minijinja_meaning.specs.Events.{Answer, Did, Gave, Ended, Act}
+use Rattle.minijinja_meaning.specs.Answers.{AreFew}
+use Rattle.minijinja_meaning.specs.Meaning.{expr as expr_meaning, stmt as stmt_meaning}
+use Rattle.minijinja_meaning.specs.Code.{Instr}
+use Rattle.minijinja_meaning.specs.Pieces.{Here, start, Piece}
+use Rattle.minijinja_meaning.specs.Layout.{expr, stmt, expr_code, stmt_code}
+use Rattle.minijinja_meaning.specs.Machine.{State, At, after, act, step, run}
+use Rattle.minijinja_meaning.specs.Brackets.{IsBalanced}
+use Rattle.minijinja_meaning.specs.Correct.{fresh, over, DoesFrom, Does, DoesExpr}
+use Rattle.minijinja_meaning.proofs.Runs.{budget, Stands, stands_behind, run_then, Comes}
+use Rattle.minijinja_meaning.proofs.Lengths.{Exact, expr_exact, stmt_exact}
+use Rattle.minijinja_meaning.proofs.Parts.{Simulates}
+use Rattle.minijinja_meaning.proofs.Simulation.{expr_sim}
+use Rattle.minijinja_meaning.proofs.StatementSimulation.{root_sim}
+use Rattle.minijinja_meaning.proofs.Balance.{balanced_from, expr_keeps, stmt_keeps}
 
 budget_is : {C : Type 0} (b : ℕ) (answers : List (Answer C)) → budget b answers ≡ length answers * b
 budget_is b [] = omega arith

@@ -3,7 +3,7 @@ use Rattle.std.specs.Prelude.{ℕ, Option}
 use Rattle.minijinja_syntax.specs.Texts.{Text}
 use Rattle.minijinja_tree.specs.CompareOps.{CompareOp}
 use Rattle.minijinja_tree.specs.Operators.{Operator}
-use Rattle.minijinja_code.specs.Events.{Kind}
+use Rattle.minijinja_meaning.specs.Events.{Kind}
 
 -- one instruction
 pub data Instr (C : Type 0) : Type 0 where
@@ -15,9 +15,19 @@ pub data Instr (C : Type 0) : Type 0 where
   Call : Kind → Text → Option ℕ → Instr C
   -- likewise, of a filter or test, with the id of its name
   Apply : Kind → Text → Option ℕ → (id : ℕ) → Instr C
+  -- takes a value apart into so many, the first on top
+  UnpackList : ℕ → Instr C
+  -- begins a loop over the value on top, with its flags; asks for the loop's next item, or goes on elsewhere; ends the loop
+  PushLoop : (flags : ℕ) → Instr C
+  Iterate : (past : ℕ) → Instr C
+  PopLoopFrame : Instr C
+  -- whether no item came to the innermost loop
+  PushDidNotIterate : Instr C
+  -- makes a macro of its closure and its argument names, with its name, the place of its body and its flags
+  BuildMacro : Text → (body : ℕ) → (flags : ℕ) → Instr C
   -- make a value of the two on top, or of the one
   Operate : Operator → Instr C
-  Neg Not : Instr C
+  Neg Not IsUndefined : Instr C
   -- keeps the second of two values, and pushes whether their comparison holds
   CompareAndPreserve : CompareOp → Instr C
   -- make one value of so many pairs, or of so many values, or of as many as a count on top of them says
@@ -27,3 +37,5 @@ pub data Instr (C : Type 0) : Type 0 where
   DupTop DiscardTop Swap : Instr C
   -- go to a place: always; where the value on top is false, which is taken off; where it is false or true, and then it stays
   Jump JumpIfFalse JumpIfFalseOrPop JumpIfTrueOrPop : ℕ → Instr C
+  -- ends the run
+  Return : Instr C

@@ -5,7 +5,7 @@ use Rattle.std.specs.declared.cmp.Ordering.TheVariants.{Less, Equal, Greater}
 use Rattle.std.proofs.Common.{refl}
 use Rattle.minijinja_syntax.specs.Texts.{Text}
 use Rattle.minijinja_value.specs.Values.{Functions}
-use Rattle.minijinja_code.specs.Laws.{Laws}
+use Rattle.minijinja_meaning.specs.Laws.{Laws}
 
 mutual
   -- undefined that prints as nothing, none, a truth value, a number, a text, lists, tuples and maps

@@ -5,10 +5,10 @@ use Rattle.minijinja_value.specs.Values.{Functions}
 use Rattle.minijinja_tree.specs.Operators.{Working, Makes, Divides, IfTrue, IfFalse}
 use Rattle.minijinja_tree.specs.Folding.{fold}
 use Rattle.minijinja_tree.specs.Tree.{Expr, variable, constant, slice, unary, binary, compare, if_expr, filter, test, attribute, item, call, list, tuple, map}
-use Rattle.minijinja_code.specs.Code.{Load}
-use Rattle.minijinja_code.specs.Pieces.{Piece, one, ◌▸◌, skipping}
-use Rattle.minijinja_code.specs.Layout.{folded, operation, expr}
-use Rattle.minijinja_code.specs.private.Making.{is_lazy, jump_of, operator_of}
+use Rattle.minijinja_meaning.specs.Code.{Load}
+use Rattle.minijinja_meaning.specs.Pieces.{Piece, one, ◌▸◌, skipping}
+use Rattle.minijinja_meaning.specs.Layout.{folded, operation, expr}
+use Rattle.minijinja_meaning.specs.private.Making.{is_lazy, jump_of, operator_of}
 
 module _ {C : Type 0} where
   pub folded_some : {r : Option C} {c : C} (p : Piece C) → r ≡ Some c → folded r p ≡ one (Load c)

@@ -3,20 +3,20 @@ use Rattle.std.proofs.Common.{◌≡◌, ℕ, List, [], ◌∷◌, refl}
 use Rattle.std.specs.Prelude.{Bool, true, false, codes, bytes_eq}
 use Rattle.minijinja_syntax.specs.Texts.{Text}
 use Rattle.minijinja_value.specs.Values.{Functions}
-use Rattle.minijinja_code.specs.Laws.{Laws}
+use Rattle.minijinja_meaning.specs.Laws.{Laws}
 use Rattle.minijinja_tree.specs.Tree.{Expr, variable, call, Args, no_args, pos, Stmt, template, data_text, output, assignment, Stmts, done, also}
 use Rattle.minijinja_tree.specs.WellFormed.{IsWhole, AreArguments, IsTarget, IsInner, AreInner, IsWellFormed}
-use Rattle.minijinja_code.specs.Events.{EmitRaw, Emit, StoreLocal, CallBlock, FastSuper, FastRecurse, Act}
+use Rattle.minijinja_meaning.specs.Events.{EmitRaw, Emit, StoreLocal, CallBlock, FastSuper, FastRecurse, Act}
 use Rattle.minijinja_tree.specs.Callees.{Callee, function, block, method, object, callee}
-use Rattle.minijinja_code.specs.Calls.{Written, Super, Recursion, BlockOf, Plain, written_super, written_loop, written_function, written_call, written}
-use Rattle.minijinja_code.specs.Meaning.{Signal, On, Broke, Continued, if_on, assign, write as write_meaning, stmt as stmt_meaning, stmts as stmts_meaning}
-use Rattle.minijinja_code.specs.Code.{Instr}
-use Rattle.minijinja_code.specs.Pieces.{Piece}
-use Rattle.minijinja_code.specs.Layout.{target, write, stmt, stmts}
-use Rattle.minijinja_code.proofs.Runs.{Any}
-use Rattle.minijinja_code.proofs.Lengths.{Exact, one_exact, expr_exact, target_exact, stmt_exact, stmts_exact}
-use Rattle.minijinja_code.proofs.Parts.{Simulates, sim_then, sim_give, sim_nothing, sim_do_tell}
-use Rattle.minijinja_code.proofs.Simulation.{expr_sim}
+use Rattle.minijinja_meaning.specs.Calls.{Written, Super, Recursion, BlockOf, Plain, written_super, written_loop, written_function, written_call, written}
+use Rattle.minijinja_meaning.specs.Meaning.{Signal, On, Broke, Continued, if_on, assign, write as write_meaning, stmt as stmt_meaning, stmts as stmts_meaning}
+use Rattle.minijinja_meaning.specs.Code.{Instr}
+use Rattle.minijinja_meaning.specs.Pieces.{Piece}
+use Rattle.minijinja_meaning.specs.Layout.{target, write, stmt, stmts}
+use Rattle.minijinja_meaning.proofs.Runs.{Any}
+use Rattle.minijinja_meaning.proofs.Lengths.{Exact, one_exact, expr_exact, target_exact, stmt_exact, stmts_exact}
+use Rattle.minijinja_meaning.proofs.Parts.{Simulates, sim_then, sim_give, sim_nothing, sim_do_tell}
+use Rattle.minijinja_meaning.proofs.Simulation.{expr_sim}
 
 -- the argument of a recursion is whole
 abbrev pub WrittenWhole : {C : Type 0} → Written C → Type 0

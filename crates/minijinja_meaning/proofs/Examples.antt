@@ -8,13 +8,13 @@ use Rattle.minijinja_tree.specs.Tree.{Expr, variable, constant, slice, unary, bi
 use Rattle.minijinja_tree.specs.Operators.{Lt, IntDiv, compute}
 use Rattle.minijinja_tree.specs.Comparisons.{compares}
 use Rattle.minijinja_tree.specs.Folding.{fold, if_some, fold_on, fold_keywords}
-use Rattle.minijinja_code.specs.Events.{PerformTest, Lookup, GetItem, Slice, Div, ApplyFilter, CallFunction, CallMethod, CallObject, MergeKwargs, UnpackLists, BeginCapture, EndCapture, CallBlock, FastSuper, FastRecurse, Emit, Capture, Answer, Values, OperatorFault, event, next, choose, operated, fitted, answered, ask}
-use Rattle.minijinja_code.specs.Meaning.{keyword_map, spread, if_on, stmt}
-use Rattle.minijinja_code.specs.Machine.{State, At, Halted, after, run, step, asked, did, built, popped, popped_by, popped_counted, popped_pairs}
-use Rattle.minijinja_code.specs.Code.{Instr, Load, Do, Call, Apply, Operate, CompareAndPreserve, BuildMap, BuildKwargs, BuildList, DiscardTop, Swap, Jump, JumpIfFalse, JumpIfFalseOrPop}
-use Rattle.minijinja_code.specs.Pieces.{start, id_of, noted}
-use Rattle.minijinja_code.specs.Layout.{folded, merged, map_count, spreading, counted, expr_code, stmt_code}
-use Rattle.minijinja_code.proofs.Samples.{Value, WrongOperand, Wrong, Truth, Words, ListOf, KeywordsOf, Nothing, Silent, end, and, end_of_map, entry, sample, number}
+use Rattle.minijinja_meaning.specs.Events.{PerformTest, Lookup, GetItem, Slice, Div, ApplyFilter, CallFunction, CallMethod, CallObject, MergeKwargs, UnpackLists, BeginCapture, EndCapture, CallBlock, FastSuper, FastRecurse, Emit, Capture, Answer, Values, OperatorFault, event, next, choose, operated, fitted, answered, ask}
+use Rattle.minijinja_meaning.specs.Meaning.{keyword_map, spread, if_on, stmt}
+use Rattle.minijinja_meaning.specs.Machine.{State, At, Halted, after, run, step, asked, did, built, popped, popped_by, popped_counted, popped_pairs}
+use Rattle.minijinja_meaning.specs.Code.{Instr, Load, Do, Call, Apply, Operate, CompareAndPreserve, BuildMap, BuildKwargs, BuildList, DiscardTop, Swap, Jump, JumpIfFalse, JumpIfFalseOrPop}
+use Rattle.minijinja_meaning.specs.Pieces.{start, id_of, noted}
+use Rattle.minijinja_meaning.specs.Layout.{folded, merged, map_count, spreading, counted, expr_code, stmt_code}
+use Rattle.minijinja_meaning.proofs.Samples.{Value, WrongOperand, Wrong, Truth, Words, ListOf, KeywordsOf, Nothing, Silent, end, and, end_of_map, entry, sample, number}
 
 -- a variable
 abbrev name : Text → Expr Value

@@ -2,19 +2,20 @@
 use Rattle.std.proofs.Common.{◌≡◌, ℕ, zero, suc, ◌+◌, List, [], ◌∷◌, ◌++◌, length, Option, Some, None, refl, sym, ap, ◌∙◌, subst, arith, length-append}
 use Rattle.minijinja_syntax.specs.Texts.{Text}
 use Rattle.minijinja_value.specs.Values.{Functions}
-use Rattle.minijinja_code.specs.Laws.{Laws}
+use Rattle.minijinja_meaning.specs.Laws.{Laws}
 use Rattle.minijinja_tree.specs.Tree.{Expr, Args, no_args, pos, pos_splat, kwarg, kwarg_splat}
 use Rattle.minijinja_tree.specs.Folding.{if_some, constant_node, constant_keywords, fold_keywords}
-use Rattle.minijinja_code.specs.Events.{MergeKwargs, UnpackLists, next, give}
-use Rattle.minijinja_code.specs.Meaning.{Taken, nothing_yet, with_one, completed, with_batch, keyword_map, spread, arguments as arguments_meaning, positional as positional_meaning, keyword as keyword_meaning}
-use Rattle.minijinja_code.specs.Code.{Instr, BuildKwargs, BuildList}
-use Rattle.minijinja_code.specs.Pieces.{Piece, ◌▸◌}
-use Rattle.minijinja_code.specs.Layout.{folded, Count, batch_count, count_one, count_batch, count_positional, count_keyword, count_all, list_batch, map_batch, merged, map_count, spreading, counted, arguments}
-use Rattle.minijinja_code.specs.Machine.{pushed, popped, popped_pairs, popped_by, popped_counted, built}
-use Rattle.minijinja_code.proofs.Runs.{pops, append_nil, Any, IsCounted}
-use Rattle.minijinja_code.proofs.Lengths.{Exact, one_exact, then_exact, folded_exact, batch_exact, merged_exact, spreading_exact}
-use Rattle.minijinja_code.proofs.Parts.{does, Simulates, sim_then, sim_before, sim_from, sim_same, sim_give, sim_assoc, sim_nothing, sim_plain, sim_get, sim_get_all}
-use Rattle.minijinja_code.proofs.Folds.{keywords_fold}
+use Rattle.minijinja_meaning.specs.Events.{MergeKwargs, UnpackLists, next, give}
+use Rattle.minijinja_meaning.specs.Meaning.{Taken, nothing_yet, with_one, completed, with_batch, keyword_map, spread, arguments as arguments_meaning, positional as positional_meaning, keyword as keyword_meaning}
+use Rattle.minijinja_meaning.specs.Code.{Instr, BuildKwargs, BuildList}
+use Rattle.minijinja_meaning.specs.Pieces.{Piece, ◌▸◌}
+use Rattle.minijinja_meaning.specs.Layout.{folded, Count, batch_count, count_one, count_batch, count_positional, count_keyword, count_all, list_batch, map_batch, merged, map_count, spreading, counted, arguments}
+use Rattle.minijinja_meaning.specs.Machine.{pushed, popped, popped_pairs, popped_by, popped_counted, built}
+use Rattle.minijinja_meaning.proofs.Placed.{Stretch}
+use Rattle.minijinja_meaning.proofs.Runs.{pops, append_nil, Any, IsCounted}
+use Rattle.minijinja_meaning.proofs.Lengths.{Exact, one_exact, then_exact, folded_exact, batch_exact, merged_exact, spreading_exact}
+use Rattle.minijinja_meaning.proofs.Parts.{does, Simulates, sim_then, sim_before, sim_from, sim_same, sim_give, sim_assoc, sim_nothing, sim_plain, sim_get, sim_get_all}
+use Rattle.minijinja_meaning.proofs.Folds.{keywords_fold}
 
 module _ {C : Type 0} where
   pub pushed_append : (a b ops : List C) → pushed (a ++ b) ops ≡ pushed b (pushed a ops)
@@ -91,22 +92,22 @@ module _ {C : Type 0} where
   unfolding popped_counted
   counted_pops f n vs ops e = ap (λ m. popped m (pushed vs ops) []) (sym e) ∙ pops vs ops
 
-module _ {C F : Type 0} {f : Functions C F} {code : List (Instr C)} {end : ℕ} where
-  pub list_batch_sim : (vs : List C) (n : ℕ) (ops : List C) → length vs ≡ n → Simulates f code end (list_batch n) (pushed vs ops) Any (λ _. pushed (completed f.list vs) ops) (give {X = Unit {0}} tt)
+module _ {C F : Type 0} {f : Functions C F} {code : List (Instr C)} {to : Stretch} where
+  pub list_batch_sim : (vs : List C) (n : ℕ) (ops : List C) → length vs ≡ n → Simulates f code to (list_batch n) (pushed vs ops) Any (λ _. pushed (completed f.list vs) ops) (give {X = Unit {0}} tt)
   unfolding built
   list_batch_sim [] zero ops e = sim_nothing tt tt
   list_batch_sim [] (suc n) ops e = absurd (omega arith)
   list_batch_sim (v ∷ vs) zero ops e = absurd (omega arith)
   list_batch_sim (v ∷ vs) (suc n) ops e = sim_plain tt (λ p ls w. ap (λ a. built f.list p a ls w) (counted_pops f (suc n) (v ∷ vs) ops e)) tt
 
-  pub map_batch_sim : (ps : List (C × C)) (n : ℕ) (ops : List C) → length ps ≡ n → Simulates f code end (map_batch n) (pushed_pairs ps ops) Any (λ _. pushed (completed f.kwargs ps) ops) (give {X = Unit {0}} tt)
+  pub map_batch_sim : (ps : List (C × C)) (n : ℕ) (ops : List C) → length ps ≡ n → Simulates f code to (map_batch n) (pushed_pairs ps ops) Any (λ _. pushed (completed f.kwargs ps) ops) (give {X = Unit {0}} tt)
   unfolding built
   map_batch_sim [] zero ops e = sim_nothing tt tt
   map_batch_sim [] (suc n) ops e = absurd (omega arith)
   map_batch_sim (p ∷ ps) zero ops e = absurd (omega arith)
   map_batch_sim (p ∷ ps) (suc n) ops e = sim_plain tt (λ q ls w. ap (λ a. built f.kwargs q a ls w) (pops_pairs (suc n) (p ∷ ps) ops e)) tt
 
-  pub merged_sim : (bs : List C) (ps : List (C × C)) (b n : ℕ) (ops : List C) → length bs ≡ b → length ps ≡ n → Simulates f code end (merged b n) (pushed_pairs ps (pushed bs ops)) (λ m. length m ≡ map_count b n) (λ m. pushed m ops) (keyword_map f bs ps)
+  pub merged_sim : (bs : List C) (ps : List (C × C)) (b n : ℕ) (ops : List C) → length bs ≡ b → length ps ≡ n → Simulates f code to (merged b n) (pushed_pairs ps (pushed bs ops)) (λ m. length m ≡ map_count b n) (λ m. pushed m ops) (keyword_map f bs ps)
   unfolding merged map_count keyword_map built
   merged_sim [] [] zero zero ops e e' = sim_nothing [] refl
   merged_sim [] [] zero (suc n) ops e e' = absurd (omega arith)
@@ -138,8 +139,8 @@ module _ {C F : Type 0} (f : Functions C F) where
   ready_pops laws zero n vs ops e = counted_pops f n vs ops e
   ready_pops laws (suc b) n vs ops e = ap (λ m. popped_by m (pushed vs ops)) (laws.count (length vs) e) ∙ pops vs ops
 
-module _ {C F : Type 0} {f : Functions C F} {code : List (Instr C)} {end : ℕ} where
-  pub spreading_sim : (bs vs : List C) (b n : ℕ) (ops : List C) → length bs ≡ b → length vs ≡ n → Simulates f code end (spreading b n) (pushed vs (pushed bs ops)) (IsReady b n) (λ us. ready f b us ops) (spread f bs vs)
+module _ {C F : Type 0} {f : Functions C F} {code : List (Instr C)} {to : Stretch} where
+  pub spreading_sim : (bs vs : List C) (b n : ℕ) (ops : List C) → length bs ≡ b → length vs ≡ n → Simulates f code to (spreading b n) (pushed vs (pushed bs ops)) (IsReady b n) (λ us. ready f b us ops) (spread f bs vs)
   unfolding spreading spread
   spreading_sim [] vs zero n ops e e' = sim_nothing vs e'
   spreading_sim [] vs (suc b) n ops e e' = absurd (omega arith)
@@ -183,25 +184,25 @@ module _ {C F : Type 0} (f : Functions C F) where
   one_map zero (suc n) m e e' = refl
   one_map (suc b) n m e e' = absurd (omega arith)
 
-module _ {C F : Type 0} {f : Functions C F} {code : List (Instr C)} {end : ℕ} where
-  merge_sim : (args : Args C) (ops : List C) (p : Piece C) → Exact p → ((ops : List C) → Simulates f code end p ops (Matches (count_keyword args none_counted)) (λ k. laid_pairs k ops) (keyword_meaning f args nothing_yet)) → Simulates f code end (p ▸ merged (count_keyword args none_counted).batches (count_keyword args none_counted).waiting) ops (λ m. length m ≡ map_count (count_keyword args none_counted).batches (count_keyword args none_counted).waiting) (λ m. pushed m ops) (λ w. next (keyword_meaning f args nothing_yet w) (λ k. keyword_map f k.batches k.waiting))
+module _ {C F : Type 0} {f : Functions C F} {code : List (Instr C)} {to : Stretch} where
+  merge_sim : (args : Args C) (ops : List C) (p : Piece C) → Exact p → ((ops : List C) → Simulates f code to p ops (Matches (count_keyword args none_counted)) (λ k. laid_pairs k ops) (keyword_meaning f args nothing_yet)) → Simulates f code to (p ▸ merged (count_keyword args none_counted).batches (count_keyword args none_counted).waiting) ops (λ m. length m ≡ map_count (count_keyword args none_counted).batches (count_keyword args none_counted).waiting) (λ m. pushed m ops) (λ w. next (keyword_meaning f args nothing_yet w) (λ k. keyword_map f k.batches k.waiting))
   merge_sim args ops p e s =
       let c : Count = count_keyword args none_counted in
       sim_then e (merged_exact c.batches c.waiting) (s ops) (λ k m. merged_sim k.batches k.waiting c.batches c.waiting ops m.batches m.waiting)
 
   -- the keyword arguments, as their map
-  keywords_sim : (args : Args C) (ops : List C) (p : Piece C) (r : Option (List (C × C))) → constant_keywords f args ≡ r → Exact p → ((ops : List C) → Simulates f code end p ops (Matches (count_keyword args none_counted)) (λ k. laid_pairs k ops) (keyword_meaning f args nothing_yet)) → Simulates f code end (folded (fold_keywords f r) (p ▸ merged (count_keyword args none_counted).batches (count_keyword args none_counted).waiting)) ops (λ m. length m ≡ map_count (count_keyword args none_counted).batches (count_keyword args none_counted).waiting) (λ m. pushed m ops) (λ w. next (keyword_meaning f args nothing_yet w) (λ k. keyword_map f k.batches k.waiting))
+  keywords_sim : (args : Args C) (ops : List C) (p : Piece C) (r : Option (List (C × C))) → constant_keywords f args ≡ r → Exact p → ((ops : List C) → Simulates f code to p ops (Matches (count_keyword args none_counted)) (λ k. laid_pairs k ops) (keyword_meaning f args nothing_yet)) → Simulates f code to (folded (fold_keywords f r) (p ▸ merged (count_keyword args none_counted).batches (count_keyword args none_counted).waiting)) ops (λ m. length m ≡ map_count (count_keyword args none_counted).batches (count_keyword args none_counted).waiting) (λ m. pushed m ops) (λ w. next (keyword_meaning f args nothing_yet w) (λ k. keyword_map f k.batches k.waiting))
   unfolding folded fold_keywords keyword_map next
   keywords_sim args ops p None same e s = merge_sim args ops p e s
   keywords_sim args ops p (Some []) same e s = merge_sim args ops p e s
   keywords_sim args ops p (Some (c ∷ cs)) same e s =
       let counted = subst (λ o. AllCounted o (count_keyword args)) same (all_counted f args) none_counted in
       let one = one_map f (count_keyword args none_counted).batches (count_keyword args none_counted).waiting (length cs) counted.0 (omega (arith, counted.1)) in
-      sim_same (λ w. ap (λ d. next d (λ k. keyword_map f k.batches k.waiting)) (sym (keywords_fold f args (c ∷ cs) same w)))
+      sim_same (λ w. ap (λ d. next d (λ k. keyword_map f k.batches k.waiting)) (sym (keywords_fold ℕ f args (c ∷ cs) same w)))
       (sim_plain (f.kwargs (c ∷ cs) ∷ []) (λ q ls w. refl) one)
 
   -- All the arguments of a call, after the operands that stand before them: they are ready.
-  pub arguments_sim : (args : Args C) (before : List C) (n : ℕ) (ops : List C) (p q : Piece C) → Exact p → Exact q → Simulates f code end p (pushed before ops) (Matches (count_positional args (record { batches = 0; waiting = n }))) (λ t. laid t ops) (positional_meaning f args (record { batches = []; waiting = before })) → ((ops : List C) → Simulates f code end q ops (Matches (count_keyword args none_counted)) (λ k. laid_pairs k ops) (keyword_meaning f args nothing_yet)) → Simulates f code end (arguments f args n p q) (pushed before ops) (IsReady (count_all args n).batches (count_all args n).waiting) (λ us. ready f (count_all args n).batches us ops) (arguments_meaning f (positional_meaning f args (record { batches = []; waiting = before })) (keyword_meaning f args nothing_yet))
+  pub arguments_sim : (args : Args C) (before : List C) (n : ℕ) (ops : List C) (p q : Piece C) → Exact p → Exact q → Simulates f code to p (pushed before ops) (Matches (count_positional args (record { batches = 0; waiting = n }))) (λ t. laid t ops) (positional_meaning f args (record { batches = []; waiting = before })) → ((ops : List C) → Simulates f code to q ops (Matches (count_keyword args none_counted)) (λ k. laid_pairs k ops) (keyword_meaning f args nothing_yet)) → Simulates f code to (arguments f args n p q) (pushed before ops) (IsReady (count_all args n).batches (count_all args n).waiting) (λ us. ready f (count_all args n).batches us ops) (arguments_meaning f (positional_meaning f args (record { batches = []; waiting = before })) (keyword_meaning f args nothing_yet))
   arguments_sim args before n ops p q e e' s s' =
       let c : Count = count_positional args (record { batches = 0; waiting = n }) in
       let k : Count = count_keyword args none_counted in

@@ -1,0 +1,59 @@
+-- The code does what the tree means.
+use Rattle.std.specs.Prelude.{◌≡◌, ℕ, ◌+◌, ◌*◌, ◌≤◌, List, [], ◌∷◌, ◌++◌, length, Bool}
+use Rattle.minijinja_value.specs.Values.{Functions}
+use Rattle.minijinja_tree.specs.Tree.{Expr, Stmt}
+use Rattle.minijinja_meaning.specs.Events.{Event, Answer, World, Did, Gave, Ended, Means}
+use Rattle.minijinja_meaning.specs.Answers.{AreFew}
+use Rattle.minijinja_meaning.specs.Meaning.{expr, stmt, Signal}
+use Rattle.minijinja_meaning.specs.Code.{Instr}
+use Rattle.minijinja_meaning.specs.Machine.{State, At, Halted, Finish, AtPlace, finished, run, Asked, traced}
+use Rattle.minijinja_meaning.specs.Naming.{state_as, event_of}
+use Rattle.minijinja_meaning.specs.Brackets.{IsBalanced}
+
+-- nothing has happened yet
+abbrev pub fresh : {E C : Type 0} → List (Answer C) → World E C
+fresh answers = record { record_so_far = []; answers = answers }
+
+-- A unit of code, which may be entered by itself: at a place, with these operands; it is over there, and of what it gives it
+-- leaves these operands in place of those.
+pub record Entry (C X : Type 0) : Type 0 where
+  pub place : ℕ
+  pub given : List C
+  pub finish : Finish
+  pub leaves : X → List C
+
+-- how a run is over that means this: finished, with what the unit leaves on the operands below and the loops as they stood, or
+-- ended likewise
+abbrev pub over : {E C F X : Type 0} → Entry C X → (below : List C) (loops : List Bool) → Did E C F X → State E C F
+over u below loops (Gave w x) = finished u.finish (u.leaves x ++ below) loops w
+over u below loops (Ended w e) = Halted w e
+
+-- The code, entered at the unit over these operands and open loops, is over as the meaning with these answers is: with the same
+-- record, the same answers left and the same ending, within (answers + 1) * (code length + 1) steps; and its record is balanced.
+pub record DoesFrom {C F X : Type 0} (f : Functions C F) (code : List (Instr C)) (u : Entry C X) (meaning : Did (Event ℕ C) C F X) (below : List C) (loops : List Bool) (answers : List (Answer C)) : Type 0 where
+  pub steps : ℕ
+  pub within : steps ≤ (length answers + 1) * (length code + 1)
+  pub ends : (k : ℕ) → steps ≤ k → state_as event_of (run f traced code u.finish k (At u.place (u.given ++ below) loops (fresh answers))) ≡ over u below loops meaning
+  pub balanced : IsBalanced meaning
+
+-- whatever lies below and whatever is answered
+abbrev pub Does : {C F X : Type 0} → Functions C F → List (Instr C) → Entry C X → Means ℕ C F X → Type 0
+Does {C} {F} f code u meaning =
+    (below : List C) (loops : List Bool) (answers : List (Answer C)) → AreFew answers →
+    DoesFrom f code u (meaning (fresh answers)) below loops answers
+
+-- the code of a statement, from place to place, leaves nothing
+abbrev pub a_statement : {C : Type 0} → (start end : ℕ) → Entry C Signal
+a_statement start end = record { place = start; given = []; finish = AtPlace end; leaves = λ g. [] }
+
+-- that of an expression leaves its value
+abbrev pub an_expression : {C : Type 0} → (start end : ℕ) → Entry C C
+an_expression start end = record { place = start; given = []; finish = AtPlace end; leaves = λ v. v ∷ [] }
+
+-- the code between these places does what the statement means
+abbrev pub DoesStmt : {C F : Type 0} → Functions C F → List (Instr C) → (start end : ℕ) → Stmt C → Type 0
+DoesStmt f code start end t = Does f code (a_statement start end) (stmt f t)
+
+-- likewise an expression
+abbrev pub DoesExpr : {C F : Type 0} → Functions C F → List (Instr C) → (start end : ℕ) → Expr C → Type 0
+DoesExpr f code start end e = Does f code (an_expression start end) (expr f e)

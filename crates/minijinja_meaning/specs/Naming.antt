@@ -1,0 +1,33 @@
+-- The same run, seen otherwise: with other names of nodes, or without the places of the instructions that asked.
+use Rattle.std.specs.Prelude.{ℕ, List, map}
+use Rattle.std.specs.Option.{option_map}
+use Rattle.minijinja_meaning.specs.Events.{Event, Answer, World, Did, Gave, Ended}
+use Rattle.minijinja_meaning.specs.Machine.{State, At, Returned, Halted, Jammed, Asked}
+
+-- a record whose events are seen so
+abbrev pub record_as : {E E' C : Type 0} → (E → E') → List (E × Answer C) → List (E' × Answer C)
+record_as g = map (λ a. (g a.0, a.1))
+
+-- a world
+abbrev pub world_as : {E E' C : Type 0} → (E → E') → World E C → World E' C
+world_as g w = record { record_so_far = record_as g w.record_so_far; answers = w.answers }
+
+-- what a piece came to
+abbrev pub did_as : {E E' C F X : Type 0} → (E → E') → Did E C F X → Did E' C F X
+did_as g (Gave w x) = Gave (world_as g w) x
+did_as g (Ended w e) = Ended (world_as g w) e
+
+-- a state of the machine
+abbrev pub state_as : {E E' C F : Type 0} → (E → E') → State E C F → State E' C F
+state_as g (At p ops ls w) = At p ops ls (world_as g w)
+state_as g (Returned ops ls w) = Returned ops ls (world_as g w)
+state_as g (Halted w e) = Halted (world_as g w) e
+state_as g Jammed = Jammed
+
+-- an event whose node has another name
+abbrev pub renamed : {N M C : Type 0} → (N → M) → Event N C → Event M C
+renamed g e = record { kind = e.kind; text = e.text; operands = e.operands; node = option_map g e.node }
+
+-- the event alone
+abbrev pub event_of : {C : Type 0} → Asked C → Event ℕ C
+event_of a = a.event
