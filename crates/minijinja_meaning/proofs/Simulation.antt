@@ -10,6 +10,7 @@ use Rattle.minijinja_tree.specs.Comparisons.{compares}
 use Rattle.minijinja_tree.specs.Tree.{UnaryOp, logical_not, negation, Expr, variable, constant, slice, unary, binary, compare, if_expr, filter, test, attribute, item, call, list, tuple, map, Optional, absent, present, Exprs, no_more, more, Comparisons, compared, against, Args, no_args, pos, pos_splat, kwarg, kwarg_splat}
 use Rattle.minijinja_tree.specs.WellFormed.{expr_count, IsWhole, IsWholeIfAny, AreWhole, IsChain, AreCompared, AreArguments}
 use Rattle.minijinja_meaning.specs.Events.{Kind, Lookup, GetAttr, GetItem, Slice, Div, ApplyFilter, PerformTest, CallFunction, CallMethod, CallObject, BeginCapture, EndCapture, CallBlock, Capture, next, give, operated, get}
+use Rattle.minijinja_meaning.specs.FilterChains.{IsChainOfFilters, fed}
 use Rattle.minijinja_tree.specs.Callees.{Callee, function, method, block, object, callee}
 use Rattle.minijinja_tree.specs.Folding.{fold}
 use Rattle.minijinja_meaning.specs.Meaning.{operate_one, operate, Taken, nothing_yet, with_one, with_batch, call_of as call_meaning, expr as expr_meaning, base as base_meaning, optional as optional_meaning, items as items_meaning, each as each_meaning, chain as chain_meaning, positional as positional_meaning, keyword as keyword_meaning, arguments as arguments_meaning}
@@ -19,7 +20,7 @@ use Rattle.minijinja_meaning.specs.Layout.{list_batch, map_batch, unary_instr, o
 use Rattle.minijinja_meaning.specs.Machine.{pushed, asked, built, size, OneValue}
 use Rattle.minijinja_meaning.proofs.Placed.{Act, bare, Stretch}
 use Rattle.minijinja_meaning.proofs.Runs.{Any, first, gets_one}
-use Rattle.minijinja_meaning.proofs.Lengths.{Exact, one_exact, then_exact, branches_exact, batch_exact, filter_exact, test_exact, operation_exact, comparison_exact, paired_exact, arguments_exact, expr_exact, base_exact, optional_exact, items_exact, each_exact, chain_exact, comparisons_exact, positional_exact, keyword_exact}
+use Rattle.minijinja_meaning.proofs.Lengths.{Exact, nothing_exact, one_exact, then_exact, branches_exact, batch_exact, filter_exact, test_exact, operation_exact, comparison_exact, paired_exact, arguments_exact, expr_exact, base_exact, optional_exact, items_exact, each_exact, chain_exact, comparisons_exact, positional_exact, keyword_exact}
 use Rattle.minijinja_meaning.proofs.Folds.{expr_folds}
 use Rattle.minijinja_meaning.proofs.Parts.{Simulates, sim_then, sim_before, sim_from, sim_give, sim_nothing, sim_plain, sim_load, sim_operator, sim_get, sim_do_get, sim_do_tell, sim_either, sim_folded, sim_branches, sim_if_true, sim_if_false}
 use Rattle.minijinja_meaning.proofs.Arguments.{Matches, matches_one, matches_batch, pushed_pairs, laid, laid_pairs, laid_one, laid_pair, laid_batch, laid_map, counted_pops, pops_pairs, list_batch_sim, map_batch_sim, IsReady, ready, ready_pops, none_counted, arguments_sim}
@@ -96,10 +97,10 @@ module _ {C F : Type 0} (f : Functions C F) (laws : Laws f) (code : List (Instr 
       sim_before (batch_exact BuildKwargs c.waiting) (then_exact e e') (map_batch_sim t.waiting c.waiting (pushed t.batches ops) is.waiting)
       (sim_then e e' (s _) (λ v _. sim_from (laid_map f.kwargs v t ops) (k (with_batch f.kwargs v t) (matches_batch f.kwargs v is))))
 
-  -- After an operand that is there.
-  on_operand : (args : Args C) (ops : List C) {p q : Piece C} {m : Act C F C} {n : List C → Act C F C} → Exact p → Exact q → GivesValue p m → Positional args → Keyword args → ((vs : List C) → IsReady (count_all args 1).batches (count_all args 1).waiting vs → Simulates f code to q (ready f (count_all args 1).batches vs ops) Any (λ v. v ∷ ops) (n vs)) → Simulates f code to (p ▸ given args 1 ▸ q) ops Any (λ v. v ∷ ops) (λ w. next (m w) (λ v w. next (arguments_meaning f (positional_meaning f args (with_one v nothing_yet)) (keyword_meaning f args nothing_yet) w) n))
-  on_operand args ops e e' s s' s'' k =
-      sim_then e (then_exact (given_exact args 1) e') (s ops) λ v _.
+  -- the same after an operand
+  on_operand : (args : Args C) (before ops : List C) {p q : Piece C} {m : Act C F C} {n : List C → Act C F C} → Exact p → Exact q → Simulates f code to p before Any (λ v. v ∷ ops) m → Positional args → Keyword args → ((vs : List C) → IsReady (count_all args 1).batches (count_all args 1).waiting vs → Simulates f code to q (ready f (count_all args 1).batches vs ops) Any (λ v. v ∷ ops) (n vs)) → Simulates f code to (p ▸ given args 1 ▸ q) before Any (λ v. v ∷ ops) (λ w. next (m w) (λ v w. next (arguments_meaning f (positional_meaning f args (with_one v nothing_yet)) (keyword_meaning f args nothing_yet) w) n))
+  on_operand args before ops e e' s s' s'' k =
+      sim_then e (then_exact (given_exact args 1) e') s λ v _.
       call_then args (v ∷ []) 1 ops refl e' s' s'' k
 
   -- a list, a tuple and a map of what is there
@@ -129,9 +130,9 @@ module _ {C F : Type 0} (f : Functions C F) (laws : Laws f) (code : List (Instr 
       sim_then (one_exact _) (one_exact _) (sim_do_tell CallBlock x [] ops refl) λ _ _.
       sim_do_get EndCapture [] [] ops refl
   called_sim (method e x) args ops eb ev sb sv p k =
-      on_operand args ops eb (one_exact _) sb p k (λ vs ok. call_sim CallMethod x (count_all args 1).batches (count_all args 1).waiting vs ops ok refl)
+      on_operand args ops ops eb (one_exact _) (sb ops) p k (λ vs ok. call_sim CallMethod x (count_all args 1).batches (count_all args 1).waiting vs ops ok refl)
   called_sim (object e) args ops eb ev sb sv p k =
-      on_operand args ops ev (one_exact _) sv p k (λ vs ok. call_sim CallObject [] (count_all args 1).batches (count_all args 1).waiting vs ops ok refl)
+      on_operand args ops ops ev (one_exact _) (sv ops) p k (λ vs ok. call_sim CallObject [] (count_all args 1).batches (count_all args 1).waiting vs ops ok refl)
 
   mutual
     pub expr_sim : (e : Expr C) → IsWhole e → GivesValue (expr f e) (expr_meaning f e)
@@ -159,10 +160,10 @@ module _ {C F : Type 0} (f : Functions C F) (laws : Laws f) (code : List (Instr 
         sim_branches v (expr_exact f a) (optional_exact f f.silent_undefined b) (expr_sim a is.1 ops) (optional_sim f.silent_undefined b is.2 ops)
     expr_sim (filter absent x args) is ops = absurd is
     expr_sim (filter (present e) x args) is ops =
-        on_operand args ops (expr_exact f e) (filter_exact x _) (expr_sim e is.0) (positional_sim args is.1) (keyword_sim args is.1)
+        on_operand args ops ops (expr_exact f e) (filter_exact x _) (expr_sim e is.0 ops) (positional_sim args is.1) (keyword_sim args is.1)
         (λ vs ok. filter_sim x (count_all args 1).batches (count_all args 1).waiting vs ops ok)
     expr_sim (test e x args) is ops =
-        on_operand args ops (expr_exact f e) (test_exact x _) (expr_sim e is.0) (positional_sim args is.1) (keyword_sim args is.1)
+        on_operand args ops ops (expr_exact f e) (test_exact x _) (expr_sim e is.0 ops) (positional_sim args is.1) (keyword_sim args is.1)
         (λ vs ok. test_sim x (count_all args 1).batches (count_all args 1).waiting vs ops ok)
     expr_sim (attribute e x) is ops = sim_then (expr_exact f e) (one_exact _) (expr_sim e is ops) (λ v _. sim_do_get GetAttr x (v ∷ []) ops refl)
     expr_sim (item e k) is ops =
@@ -222,3 +223,13 @@ module _ {C F : Type 0} (f : Functions C F) (laws : Laws f) (code : List (Instr 
     keyword_sim (pos_splat e args) is t c ops ok = keyword_sim args is.1 t c ops ok
     keyword_sim (kwarg x e args) is t c ops ok = take_pair (f.of_str x) t c ops ok (expr_exact f e) (keyword_exact f args (suc c.waiting)) (expr_sim e is.0) (λ u ok'. keyword_sim args is.1 u (count_one c) ops ok')
     keyword_sim (kwarg_splat e args) is t c ops ok = take_map t c ops ok (expr_exact f e) (keyword_exact f args 0) (expr_sim e is.0) (λ u ok'. keyword_sim args is.1 u (count_batch c) ops ok')
+
+  -- the code of a chain of filters finds the operand of its innermost one on top
+  pub chain_of_filters_sim : (e : Expr C) (v : C) (ops : List C) → IsChainOfFilters e → Simulates f code to (expr f e) (v ∷ ops) Any (λ u. u ∷ ops) (expr_meaning f (fed v e))
+  chain_of_filters_sim (filter absent x args) v ops is =
+      on_operand args (v ∷ ops) ops nothing_exact (filter_exact x _) (sim_nothing v tt) (positional_sim args is.0) (keyword_sim args is.0)
+      (λ vs ok. filter_sim x (count_all args 1).batches (count_all args 1).waiting vs ops ok)
+  chain_of_filters_sim (filter (present e) x args) v ops is =
+      on_operand args (v ∷ ops) ops (expr_exact f e) (filter_exact x _) (chain_of_filters_sim e v ops is.0) (positional_sim args is.1) (keyword_sim args is.1)
+      (λ vs ok. filter_sim x (count_all args 1).batches (count_all args 1).waiting vs ops ok)
+  chain_of_filters_sim e v ops is = absurd is

@@ -6,15 +6,16 @@ use Rattle.minijinja_value.specs.Values.{Functions}
 use Rattle.minijinja_meaning.specs.Laws.{Laws}
 use Rattle.minijinja_tree.specs.Tree.{Expr, variable, call, Args, no_args, pos, Stmt, template, data_text, output, assignment, Stmts, done, also}
 use Rattle.minijinja_tree.specs.WellFormed.{IsWhole, AreArguments, IsTarget, IsInner, AreInner, IsWellFormed}
-use Rattle.minijinja_meaning.specs.Events.{EmitRaw, Emit, StoreLocal, CallBlock, FastSuper, FastRecurse, Act}
+use Rattle.minijinja_meaning.specs.Events.{EmitRaw, Emit, StoreLocal, CallBlock, FastSuper, FastRecurse}
 use Rattle.minijinja_tree.specs.Callees.{Callee, function, block, method, object, callee}
 use Rattle.minijinja_meaning.specs.Calls.{Written, Super, Recursion, BlockOf, Plain, written_super, written_loop, written_function, written_call, written}
 use Rattle.minijinja_meaning.specs.Meaning.{Signal, On, Broke, Continued, if_on, assign, write as write_meaning, stmt as stmt_meaning, stmts as stmts_meaning}
 use Rattle.minijinja_meaning.specs.Code.{Instr}
-use Rattle.minijinja_meaning.specs.Pieces.{Piece}
+use Rattle.minijinja_meaning.specs.Pieces.{Piece, Leading, Exits, Open, leading_to}
 use Rattle.minijinja_meaning.specs.Layout.{target, write, stmt, stmts}
+use Rattle.minijinja_meaning.proofs.Placed.{Act, Stretch}
 use Rattle.minijinja_meaning.proofs.Runs.{Any}
-use Rattle.minijinja_meaning.proofs.Lengths.{Exact, one_exact, expr_exact, target_exact, stmt_exact, stmts_exact}
+use Rattle.minijinja_meaning.proofs.Lengths.{Exact, exact_to, one_exact, expr_exact, target_exact, stmt_exact, stmts_exact}
 use Rattle.minijinja_meaning.proofs.Parts.{Simulates, sim_then, sim_give, sim_nothing, sim_do_tell}
 use Rattle.minijinja_meaning.proofs.Simulation.{expr_sim}
 
@@ -52,40 +53,40 @@ written_whole e is = tt
 abbrev GoesOn : Signal → Type 0
 GoesOn g = g ≡ On
 
-module _ {C F : Type 0} (f : Functions C F) (laws : Laws f) (code : List (Instr C)) (end : ℕ) where
-  -- a statement leaves the operands as they stood, and goes on
-  abbrev pub Leaves : Piece C → Act C F Signal → Type 0
-  Leaves p m = (ops : List C) → Simulates f code end p ops GoesOn (λ _. ops) m
+module _ {C F : Type 0} (f : Functions C F) (laws : Laws f) (code : List (Instr C)) (to : Stretch) where
+  -- a statement leaves the operands as they stood, and goes on, whatever its loop's exits
+  abbrev pub Leaves : Leading Exits C → Act C F Signal → Type 0
+  Leaves p m = (x : Exits) (ops : List C) → Simulates f code to (leading_to x p) ops GoesOn (λ _. ops) m
 
-  assign_sim : (e : Expr C) (v : C) (ops : List C) → IsTarget e → Simulates f code end (target e) (v ∷ ops) GoesOn (λ _. ops) (assign e v)
+  assign_sim : (e : Expr C) (v : C) (ops : List C) → IsTarget e → Simulates f code to (target e) (v ∷ ops) GoesOn (λ _. ops) (assign e v)
   assign_sim (variable x) v ops is = sim_give (λ _. On) (λ _ _. refl) (sim_do_tell StoreLocal x (v ∷ []) ops refl)
   assign_sim e v ops is = absurd is
 
-  write_sim : (o : Written C) (ops : List C) {p : Piece C} {m : Act C F C} → WrittenWhole o → Exact p → ((ops : List C) → Simulates f code end p ops Any (λ v. v ∷ ops) m) → Simulates f code end (write f o p) ops GoesOn (λ _. ops) (write_meaning f o m)
+  write_sim : (o : Written C) (ops : List C) {p : Piece C} {m : Act C F C} → WrittenWhole o → Exact p → ((ops : List C) → Simulates f code to p ops Any (λ v. v ∷ ops) m) → Simulates f code to (write f o p) ops GoesOn (λ _. ops) (write_meaning f o m)
   write_sim Super ops is e s = sim_give (λ _. On) (λ _ _. refl) (sim_do_tell FastSuper [] [] ops refl)
-  write_sim (Recursion a) ops is e s = sim_then (expr_exact f a) (one_exact _) (expr_sim f laws code end a is ops) (λ v _. sim_give (λ _. On) (λ _ _. refl) (sim_do_tell FastRecurse [] (v ∷ []) ops refl))
+  write_sim (Recursion a) ops is e s = sim_then (expr_exact f a) (one_exact _) (expr_sim f laws code to a is ops) (λ v _. sim_give (λ _. On) (λ _ _. refl) (sim_do_tell FastRecurse [] (v ∷ []) ops refl))
   write_sim (BlockOf x) ops is e s = sim_give (λ _. On) (λ _ _. refl) (sim_do_tell CallBlock x [] ops refl)
   write_sim Plain ops is e s = sim_then e (one_exact _) (s ops) (λ v _. sim_give (λ _. On) (λ _ _. refl) (sim_do_tell Emit [] (v ∷ []) ops refl))
 
-  on_sim : {p : Piece C} {ops : List C} {m : Act C F Signal} (g : Signal) → GoesOn g → Simulates f code end p ops GoesOn (λ _. ops) m → Simulates f code end p ops GoesOn (λ _. ops) (if_on g m)
+  on_sim : {p : Piece C} {ops : List C} {m : Act C F Signal} (g : Signal) → GoesOn g → Simulates f code to p ops GoesOn (λ _. ops) m → Simulates f code to p ops GoesOn (λ _. ops) (if_on g m)
   unfolding if_on
   on_sim On is s = s
   on_sim Broke is s = absurd (cc)
   on_sim Continued is s = absurd (cc)
 
   mutual
-    stmt_sim : (s : Stmt C) → IsInner s → Leaves (stmt f s) (stmt_meaning f s)
-    stmt_sim (template ss) is ops = absurd is
-    stmt_sim (data_text t) is ops = sim_give (λ _. On) (λ _ _. refl) (sim_do_tell EmitRaw t [] ops refl)
-    stmt_sim (output e) is ops = write_sim (written e) ops (written_whole e is) (expr_exact f e) (expr_sim f laws code end e is)
-    stmt_sim (assignment e v) is ops = sim_then (expr_exact f v) (target_exact f e) (expr_sim f laws code end v is.1 ops) (λ u _. assign_sim e u ops is.0)
+    stmt_sim : (s : Stmt C) (os : List Open) → IsInner s → Leaves (stmt f os s) (stmt_meaning f s)
+    stmt_sim (template ss) os is x ops = absurd is
+    stmt_sim (data_text t) os is x ops = sim_give (λ _. On) (λ _ _. refl) (sim_do_tell EmitRaw t [] ops refl)
+    stmt_sim (output e) os is x ops = write_sim (written e) ops (written_whole e is) (expr_exact f e) (expr_sim f laws code to e is)
+    stmt_sim (assignment e v) os is x ops = sim_then (expr_exact f v) (target_exact f e) (expr_sim f laws code to v is.1 ops) (λ u _. assign_sim e u ops is.0)
 
-    stmts_sim : (ss : Stmts C) → AreInner ss → Leaves (stmts f ss) (stmts_meaning f ss)
-    stmts_sim done is ops = sim_nothing On refl
-    stmts_sim (also s rest) is ops = sim_then (stmt_exact f s) (stmts_exact f rest) (stmt_sim s is.0 ops) (λ g on. on_sim g on (stmts_sim rest is.1 ops))
+    stmts_sim : (ss : Stmts C) (os : List Open) → AreInner ss → Leaves (stmts f os ss) (stmts_meaning f ss)
+    stmts_sim done os is x ops = sim_nothing On refl
+    stmts_sim (also s rest) os is x ops = sim_then (exact_to (stmt_exact f s os) x) (exact_to (stmts_exact f rest os) x) (stmt_sim s os is.0 x ops) (λ g on. on_sim g on (stmts_sim rest os is.1 x ops))
 
-  pub root_sim : (s : Stmt C) → IsWellFormed s → Leaves (stmt f s) (stmt_meaning f s)
-  root_sim (template ss) is ops = stmts_sim ss is ops
-  root_sim (data_text t) is ops = stmt_sim (data_text t) is ops
-  root_sim (output e) is ops = stmt_sim (output e) is ops
-  root_sim (assignment e v) is ops = stmt_sim (assignment e v) is ops
+  pub root_sim : (s : Stmt C) → IsWellFormed s → Leaves (stmt f [] s) (stmt_meaning f s)
+  root_sim (template ss) is x ops = stmts_sim ss [] is x ops
+  root_sim (data_text t) is x ops = stmt_sim (data_text t) [] is x ops
+  root_sim (output e) is x ops = stmt_sim (output e) [] is x ops
+  root_sim (assignment e v) is x ops = stmt_sim (assignment e v) [] is x ops

@@ -1,0 +1,161 @@
+-- What a tree means looks at no name of a node: under other names it does the same.
+use Rattle.std.proofs.Common.{◌≡◌, List, [], ◌∷◌, Option, Some, None, Result, refl, sym, ap, ◌∙◌}
+use Rattle.std.specs.Prelude.{Bool, true, false}
+use Rattle.minijinja_value.specs.Values.{Functions}
+use Rattle.minijinja_tree.specs.Operators.{Working, Makes, Divides, IfTrue, IfFalse, working, compute}
+use Rattle.minijinja_tree.specs.Comparisons.{compares}
+use Rattle.minijinja_tree.specs.Callees.{Callee, function, method, block, object, callee}
+use Rattle.minijinja_tree.specs.Tree.{UnaryOp, logical_not, negation, Expr, variable, constant, slice, unary, binary, compare, if_expr, filter, test, attribute, item, call, list, tuple, map, Optional, absent, present, Exprs, no_more, more, Comparisons, compared, against, Args, no_args, pos, pos_splat, kwarg, kwarg_splat, Stmt, template, data_text, output, assignment, Stmts, done, also}
+use Rattle.minijinja_meaning.specs.Events.{Event, World, Means, next, give, choose, operated, ask}
+use Rattle.minijinja_meaning.specs.Calls.{Written, Super, Recursion, BlockOf, Plain, written}
+use Rattle.minijinja_meaning.specs.Meaning.{operate_one, operate, in_pairs, Taken, nothing_yet, keyword_map, spread, arguments, call_of, expr, base, optional, items, each, chain, positional, keyword, Signal, On, Broke, Continued, if_on, assign, write, stmt, stmts}
+use Rattle.minijinja_meaning.specs.Naming.{world_as, did_as, renamed}
+use Rattle.minijinja_meaning.proofs.Seen.{next_as, ask_as, operated_as}
+
+-- the second piece does what the first one does, under other names
+pub record Renames {N M C F X : Type 0} (r : N → M) (m : Means N C F X) (m' : Means M C F X) : Type 0 where
+  pub does : (w : World (Event N C) C) → m' (world_as (renamed r) w) ≡ did_as (renamed r) (m w)
+
+module _ {N M C F : Type 0} (r : N → M) where
+  -- pieces in order
+  abbrev AllRename : List (Means N C F C) → List (Means M C F C) → Type 0
+  AllRename [] [] = Unit {0}
+  AllRename (m ∷ ms) (n ∷ ns) = Renames r m n × AllRename ms ns
+  AllRename _ _ = ⊥
+
+  rename_give : {X : Type 0} (x : X) → Renames {C = C} {F = F} r (give x) (give x)
+  rename_give x = record { does = λ w. refl }
+
+  rename_next : {X Y : Type 0} {m : Means N C F X} {m' : Means M C F X} {n : X → Means N C F Y} {n' : X → Means M C F Y} → Renames r m m' → ((x : X) → Renames r (n x) (n' x)) → Renames r (λ w. next (m w) n) (λ w. next (m' w) n')
+  rename_next {m = m} {n = n} {n' = n'} a b = record { does = λ w. ap (λ d. next d n') (a.does w) ∙ next_as (renamed r) (m w) n n' (λ x. (b x).does) }
+
+  rename_ask : {X : Type 0} (fit : List C → Option X) (e : Event N C) → Renames {F = F} r (ask fit e) (ask fit (renamed r e))
+  rename_ask fit e = record { does = ask_as (renamed r) F fit e }
+
+  rename_operated : {X : Type 0} (v : Result X F) → Renames {C = C} r (operated v) (operated v)
+  rename_operated v = record { does = operated_as (renamed r) v }
+
+  rename_choose : {X : Type 0} {m n : Means N C F X} {m' n' : Means M C F X} (b : Bool) → Renames r m m' → Renames r n n' → Renames r (choose b m n) (choose b m' n')
+  unfolding choose
+  rename_choose true a c = a
+  rename_choose false a c = c
+
+  rename_pairs : (ms ns : List (Means N C F C)) (ms' ns' : List (Means M C F C)) → AllRename ms ms' → AllRename ns ns' → Renames r (in_pairs ms ns) (in_pairs ms' ns')
+  rename_pairs [] ns [] ns' h k = rename_give []
+  rename_pairs (m ∷ ms) [] (m' ∷ ms') [] h k = rename_give []
+  rename_pairs (m ∷ ms) (n ∷ ns) (m' ∷ ms') (n' ∷ ns') h k = rename_next h.0 (λ x. rename_next k.0 (λ y. rename_next (rename_pairs ms ns ms' ns' h.1 k.1) (λ ps. rename_give _)))
+  rename_pairs [] ns (m' ∷ ms') ns' h k = absurd h
+  rename_pairs (m ∷ ms) ns [] ns' h k = absurd h
+  rename_pairs (m ∷ ms) [] (m' ∷ ms') (n' ∷ ns') h k = absurd k
+  rename_pairs (m ∷ ms) (n ∷ ns) (m' ∷ ms') [] h k = absurd k
+
+  -- a call, by what it calls
+  call_renamed : (c : Callee C) {m n : Means N C F C} {m' n' : Means M C F C} {g : Taken C C → Means N C F (List C)} {g' : Taken C C → Means M C F (List C)} → Renames r m m' → Renames r n n' → ((t : Taken C C) → Renames r (g t) (g' t)) → Renames r (call_of c m n g) (call_of c m' n' g')
+  call_renamed (function x) a b g = rename_next (g nothing_yet) (λ vs. rename_ask _ _)
+  call_renamed (block x) a b g = rename_next (rename_ask _ _) (λ _. rename_next (rename_ask _ _) (λ _. rename_ask _ _))
+  call_renamed (method e x) a b g = rename_next a (λ v. rename_next (g _) (λ vs. rename_ask _ _))
+  call_renamed (object e) a b g = rename_next b (λ v. rename_next (g _) (λ vs. rename_ask _ _))
+
+module _ {N M C F : Type 0} (r : N → M) (f : Functions C F) where
+  one_renamed : (o : UnaryOp) (v : C) → Renames r (operate_one f o v) (operate_one f o v)
+  one_renamed logical_not v = rename_give r _
+  one_renamed negation v = rename_operated r _
+
+  two_renamed : (k : Working) (x : C) {m : Means N C F C} {m' : Means M C F C} → Renames r m m' → Renames r (operate f k x m) (operate f k x m')
+  two_renamed (Makes o) x a = rename_next r a (λ y. rename_operated r _)
+  two_renamed Divides x a = rename_next r a (λ y. rename_ask r _ _)
+  two_renamed IfTrue x a = rename_choose r (f.is_true x) a (rename_give r x)
+  two_renamed IfFalse x a = rename_choose r (f.is_true x) (rename_give r x) a
+
+  map_renamed : (bs : List C) (ps : List (C × C)) → Renames r (keyword_map f bs ps) (keyword_map f bs ps)
+  unfolding keyword_map
+  map_renamed [] [] = rename_give r []
+  map_renamed [] (p ∷ ps) = rename_give r _
+  map_renamed (b ∷ bs) ps = rename_next r (rename_ask r _ _) (λ m. rename_give r _)
+
+  spread_renamed : (bs vs : List C) → Renames r (spread f bs vs) (spread f bs vs)
+  unfolding spread
+  spread_renamed [] vs = rename_give r vs
+  spread_renamed (b ∷ bs) vs = rename_ask r _ _
+
+  arguments_renamed : {m : Means N C F (Taken C C)} {m' : Means M C F (Taken C C)} {n : Means N C F (Taken C (C × C))} {n' : Means M C F (Taken C (C × C))} → Renames r m m' → Renames r n n' → Renames r (arguments f m n) (arguments f m' n')
+  arguments_renamed a b = rename_next r a (λ t. rename_next r b (λ k. rename_next r (map_renamed k.batches k.waiting) (λ m. spread_renamed t.batches _)))
+
+  mutual
+    pub expr_renamed : (e : Expr C) → Renames r (expr f e) (expr f e)
+    expr_renamed (variable x) = rename_ask r _ _
+    expr_renamed (constant c) = rename_give r c
+    expr_renamed (slice e a b c) = rename_next r (expr_renamed e) (λ v. rename_next r (optional_renamed f.none a) (λ x. rename_next r (optional_renamed f.none b) (λ y. rename_next r (optional_renamed f.none c) (λ z. rename_ask r _ _))))
+    expr_renamed (unary o e) = rename_next r (expr_renamed e) (one_renamed o)
+    expr_renamed (binary o a b) = rename_next r (expr_renamed a) (λ x. two_renamed (working o) x (expr_renamed b))
+    expr_renamed (compare e cs) = rename_next r (expr_renamed e) (chain_renamed cs)
+    expr_renamed (if_expr t a b) = rename_next r (expr_renamed t) (λ v. rename_choose r (f.is_true v) (expr_renamed a) (optional_renamed f.silent_undefined b))
+    expr_renamed (filter o x args) = rename_next r (optional_renamed f.silent_undefined o) (λ v. rename_next r (arguments_renamed (positional_renamed args _) (keyword_renamed args _)) (λ vs. rename_ask r _ _))
+    expr_renamed (test e x args) = rename_next r (expr_renamed e) (λ v. rename_next r (arguments_renamed (positional_renamed args _) (keyword_renamed args _)) (λ vs. rename_ask r _ _))
+    expr_renamed (attribute e x) = rename_next r (expr_renamed e) (λ v. rename_ask r _ _)
+    expr_renamed (item e k) = rename_next r (expr_renamed e) (λ v. rename_next r (expr_renamed k) (λ u. rename_ask r _ _))
+    expr_renamed (call e args) = call_renamed r (callee e) (base_renamed e) (expr_renamed e) (λ t. arguments_renamed (positional_renamed args t) (keyword_renamed args _))
+    expr_renamed (list es) = rename_next r (items_renamed es) (λ vs. rename_give r _)
+    expr_renamed (tuple es) = rename_next r (items_renamed es) (λ vs. rename_give r _)
+    expr_renamed (map ks vs) = rename_next r (rename_pairs r (each f ks) (each f vs) (each f ks) (each f vs) (each_renamed ks) (each_renamed vs)) (λ ps. rename_give r _)
+
+    base_renamed : (e : Expr C) → Renames r (base f e) (base f e)
+    base_renamed (attribute e x) = expr_renamed e
+    base_renamed e = rename_give r f.none
+
+    optional_renamed : (d : C) (o : Optional C) → Renames r (optional f d o) (optional f d o)
+    optional_renamed d absent = rename_give r d
+    optional_renamed d (present e) = expr_renamed e
+
+    items_renamed : (es : Exprs C) → Renames r (items f es) (items f es)
+    items_renamed no_more = rename_give r []
+    items_renamed (more e es) = rename_next r (expr_renamed e) (λ v. rename_next r (items_renamed es) (λ vs. rename_give r _))
+
+    each_renamed : (es : Exprs C) → AllRename r (each f es) (each f es)
+    each_renamed no_more = tt
+    each_renamed (more e es) = (expr_renamed e, each_renamed es)
+
+    chain_renamed : (cs : Comparisons C) (v : C) → Renames r (chain f v cs) (chain f v cs)
+    chain_renamed compared v = rename_give r _
+    chain_renamed (against o e cs) v = rename_next r (expr_renamed e) (λ u. rename_next r (rename_operated r (compares f o v u)) (λ b. rename_choose r b (chain_renamed cs u) (rename_give r _)))
+
+    positional_renamed : (args : Args C) (t : Taken C C) → Renames r (positional f args t) (positional f args t)
+    positional_renamed no_args t = rename_give r t
+    positional_renamed (pos e args) t = rename_next r (expr_renamed e) (λ v. positional_renamed args _)
+    positional_renamed (pos_splat e args) t = rename_next r (expr_renamed e) (λ v. positional_renamed args _)
+    positional_renamed (kwarg x e args) t = positional_renamed args t
+    positional_renamed (kwarg_splat e args) t = positional_renamed args t
+
+    keyword_renamed : (args : Args C) (t : Taken C (C × C)) → Renames r (keyword f args t) (keyword f args t)
+    keyword_renamed no_args t = rename_give r t
+    keyword_renamed (pos e args) t = keyword_renamed args t
+    keyword_renamed (pos_splat e args) t = keyword_renamed args t
+    keyword_renamed (kwarg x e args) t = rename_next r (expr_renamed e) (λ v. keyword_renamed args _)
+    keyword_renamed (kwarg_splat e args) t = rename_next r (expr_renamed e) (λ v. keyword_renamed args _)
+
+  assign_renamed : (target : Expr C) (v : C) → Renames {F = F} r (assign target v) (assign target v)
+  assign_renamed (variable x) v = rename_next r (rename_ask r _ _) (λ _. rename_give r On)
+  assign_renamed target v = rename_give r On
+
+  write_renamed : (o : Written C) {m : Means N C F C} {m' : Means M C F C} → Renames r m m' → Renames r (write f o m) (write f o m')
+  write_renamed Super a = rename_next r (rename_ask r _ _) (λ _. rename_give r On)
+  write_renamed (Recursion e) a = rename_next r (expr_renamed e) (λ v. rename_next r (rename_ask r _ _) (λ _. rename_give r On))
+  write_renamed (BlockOf x) a = rename_next r (rename_ask r _ _) (λ _. rename_give r On)
+  write_renamed Plain a = rename_next r a (λ v. rename_next r (rename_ask r _ _) (λ _. rename_give r On))
+
+  on_renamed : (g : Signal) {m : Means N C F Signal} {m' : Means M C F Signal} → Renames r m m' → Renames r (if_on g m) (if_on g m')
+  unfolding if_on
+  on_renamed On a = a
+  on_renamed Broke a = rename_give r Broke
+  on_renamed Continued a = rename_give r Continued
+
+  mutual
+    pub stmt_renamed : (s : Stmt C) → Renames r (stmt f s) (stmt f s)
+    stmt_renamed (template ss) = stmts_renamed ss
+    stmt_renamed (data_text t) = rename_next r (rename_ask r _ _) (λ _. rename_give r On)
+    stmt_renamed (output e) = write_renamed (written e) (expr_renamed e)
+    stmt_renamed (assignment target e) = rename_next r (expr_renamed e) (assign_renamed target)
+
+    stmts_renamed : (ss : Stmts C) → Renames r (stmts f ss) (stmts f ss)
+    stmts_renamed done = rename_give r On
+    stmts_renamed (also s rest) = rename_next r (stmt_renamed s) (λ g. on_renamed g (stmts_renamed rest))
