@@ -154,7 +154,7 @@ module _ {C F : Type 0} (f : Functions C F) where
     optional_exact d absent = one_exact _
     optional_exact d (present e) = expr_exact e
 
-    operand_exact : (o : Optional C) → Exact (operand f o)
+    pub operand_exact : (o : Optional C) → Exact (operand f o)
     operand_exact absent = nothing_exact
     operand_exact (present e) = expr_exact e
 

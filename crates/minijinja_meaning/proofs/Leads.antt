@@ -1,0 +1,324 @@
+-- Where the layout's instructions lead: on, within the list, or back to where a loop asks for its next item.
+use Rattle.std.proofs.Common.{◌≡◌, ℕ, zero, suc, ◌+◌, ◌<◌, ◌≤◌, List, [], ◌∷◌, ◌++◌, length, Option, Some, None, refl, sym, ap, ◌∙◌, subst, arith, length-append}
+use Rattle.std.specs.Prelude.{Bool, false, IsTrue, slice_get}
+use Rattle.minijinja_syntax.specs.Texts.{Text}
+use Rattle.minijinja_value.specs.Values.{Functions}
+use Rattle.minijinja_tree.specs.CompareOps.{CompareOp, eq, ne, lt, lte, gt, gte, is_in, not_in}
+use Rattle.minijinja_tree.specs.Operators.{Working, Makes, Divides, IfTrue, IfFalse, working}
+use Rattle.minijinja_tree.specs.Callees.{Callee, function, method, block, object, callee}
+use Rattle.minijinja_tree.specs.Folding.{fold, constant_keywords, fold_keywords}
+use Rattle.minijinja_tree.specs.Tree.{UnaryOp, logical_not, negation, Expr, variable, constant, slice, unary, binary, compare, if_expr, filter, test, attribute, item, call, list, tuple, map, Optional, absent, present, Exprs, no_more, more, Comparisons, compared, against, Args, no_args, pos, pos_splat, kwarg, kwarg_splat, Stmt, template, data_text, output, assignment, Stmts, done, also}
+use Rattle.minijinja_tree.specs.WellFormed.{IsWellFormed}
+use Rattle.minijinja_meaning.specs.Calls.{Written, Super, Recursion, BlockOf, Plain, written}
+use Rattle.minijinja_meaning.specs.Code.{Instr, BuildList, BuildKwargs, Jump, JumpIfFalse, JumpIfFalseOrPop, JumpIfTrueOrPop, Swap, DiscardTop, CompareAndPreserve}
+use Rattle.minijinja_meaning.specs.Jumps.{target, MayLead, LeadsWell}
+use Rattle.minijinja_meaning.specs.Pieces.{Here, behind, start, Piece, Leading, Exits, outside, Open, nothing, one, ◌▸◌, plain, leading_to, ◌▹◌, skipping, branches}
+use Rattle.minijinja_meaning.specs.Layout as layout
+use Rattle.minijinja_meaning.specs.Layout.{folded, unary_instr, operation, comparison, Failing, and_then, chained, paired, batch, merged, spreading, arguments, argument_count, Count, count_keyword, apply_filter, perform_test, call_of, expr, base, optional, operand, items, each, chain, comparisons, positional, keyword, write, stmt, stmts, stmt_code, expr_code}
+use Rattle.minijinja_meaning.proofs.Runs.{Stands, stands_behind, front, back, first, rest}
+use Rattle.minijinja_meaning.proofs.Lengths.{Exact, LeadingExact, exact_to, grows, one_exact, then_exact, branches_exact, nothing_exact, batch_exact, merged_exact, spreading_exact, folded_exact, operation_exact, AllExact, paired_exact, arguments_exact, filter_exact, test_exact, expr_exact, base_exact, optional_exact, operand_exact, items_exact, each_exact, chain_exact, comparisons_exact, positional_exact, keyword_exact, target_exact, write_exact, stmt_exact, stmts_exact}
+
+module _ {C : Type 0} (code : List (Instr C)) where
+  -- instructions that stand from this place on lead well
+  abbrev pub AllLead : ℕ → List (Instr C) → Type 0
+  AllLead p [] = Unit {0}
+  AllLead p (i ∷ is) = ((l : ℕ) → target i ≡ Some l → MayLead code p l) × AllLead (p + 1) is
+
+  all_lead_append : (p q : ℕ) (a b : List (Instr C)) → p + length a ≡ q → AllLead p a → AllLead q b → AllLead p (a ++ b)
+  all_lead_append p q [] b e h k = let same : q ≡ p = omega arith in subst (λ n. AllLead n b) same k
+  all_lead_append p q (i ∷ a) b e h k = (h.0, all_lead_append (p + 1) q a b (omega arith) h.1 k)
+
+  -- a piece's instructions do, wherever it stands
+  pub record Leads (p : Piece C) : Type 0 where
+    pub leads : (h : Here) → (p.past h).place ≤ length code → Stands code h.place (p.code h) → AllLead h.place (p.code h)
+
+  -- where a loop's exits may stand for what lies before a place
+  pub record AreExits (x : Exits) (q : ℕ) : Type 0 where
+    pub breaks : (p : ℕ) → p < q → MayLead code p x.break_to
+    pub continues : (p : ℕ) → p < q → MayLead code p x.continue_to
+
+  fewer_exits : {x : Exits} {p q : ℕ} → AreExits x q → p ≤ q → AreExits x p
+  fewer_exits e le = record { breaks = λ n lt. e.breaks n (omega arith); continues = λ n lt. e.continues n (omega arith) }
+
+  -- the same of a piece that may stand in a loop, and then leads to the loop's exits
+  pub record LeadsOut (in_loop : Bool) (p : Leading Exits C) : Type 0 where
+    pub leads : (x : Exits) (h : Here) → (IsTrue in_loop → AreExits x (p.past h).place) → (p.past h).place ≤ length code → Stands code h.place (p.code x h) → AllLead h.place (p.code x h)
+
+  -- of comparisons that lead on to where one of them fails
+  pub record LeadsOn (p : Failing C) : Type 0 where
+    pub leads : (failed : ℕ) (h : Here) → (p.past h).place < failed → failed ≤ length code → Stands code h.place (p.code failed h) → AllLead h.place (p.code failed h)
+
+  -- each piece leads well
+  abbrev AllPiecesLead : List (Piece C) → Type 0
+  AllPiecesLead [] = Unit {0}
+  AllPiecesLead (p ∷ ps) = Leads p × AllPiecesLead ps
+
+  -- a jump that leads on within the list
+  leads_on : (p l m : ℕ) → p < l → l ≤ length code → Some l ≡ Some m → MayLead code p m
+  leads_on p l m on inside e =
+      let same : l ≡ m = cc in
+      record { within = omega arith; back = λ le. absurd (omega arith) }
+
+  leads_nowhere : (p l : ℕ) → None ≡ Some l → MayLead code p l
+  leads_nowhere p l e = absurd (cc)
+
+module _ {C : Type 0} {code : List (Instr C)} where
+  leads_nothing : Leads code nothing
+  leads_nothing = record { leads = λ h le stand. tt }
+
+  leads_one : (i : Instr C) → target i ≡ None → Leads code (one i)
+  leads_one i e = record { leads = λ h le stand. ((λ l same. leads_nowhere code h.place l (sym e ∙ same)), tt) }
+
+  leads_then : {p q : Piece C} → Exact p → Exact q → Leads code p → Leads code q → Leads code (p ▸ q)
+  leads_then {p} {q} e e' a b = record {
+    leads = λ h le stand.
+        let more = grows e' (p.past h) in
+        all_lead_append code h.place (p.past h).place (p.code h) (q.code (p.past h)) (e.ends h) (a.leads h (omega arith) (front code _ _ stand)) (b.leads (p.past h) le (back code (p.code h) _ (e.ends h) stand));
+  }
+
+  leads_filter : (x : Text) (n : Option ℕ) → Leads code (apply_filter x n)
+  leads_filter x n = record { leads = λ h le stand. ((λ l same. leads_nowhere code h.place l same), tt) }
+
+  leads_test : (x : Text) (n : Option ℕ) → Leads code (perform_test x n)
+  leads_test x n = record { leads = λ h le stand. ((λ l same. leads_nowhere code h.place l same), tt) }
+
+  leads_skipping : (jump : ℕ → Instr C) → ((l : ℕ) → target (jump l) ≡ Some l) → {p : Piece C} → Exact p → Leads code p → Leads code (skipping jump p)
+  leads_skipping jump e {p} x a = record {
+    leads = λ h le stand.
+        let more = grows x (behind 1 h) in
+        let l = (p.past (behind 1 h)).place in
+        ((λ m same. leads_on code h.place l m (omega arith) le (sym (e l) ∙ same)), a.leads (behind 1 h) le (rest code stand));
+  }
+
+  leads_branches : {p q : Piece C} → Exact p → Exact q → Leads code p → Leads code q → Leads code (branches p q)
+  leads_branches {p} {q} e e' a b = record {
+    leads = λ h le stand.
+        let other : Here = behind 1 (p.past (behind 1 h)) in
+        let more = grows e (behind 1 h) in
+        let most = grows e' other in
+        let inner = rest code stand in
+        let stand' = rest code (back code (p.code (behind 1 h)) _ (e.ends (behind 1 h)) inner) in
+        let jump = (λ (m : ℕ) (same : Some (q.past other).place ≡ Some m). leads_on code (p.past (behind 1 h)).place (q.past other).place m (omega arith) le same) in
+        ((λ m same. leads_on code h.place other.place m (omega arith) (omega arith) same),
+        all_lead_append code (h.place + 1) (p.past (behind 1 h)).place (p.code (behind 1 h)) _ (e.ends (behind 1 h)) (a.leads (behind 1 h) (omega arith) (front code _ _ inner)) (jump, b.leads other le stand'));
+  }
+
+  leads_folded : (r : Option C) {p : Piece C} → Leads code p → Leads code (folded r p)
+  unfolding folded
+  leads_folded None a = a
+  leads_folded (Some c) a = leads_one _ refl
+
+  leads_unary : (o : UnaryOp) → Leads code (one (unary_instr o))
+  leads_unary logical_not = leads_one _ refl
+  leads_unary negation = leads_one _ refl
+
+  leads_operation : (k : Working) {p : Piece C} → Exact p → Leads code p → Leads code (operation k p)
+  leads_operation (Makes o) e a = leads_then e (one_exact _) a (leads_one _ refl)
+  leads_operation Divides e a = leads_then e (one_exact _) a (leads_one _ refl)
+  leads_operation IfTrue e a = leads_skipping JumpIfFalseOrPop (λ l. refl) e a
+  leads_operation IfFalse e a = leads_skipping JumpIfTrueOrPop (λ l. refl) e a
+
+  leads_comparison : (o : CompareOp) → Leads code (comparison o)
+  leads_comparison eq = leads_one _ refl
+  leads_comparison ne = leads_one _ refl
+  leads_comparison lt = leads_one _ refl
+  leads_comparison lte = leads_one _ refl
+  leads_comparison gt = leads_one _ refl
+  leads_comparison gte = leads_one _ refl
+  leads_comparison is_in = leads_one _ refl
+  leads_comparison not_in = leads_then (one_exact _) (one_exact _) (leads_one _ refl) (leads_one _ refl)
+
+  leads_last : {p : Piece C} → Leads code p → LeadsOn code (plain p)
+  leads_last a = record { leads = λ failed h on le stand. a.leads h (omega arith) stand }
+
+  leads_and_then : (o : CompareOp) {p : Piece C} {r : Failing C} → Exact p → LeadingExact r → Leads code p → LeadsOn code r → LeadsOn code (and_then o p r)
+  leads_and_then o {p} {r} e e' a b = record {
+    leads = λ failed h on le stand.
+        let h2 : Here = behind 1 (behind 1 h) in
+        let more = grows e h2 in
+        let most = grows (exact_to e' failed) (p.past h2) in
+        let inner = rest code (rest code stand) in
+        let jump = (λ (m : ℕ) (same : Some failed ≡ Some m). leads_on code (h.place + 1) failed m (omega arith) le same) in
+        ((λ m same. leads_nowhere code h.place m same),
+        (jump,
+        all_lead_append code (h.place + 1 + 1) (p.past h2).place (p.code h2) _ (e.ends h2) (a.leads h2 (omega arith) (front code _ _ inner)) (b.leads failed (p.past h2) on le (back code (p.code h2) _ (e.ends h2) inner))));
+  }
+
+  leads_chained : {p : Piece C} {r : Failing C} → Exact p → LeadingExact r → Leads code p → LeadsOn code r → Leads code (chained p r)
+  leads_chained {p} {r} e e' a b = record {
+    leads = λ h le stand.
+        let q = (r.past (p.past h)).place in
+        let most = grows (exact_to e' (q + 1)) (p.past h) in
+        let inner = back code (p.code h) _ (e.ends h) stand in
+        let jump = (λ (m : ℕ) (same : Some (q + 1 + 1 + 1) ≡ Some m). leads_on code q (q + 1 + 1 + 1) m (omega arith) le same) in
+        let swap = (λ (m : ℕ) (same : None ≡ Some m). leads_nowhere code (q + 1) m same) in
+        let drop = (λ (m : ℕ) (same : None ≡ Some m). leads_nowhere code (q + 1 + 1) m same) in
+        all_lead_append code h.place (p.past h).place (p.code h) _ (e.ends h) (a.leads h (omega arith) (front code _ _ stand))
+        (all_lead_append code (p.past h).place q (r.code (q + 1) (p.past h)) _ (e'.ends (q + 1) (p.past h)) (b.leads (q + 1) (p.past h) (omega arith) (omega arith) (front code _ _ inner)) (jump, (swap, (drop, tt))));
+  }
+
+  leads_paired : (ps qs : List (Piece C)) → AllExact ps → AllExact qs → AllPiecesLead code ps → AllPiecesLead code qs → Leads code (paired ps qs)
+  leads_paired [] qs e e' a b = leads_nothing
+  leads_paired (p ∷ ps) [] e e' a b = leads_nothing
+  leads_paired (p ∷ ps) (q ∷ qs) e e' a b = leads_then e.0 (then_exact e'.0 (paired_exact ps qs e.1 e'.1)) a.0 (leads_then e'.0 (paired_exact ps qs e.1 e'.1) b.0 (leads_paired ps qs e.1 e'.1 a.1 b.1))
+
+  leads_batch : (build : ℕ → Instr C) (n : ℕ) → ((m : ℕ) → target (build m) ≡ None) → Leads code (batch build n)
+  leads_batch build zero e = leads_nothing
+  leads_batch build (suc n) e = leads_one _ (e (suc n))
+
+  leads_merged : (b n : ℕ) → Leads code (merged b n)
+  unfolding merged
+  leads_merged zero zero = leads_nothing
+  leads_merged zero (suc n) = leads_one _ refl
+  leads_merged (suc b) n = leads_then (batch_exact BuildKwargs n) (one_exact _) (leads_batch BuildKwargs n (λ m. refl)) (leads_one _ refl)
+
+  leads_spreading : (b n : ℕ) → Leads code (spreading b n)
+  unfolding spreading
+  leads_spreading zero n = leads_nothing
+  leads_spreading (suc b) n = leads_then (batch_exact (λ n. BuildList (Some n)) n) (one_exact _) (leads_batch (λ n. BuildList (Some n)) n (λ m. refl)) (leads_one _ refl)
+
+  leads_plain : {l : Bool} {p : Piece C} → Leads code p → LeadsOut code l (plain p)
+  leads_plain a = record { leads = λ x h exits le stand. a.leads h le stand }
+
+  leads_and : {l : Bool} {p q : Leading Exits C} → LeadingExact p → LeadingExact q → LeadsOut code l p → LeadsOut code l q → LeadsOut code l (p ▹ q)
+  leads_and {p} {q} e e' a b = record {
+    leads = λ x h exits le stand.
+        let more = grows (exact_to e' x) (p.past h) in
+        let before = (λ (is : IsTrue _). fewer_exits code (exits is) more) in
+        all_lead_append code h.place (p.past h).place (p.code x h) _ (e.ends x h) (a.leads x h before (omega arith) (front code _ _ stand)) (b.leads x (p.past h) exits le (back code (p.code x h) _ (e.ends x h) stand));
+  }
+
+module _ {C F : Type 0} (f : Functions C F) (code : List (Instr C)) where
+  leads_arguments : (args : Args C) (n : ℕ) {p q : Piece C} → Exact p → Exact q → Leads code p → Leads code q → Leads code (arguments f args n p q)
+  leads_arguments args n e e' a b =
+      let k : Count = count_keyword args (record { batches = 0; waiting = 0 }) in
+      let em = merged_exact {C = C} k.batches k.waiting in
+      let es = spreading_exact {C = C} _ _ in
+      let ek = folded_exact (fold_keywords f (constant_keywords f args)) (then_exact e' em) in
+      leads_then e (then_exact ek es) a (leads_then ek es (leads_folded (fold_keywords f (constant_keywords f args)) (leads_then e' em b (leads_merged k.batches k.waiting))) (leads_spreading _ _))
+
+  -- the arguments of a call after so many operands
+  given_exact : (args : Args C) (n : ℕ) → Exact (arguments f args n (positional f args n) (keyword f args 0))
+  given_exact args n = arguments_exact f args n (positional_exact f args n) (keyword_exact f args 0)
+
+  call_leads : (c : Callee C) (count : ℕ → Option ℕ) {b v : Piece C} {g : ℕ → Piece C} → Exact b → Exact v → ((n : ℕ) → Exact (g n)) → Leads code b → Leads code v → ((n : ℕ) → Leads code (g n)) → Leads code (call_of c b v g count)
+  call_leads (function x) count eb ev eg lb lv lg = leads_then (eg 0) (one_exact _) (lg 0) (leads_one _ refl)
+  call_leads (block x) count eb ev eg lb lv lg = leads_then (one_exact _) (then_exact (one_exact _) (one_exact _)) (leads_one _ refl) (leads_then (one_exact _) (one_exact _) (leads_one _ refl) (leads_one _ refl))
+  call_leads (method e x) count eb ev eg lb lv lg = leads_then eb (then_exact (eg 1) (one_exact _)) lb (leads_then (eg 1) (one_exact _) (lg 1) (leads_one _ refl))
+  call_leads (object e) count eb ev eg lb lv lg = leads_then ev (then_exact (eg 1) (one_exact _)) lv (leads_then (eg 1) (one_exact _) (lg 1) (leads_one _ refl))
+
+  mutual
+    pub expr_leads : (e : Expr C) → Leads code (expr f e)
+    expr_leads (variable x) = leads_one _ refl
+    expr_leads (constant c) = leads_one _ refl
+    expr_leads (slice e a b c) =
+        let ec = then_exact (optional_exact f f.none c) (one_exact _) in
+        let eb = then_exact (optional_exact f f.none b) ec in
+        leads_then (expr_exact f e) (then_exact (optional_exact f f.none a) eb) (expr_leads e)
+        (leads_then (optional_exact f f.none a) eb (optional_leads f.none a)
+        (leads_then (optional_exact f f.none b) ec (optional_leads f.none b)
+        (leads_then (optional_exact f f.none c) (one_exact _) (optional_leads f.none c) (leads_one _ refl))))
+    expr_leads (unary o e) = leads_folded (fold f (unary o e)) (leads_then (expr_exact f e) (one_exact _) (expr_leads e) (leads_unary o))
+    expr_leads (binary o a b) = leads_folded (fold f (binary o a b)) (leads_then (expr_exact f a) (operation_exact (working o) (expr_exact f b)) (expr_leads a) (leads_operation (working o) (expr_exact f b) (expr_leads b)))
+    expr_leads (compare e cs) = leads_folded (fold f (compare e cs)) (leads_then (expr_exact f e) (chain_exact f cs) (expr_leads e) (chain_leads cs))
+    expr_leads (if_expr t a b) = leads_then (expr_exact f t) (branches_exact (expr_exact f a) (optional_exact f f.silent_undefined b)) (expr_leads t) (leads_branches (expr_exact f a) (optional_exact f f.silent_undefined b) (expr_leads a) (optional_leads f.silent_undefined b))
+    expr_leads (filter o x args) = leads_then (operand_exact f o) (then_exact (given_exact args 1) (filter_exact _ _)) (operand_leads o) (leads_then (given_exact args 1) (filter_exact _ _) (leads_arguments args 1 (positional_exact f args 1) (keyword_exact f args 0) (positional_leads args 1) (keyword_leads args 0)) (leads_filter _ _))
+    expr_leads (test e x args) = leads_then (expr_exact f e) (then_exact (given_exact args 1) (test_exact _ _)) (expr_leads e) (leads_then (given_exact args 1) (test_exact _ _) (leads_arguments args 1 (positional_exact f args 1) (keyword_exact f args 0) (positional_leads args 1) (keyword_leads args 0)) (leads_test _ _))
+    expr_leads (attribute e x) = leads_then (expr_exact f e) (one_exact _) (expr_leads e) (leads_one _ refl)
+    expr_leads (item e k) = leads_then (expr_exact f e) (then_exact (expr_exact f k) (one_exact _)) (expr_leads e) (leads_then (expr_exact f k) (one_exact _) (expr_leads k) (leads_one _ refl))
+    expr_leads (call e args) = call_leads (callee e) (argument_count args) (base_exact f e) (expr_exact f e) (given_exact args) (base_leads e) (expr_leads e) (λ n. leads_arguments args n (positional_exact f args n) (keyword_exact f args 0) (positional_leads args n) (keyword_leads args 0))
+    expr_leads (list es) = leads_folded (fold f (list es)) (leads_then (items_exact f es) (one_exact _) (items_lead es) (leads_one _ refl))
+    expr_leads (tuple es) = leads_folded (fold f (tuple es)) (leads_then (items_exact f es) (one_exact _) (items_lead es) (leads_one _ refl))
+    expr_leads (map ks vs) = leads_folded (fold f (map ks vs)) (leads_then (paired_exact (each f ks) (each f vs) (each_exact f ks) (each_exact f vs)) (one_exact _) (leads_paired (each f ks) (each f vs) (each_exact f ks) (each_exact f vs) (each_leads ks) (each_leads vs)) (leads_one _ refl))
+
+    base_leads : (e : Expr C) → Leads code (base f e)
+    base_leads (attribute e x) = expr_leads e
+    base_leads e = leads_one _ refl
+
+    optional_leads : (d : C) (o : Optional C) → Leads code (optional f d o)
+    optional_leads d absent = leads_one _ refl
+    optional_leads d (present e) = expr_leads e
+
+    operand_leads : (o : Optional C) → Leads code (operand f o)
+    operand_leads absent = leads_nothing
+    operand_leads (present e) = expr_leads e
+
+    items_lead : (es : Exprs C) → Leads code (items f es)
+    items_lead no_more = leads_nothing
+    items_lead (more e es) = leads_then (expr_exact f e) (items_exact f es) (expr_leads e) (items_lead es)
+
+    each_leads : (es : Exprs C) → AllPiecesLead code (each f es)
+    each_leads no_more = tt
+    each_leads (more e es) = (expr_leads e, each_leads es)
+
+    chain_leads : (cs : Comparisons C) → Leads code (chain f cs)
+    chain_leads compared = leads_nothing
+    chain_leads (against o e cs) = leads_chained (expr_exact f e) (comparisons_exact f cs o) (expr_leads e) (comparisons_lead cs o)
+
+    comparisons_lead : (cs : Comparisons C) (o : CompareOp) → LeadsOn code (comparisons f o cs)
+    comparisons_lead compared o = leads_last (leads_comparison o)
+    comparisons_lead (against o' e cs) o = leads_and_then o (expr_exact f e) (comparisons_exact f cs o') (expr_leads e) (comparisons_lead cs o')
+
+    positional_leads : (args : Args C) (n : ℕ) → Leads code (positional f args n)
+    positional_leads no_args n = leads_nothing
+    positional_leads (pos e args) n = leads_then (expr_exact f e) (positional_exact f args (suc n)) (expr_leads e) (positional_leads args (suc n))
+    positional_leads (pos_splat e args) n = leads_then (batch_exact (λ n. BuildList (Some n)) n) (then_exact (expr_exact f e) (positional_exact f args 0)) (leads_batch (λ n. BuildList (Some n)) n (λ m. refl)) (leads_then (expr_exact f e) (positional_exact f args 0) (expr_leads e) (positional_leads args 0))
+    positional_leads (kwarg x e args) n = positional_leads args n
+    positional_leads (kwarg_splat e args) n = positional_leads args n
+
+    keyword_leads : (args : Args C) (n : ℕ) → Leads code (keyword f args n)
+    keyword_leads no_args n = leads_nothing
+    keyword_leads (pos e args) n = keyword_leads args n
+    keyword_leads (pos_splat e args) n = keyword_leads args n
+    keyword_leads (kwarg x e args) n = leads_then (one_exact _) (then_exact (expr_exact f e) (keyword_exact f args (suc n))) (leads_one _ refl) (leads_then (expr_exact f e) (keyword_exact f args (suc n)) (expr_leads e) (keyword_leads args (suc n)))
+    keyword_leads (kwarg_splat e args) n = leads_then (batch_exact BuildKwargs n) (then_exact (expr_exact f e) (keyword_exact f args 0)) (leads_batch BuildKwargs n (λ m. refl)) (leads_then (expr_exact f e) (keyword_exact f args 0) (expr_leads e) (keyword_leads args 0))
+
+  target_leads : (e : Expr C) → Leads code (layout.target e)
+  target_leads (variable x) = leads_one _ refl
+  target_leads e = leads_nothing
+
+  write_leads : (o : Written C) {p : Piece C} → Exact p → Leads code p → Leads code (write f o p)
+  write_leads Super e a = leads_one _ refl
+  write_leads (Recursion r) e a = leads_then (expr_exact f r) (one_exact _) (expr_leads r) (leads_one _ refl)
+  write_leads (BlockOf x) e a = leads_one _ refl
+  write_leads Plain e a = leads_then e (one_exact _) a (leads_one _ refl)
+
+  mutual
+    stmt_leads : (s : Stmt C) (l : Bool) (os : List Open) → LeadsOut code l (stmt f os s)
+    stmt_leads (template ss) l os = stmts_lead ss l os
+    stmt_leads (data_text t) l os = leads_plain (leads_one _ refl)
+    stmt_leads (output e) l os = leads_plain (write_leads (written e) (expr_exact f e) (expr_leads e))
+    stmt_leads (assignment e v) l os = leads_plain (leads_then (expr_exact f v) (target_exact f e) (expr_leads v) (target_leads e))
+
+    stmts_lead : (ss : Stmts C) (l : Bool) (os : List Open) → LeadsOut code l (stmts f os ss)
+    stmts_lead done l os = leads_plain leads_nothing
+    stmts_lead (also s rest) l os = leads_and (stmt_exact f s os) (stmts_exact f rest os) (stmt_leads s l os) (stmts_lead rest l os)
+
+-- what leads well as it stands does at each place
+at_each : {C : Type 0} (code : List (Instr C)) (q : ℕ) (is : List (Instr C)) → AllLead code q is → (p : ℕ) (i : Instr C) (l : ℕ) → slice_get is p ≡ Some i → target i ≡ Some l → MayLead code (q + p) l
+at_each code q [] h p i l at e = absurd (cc)
+at_each code q (j ∷ is) h zero i l at e =
+    let same : j ≡ i = cc in
+    let here : q ≡ q + 0 = omega arith in
+    subst (λ n. MayLead code n l) here (h.0 l (ap target same ∙ e))
+at_each code q (j ∷ is) h (suc p) i l at e =
+    let there : q + 1 + p ≡ q + suc p = omega arith in
+    subst (λ n. MayLead code n l) there (at_each code (q + 1) is h.1 p i l at e)
+
+-- What follows on the layout of a tree is within the list, and leads back to where a loop asks for its next item alone.
+pub layout_leads_well : {C F : Type 0} (f : Functions C F) (s : Stmt C) → IsWellFormed s → LeadsWell (stmt_code f s start)
+layout_leads_well {C} f s well p i l at e =
+    let code : List (Instr C) = stmt_code f s start in
+    let exact = (stmt_exact f s []).ends outside start in
+    let all = (stmt_leads f code s false []).leads outside start (λ is. absurd (cc)) (omega arith) (stands_behind [] code) in
+    let here : 0 + p ≡ p = omega arith in
+    subst (λ n. MayLead code n l) here (at_each code 0 code all p i l at e)
+
+-- likewise the layout of an expression by itself
+pub expression_leads_well : {C F : Type 0} (f : Functions C F) (e : Expr C) → LeadsWell (expr_code f e start)
+expression_leads_well {C} f e p i l at same =
+    let code : List (Instr C) = expr_code f e start in
+    let exact = (expr_exact f e).ends start in
+    let all = (expr_leads f code e).leads start (omega arith) (stands_behind [] code) in
+    let here : 0 + p ≡ p = omega arith in
+    subst (λ n. MayLead code n l) here (at_each code 0 code all p i l at same)
