@@ -13,7 +13,7 @@ use Rattle.minijinja_meaning.specs.Code.{Instr, Jump, JumpIfFalseOrPop, Swap, Di
 use Rattle.minijinja_meaning.specs.Pieces.{Here, behind, Piece, plain}
 use Rattle.minijinja_meaning.specs.Layout.{comparison, Failing, and_then, chained, paired}
 use Rattle.minijinja_meaning.specs.Machine.{At, after}
-use Rattle.minijinja_meaning.proofs.Placed.{World, Act, State, bare, Stretch}
+use Rattle.minijinja_meaning.proofs.Placed.{World, Act, State, Stretch}
 use Rattle.minijinja_meaning.proofs.Runs.{Any, Stands, front, back, first, rest, step_comes, Gives, then_gives, from, here, then_jumps, operator_gives}
 use Rattle.minijinja_meaning.proofs.Lengths.{Exact, grows, LeadingExact, exact_to, one_exact, then_exact, AllExact, paired_exact}
 use Rattle.minijinja_meaning.proofs.Parts.{Simulates, sim_then, sim_same, sim_give, sim_nothing, sim_plain, sim_operator}

@@ -8,9 +8,10 @@ use Rattle.minijinja_tree.specs.Tree.{Expr, variable, constant, slice, unary, bi
 use Rattle.minijinja_tree.specs.Operators.{Lt, IntDiv, compute}
 use Rattle.minijinja_tree.specs.Comparisons.{compares}
 use Rattle.minijinja_tree.specs.Folding.{fold, if_some, fold_on, fold_keywords}
-use Rattle.minijinja_meaning.specs.Events.{PerformTest, Lookup, GetItem, Slice, Div, ApplyFilter, CallFunction, CallMethod, CallObject, MergeKwargs, UnpackLists, BeginCapture, EndCapture, CallBlock, FastSuper, FastRecurse, Emit, Capture, Answer, Values, OperatorFault, event, next, choose, operated, fitted, answered, ask}
+use Rattle.minijinja_meaning.specs.Events.{PerformTest, Lookup, GetItem, Slice, Div, ApplyFilter, CallFunction, CallMethod, CallObject, MergeKwargs, UnpackLists, BeginCapture, EndCapture, CallBlock, FastSuper, FastRecurse, Emit, Capture, Answer, Values, OperatorFault, Event, event, next, choose, operated, fitted, answered, ask}
 use Rattle.minijinja_meaning.specs.Meaning.{keyword_map, spread, if_on, stmt}
-use Rattle.minijinja_meaning.specs.Machine.{State, At, Halted, after, run, step, asked, did, built, popped, popped_by, popped_counted, popped_pairs}
+use Rattle.minijinja_meaning.specs.Machine.{State, At, Halted, after, AtPlace, run, step, asked, did, built, popped, popped_by, popped_counted, popped_pairs, traced}
+use Rattle.minijinja_meaning.specs.Naming.{state_as, event_of}
 use Rattle.minijinja_meaning.specs.Code.{Instr, Load, Do, Call, Apply, Operate, CompareAndPreserve, BuildMap, BuildKwargs, BuildList, DiscardTop, Swap, Jump, JumpIfFalse, JumpIfFalseOrPop}
 use Rattle.minijinja_meaning.specs.Pieces.{start, id_of, noted}
 use Rattle.minijinja_meaning.specs.Layout.{folded, merged, map_count, spreading, counted, expr_code, stmt_code}
@@ -209,12 +210,12 @@ unfolding statement
 block_output_code = refl
 
 -- a run over code, up to its end, with nothing below
-unfoldable ran : List (Instr Value) → ℕ → ℕ → List (Answer Value) → State Value WrongOperand
+unfoldable ran : List (Instr Value) → ℕ → ℕ → List (Answer Value) → State (Event ℕ Value) Value WrongOperand
 unfolding run step asked did built popped popped_by popped_counted popped_pairs ask answered fitted operated compute compares
-ran is finish steps answers = run sample is finish steps (At 0 [] [] (record { record_so_far = []; answers = answers }))
+ran is finish steps answers = state_as event_of (run sample traced is (AtPlace finish) steps (At 0 [] [] (record { record_so_far = []; answers = answers })))
 
 -- the state in which the meaning of a statement leaves a machine
-unfoldable meant : Stmt Value → ℕ → List (Answer Value) → State Value WrongOperand
+unfoldable meant : Stmt Value → ℕ → List (Answer Value) → State (Event ℕ Value) Value WrongOperand
 unfolding next choose ask answered fitted operated if_on compute compares spread keyword_map
 meant s finish answers = after (λ g w. At finish [] [] w) (stmt sample s (record { record_so_far = []; answers = answers }))
 
@@ -231,7 +232,7 @@ abbrev spread_answers : List (Answer Value)
 spread_answers = Values (Words (codes "l") ∷ []) ∷ Values (number 1 ∷ number 2 ∷ []) ∷ Values (Words (codes "r") ∷ []) ∷ Values [] ∷ []
 
 -- what the run of {{ f(*a) }} comes to
-abbrev spread_ends : State Value WrongOperand
+abbrev spread_ends : State (Event ℕ Value) Value WrongOperand
 spread_ends = At 4 [] [] (record {
   record_so_far =
       (event None Emit [] (Words (codes "r") ∷ []), Values [])
@@ -272,7 +273,7 @@ abbrev chain_answers : List (Answer Value)
 chain_answers = Values (number 1 ∷ []) ∷ Values [] ∷ []
 
 -- what it comes to
-abbrev chain_ends : State Value WrongOperand
+abbrev chain_ends : State (Event ℕ Value) Value WrongOperand
 chain_ends = At 10 [] [] (record {
   record_so_far = (event None Emit [] (Truth false ∷ []), Values []) ∷ (event None Lookup (codes "a") [], Values (number 1 ∷ [])) ∷ [];
   answers = [];
@@ -295,7 +296,7 @@ abbrev both_answers : List (Answer Value)
 both_answers = Values (number 0 ∷ []) ∷ Values [] ∷ []
 
 -- what it comes to
-abbrev both_ends : State Value WrongOperand
+abbrev both_ends : State (Event ℕ Value) Value WrongOperand
 both_ends = At 4 [] [] (record {
   record_so_far = (event None Emit [] (number 0 ∷ []), Values []) ∷ (event None Lookup (codes "a") [], Values (number 0 ∷ [])) ∷ [];
   answers = [];
@@ -322,7 +323,7 @@ abbrev mixed_answers : List (Answer Value)
 mixed_answers = Values (number 1 ∷ []) ∷ Values (number 2 ∷ []) ∷ Values (number 3 ∷ number 4 ∷ []) ∷ Values (number 5 ∷ []) ∷ Values [] ∷ []
 
 -- what it comes to
-abbrev mixed_ends : State Value WrongOperand
+abbrev mixed_ends : State (Event ℕ Value) Value WrongOperand
 mixed_ends = At 8 [] [] (record {
   record_so_far =
       (event None Emit [] (number 5 ∷ []), Values [])
@@ -351,7 +352,7 @@ abbrev merging_answers : List (Answer Value)
 merging_answers = Values (number 1 ∷ []) ∷ Values (number 2 ∷ []) ∷ Values (number 3 ∷ []) ∷ Values (number 4 ∷ []) ∷ Values (number 5 ∷ []) ∷ Values [] ∷ []
 
 -- what it comes to
-abbrev merging_ends : State Value WrongOperand
+abbrev merging_ends : State (Event ℕ Value) Value WrongOperand
 merging_ends = At 8 [] [] (record {
   record_so_far =
       (event None Emit [] (number 5 ∷ []), Values [])

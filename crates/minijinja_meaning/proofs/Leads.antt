@@ -1,5 +1,5 @@
 -- Where the layout's instructions lead: on, within the list, or back to where a loop asks for its next item.
-use Rattle.std.proofs.Common.{◌≡◌, ℕ, zero, suc, ◌+◌, ◌<◌, ◌≤◌, List, [], ◌∷◌, ◌++◌, length, Option, Some, None, refl, sym, ap, ◌∙◌, subst, arith, length-append}
+use Rattle.std.proofs.Common.{◌≡◌, ℕ, zero, suc, ◌+◌, ◌<◌, ◌≤◌, List, [], ◌∷◌, ◌++◌, length, Option, Some, None, refl, sym, ap, ◌∙◌, subst, arith}
 use Rattle.std.specs.Prelude.{Bool, false, IsTrue, slice_get}
 use Rattle.minijinja_syntax.specs.Texts.{Text}
 use Rattle.minijinja_value.specs.Values.{Functions}
@@ -10,13 +10,13 @@ use Rattle.minijinja_tree.specs.Folding.{fold, constant_keywords, fold_keywords}
 use Rattle.minijinja_tree.specs.Tree.{UnaryOp, logical_not, negation, Expr, variable, constant, slice, unary, binary, compare, if_expr, filter, test, attribute, item, call, list, tuple, map, Optional, absent, present, Exprs, no_more, more, Comparisons, compared, against, Args, no_args, pos, pos_splat, kwarg, kwarg_splat, Stmt, template, data_text, output, assignment, Stmts, done, also}
 use Rattle.minijinja_tree.specs.WellFormed.{IsWellFormed}
 use Rattle.minijinja_meaning.specs.Calls.{Written, Super, Recursion, BlockOf, Plain, written}
-use Rattle.minijinja_meaning.specs.Code.{Instr, BuildList, BuildKwargs, Jump, JumpIfFalse, JumpIfFalseOrPop, JumpIfTrueOrPop, Swap, DiscardTop, CompareAndPreserve}
+use Rattle.minijinja_meaning.specs.Code.{Instr, BuildList, BuildKwargs, JumpIfFalseOrPop, JumpIfTrueOrPop}
 use Rattle.minijinja_meaning.specs.Jumps.{target, MayLead, LeadsWell}
-use Rattle.minijinja_meaning.specs.Pieces.{Here, behind, start, Piece, Leading, Exits, outside, Open, nothing, one, ◌▸◌, plain, leading_to, ◌▹◌, skipping, branches}
+use Rattle.minijinja_meaning.specs.Pieces.{Here, behind, start, Piece, Leading, Exits, outside, Open, nothing, one, ◌▸◌, plain, ◌▹◌, skipping, branches}
 use Rattle.minijinja_meaning.specs.Layout as layout
 use Rattle.minijinja_meaning.specs.Layout.{folded, unary_instr, operation, comparison, Failing, and_then, chained, paired, batch, merged, spreading, arguments, argument_count, Count, count_keyword, apply_filter, perform_test, call_of, expr, base, optional, operand, items, each, chain, comparisons, positional, keyword, write, stmt, stmts, stmt_code, expr_code}
-use Rattle.minijinja_meaning.proofs.Runs.{Stands, stands_behind, front, back, first, rest}
-use Rattle.minijinja_meaning.proofs.Lengths.{Exact, LeadingExact, exact_to, grows, one_exact, then_exact, branches_exact, nothing_exact, batch_exact, merged_exact, spreading_exact, folded_exact, operation_exact, AllExact, paired_exact, arguments_exact, filter_exact, test_exact, expr_exact, base_exact, optional_exact, operand_exact, items_exact, each_exact, chain_exact, comparisons_exact, positional_exact, keyword_exact, target_exact, write_exact, stmt_exact, stmts_exact}
+use Rattle.minijinja_meaning.proofs.Runs.{Stands, stands_behind, front, back, rest}
+use Rattle.minijinja_meaning.proofs.Lengths.{Exact, LeadingExact, exact_to, grows, one_exact, then_exact, branches_exact, batch_exact, merged_exact, spreading_exact, folded_exact, operation_exact, AllExact, paired_exact, arguments_exact, filter_exact, test_exact, expr_exact, base_exact, optional_exact, operand_exact, items_exact, each_exact, chain_exact, comparisons_exact, positional_exact, keyword_exact, target_exact, stmt_exact, stmts_exact}
 
 module _ {C : Type 0} (code : List (Instr C)) where
   -- instructions that stand from this place on lead well
@@ -98,9 +98,10 @@ module _ {C : Type 0} {code : List (Instr C)} where
         let most = grows e' other in
         let inner = rest code stand in
         let stand' = rest code (back code (p.code (behind 1 h)) _ (e.ends (behind 1 h)) inner) in
-        let jump = (λ (m : ℕ) (same : Some (q.past other).place ≡ Some m). leads_on code (p.past (behind 1 h)).place (q.past other).place m (omega arith) le same) in
-        ((λ m same. leads_on code h.place other.place m (omega arith) (omega arith) same),
-        all_lead_append code (h.place + 1) (p.past (behind 1 h)).place (p.code (behind 1 h)) _ (e.ends (behind 1 h)) (a.leads (behind 1 h) (omega arith) (front code _ _ inner)) (jump, b.leads other le stand'));
+        let jump = (λ (m : ℕ) (same : Some (q.past other).place ≡ Some m). leads_on code (p.past (behind 1 h)).place (q.past other).place m (omega arith) le same) in (
+          (λ m same. leads_on code h.place other.place m (omega arith) (omega arith) same),
+          all_lead_append code (h.place + 1) (p.past (behind 1 h)).place (p.code (behind 1 h)) _ (e.ends (behind 1 h)) (a.leads (behind 1 h) (omega arith) (front code _ _ inner)) (jump, b.leads other le stand'),
+        );
   }
 
   leads_folded : (r : Option C) {p : Piece C} → Leads code p → Leads code (folded r p)
@@ -138,10 +139,13 @@ module _ {C : Type 0} {code : List (Instr C)} where
         let more = grows e h2 in
         let most = grows (exact_to e' failed) (p.past h2) in
         let inner = rest code (rest code stand) in
-        let jump = (λ (m : ℕ) (same : Some failed ≡ Some m). leads_on code (h.place + 1) failed m (omega arith) le same) in
-        ((λ m same. leads_nowhere code h.place m same),
-        (jump,
-        all_lead_append code (h.place + 1 + 1) (p.past h2).place (p.code h2) _ (e.ends h2) (a.leads h2 (omega arith) (front code _ _ inner)) (b.leads failed (p.past h2) on le (back code (p.code h2) _ (e.ends h2) inner))));
+        let jump = (λ (m : ℕ) (same : Some failed ≡ Some m). leads_on code (h.place + 1) failed m (omega arith) le same) in (
+          (λ m same. leads_nowhere code h.place m same),
+          (
+            jump,
+            all_lead_append code (h.place + 1 + 1) (p.past h2).place (p.code h2) _ (e.ends h2) (a.leads h2 (omega arith) (front code _ _ inner)) (b.leads failed (p.past h2) on le (back code (p.code h2) _ (e.ends h2) inner)),
+          ),
+        );
   }
 
   leads_chained : {p : Piece C} {r : Failing C} → Exact p → LeadingExact r → Leads code p → LeadsOn code r → Leads code (chained p r)

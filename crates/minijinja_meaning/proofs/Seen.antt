@@ -1,6 +1,6 @@
 -- Pieces and the machine look at nothing that is noted of events: seen otherwise, they do the same.
-use Rattle.std.proofs.Common.{◌≡◌, ℕ, zero, suc, ◌+◌, ◌++◌, List, [], ◌∷◌, length, Option, Some, None, Result, Ok, Err, refl, sym, ap, ◌∙◌}
-use Rattle.std.specs.Prelude.{Bool, true, false, not, if◌then◌else◌, slice_get}
+use Rattle.std.proofs.Common.{◌≡◌, ℕ, zero, suc, List, [], ◌∷◌, Option, Some, None, Result, Ok, Err, refl, ap, ◌∙◌}
+use Rattle.std.specs.Prelude.{Bool, true, false, if◌then◌else◌, slice_get}
 use Rattle.minijinja_syntax.specs.Texts.{Text}
 use Rattle.minijinja_value.specs.Values.{Functions}
 use Rattle.minijinja_tree.specs.Operators.{compute}
@@ -8,8 +8,8 @@ use Rattle.minijinja_tree.specs.Comparisons.{compares}
 use Rattle.minijinja_meaning.specs.Events as event
 use Rattle.minijinja_meaning.specs.Events.{Kind, Event, Answer, Fault, Values, World, Stop, Did, Gave, Ended, Act, next, choose, operated, fitted, answered, ask, none_fits, one_fits, item_fits, so_many_fit, all_fit}
 use Rattle.minijinja_meaning.specs.Code.{Instr, Load, Do, Call, Apply, UnpackList, PushLoop, Iterate, PopLoopFrame, PushDidNotIterate, BuildMacro, Operate, Neg, Not, IsUndefined, CompareAndPreserve, BuildMap, BuildKwargs, BuildList, BuildTuple, DupTop, DiscardTop, Swap, Jump, JumpIfFalse, JumpIfFalseOrPop, JumpIfTrueOrPop, Return}
-use Rattle.minijinja_meaning.specs.Machine.{State, At, Returned, Halted, Jammed, after, Size, Nothing, OneValue, AllValues, size, pushed, popped, popped_pairs, popped_counted, Notes, did, asked, built, on_one, on_two, in_loop, loop_at, iterated, act, Finish, is_over, step, run, Asked, traced}
-use Rattle.minijinja_meaning.specs.Naming.{record_as, world_as, did_as, state_as, event_of}
+use Rattle.minijinja_meaning.specs.Machine.{State, At, Returned, Halted, Jammed, after, Size, Nothing, OneValue, AllValues, size, popped, popped_pairs, popped_counted, Notes, did, asked, built, on_one, on_two, in_loop, iterated, act, Finish, is_over, step, run}
+use Rattle.minijinja_meaning.specs.Naming.{record_as, world_as, did_as, state_as}
 
 module _ {E E' : Type 0} (g : E → E') where
   pub next_as : {C F X Y : Type 0} (d : Did E C F X) (k : X → Act E C F Y) (k' : X → Act E' C F Y) → ((x : X) (w : World E C) → k' x (world_as g w) ≡ did_as g (k x w)) → next (did_as g d) k' ≡ did_as g (next d k)

@@ -16,13 +16,13 @@ use Rattle.minijinja_tree.specs.Folding.{fold}
 use Rattle.minijinja_meaning.specs.Meaning.{operate_one, operate, Taken, nothing_yet, with_one, with_batch, call_of as call_meaning, expr as expr_meaning, base as base_meaning, optional as optional_meaning, items as items_meaning, each as each_meaning, chain as chain_meaning, positional as positional_meaning, keyword as keyword_meaning, arguments as arguments_meaning}
 use Rattle.minijinja_meaning.specs.Code.{Instr, Load, Do, Call, BuildMap, BuildKwargs, BuildList, BuildTuple}
 use Rattle.minijinja_meaning.specs.Pieces.{Piece, one, ◌▸◌}
-use Rattle.minijinja_meaning.specs.Layout.{list_batch, map_batch, unary_instr, operation, Count, count_positional, count_keyword, count_all, count_one, count_batch, counted, arguments, argument_count, apply_filter, perform_test, call_of, expr, base, operand, optional, items, each, chain, comparisons, positional, keyword}
+use Rattle.minijinja_meaning.specs.Layout.{list_batch, map_batch, unary_instr, operation, Count, count_positional, count_keyword, count_all, count_one, count_batch, counted, arguments, argument_count, apply_filter, perform_test, call_of, expr, base, optional, items, each, chain, comparisons, positional, keyword}
 use Rattle.minijinja_meaning.specs.Machine.{pushed, asked, built, size, OneValue}
 use Rattle.minijinja_meaning.proofs.Placed.{Act, bare, Stretch}
 use Rattle.minijinja_meaning.proofs.Runs.{Any, first, gets_one}
 use Rattle.minijinja_meaning.proofs.Lengths.{Exact, nothing_exact, one_exact, then_exact, branches_exact, batch_exact, filter_exact, test_exact, operation_exact, comparison_exact, paired_exact, arguments_exact, expr_exact, base_exact, optional_exact, items_exact, each_exact, chain_exact, comparisons_exact, positional_exact, keyword_exact}
 use Rattle.minijinja_meaning.proofs.Folds.{expr_folds}
-use Rattle.minijinja_meaning.proofs.Parts.{Simulates, sim_then, sim_before, sim_from, sim_give, sim_nothing, sim_plain, sim_load, sim_operator, sim_get, sim_do_get, sim_do_tell, sim_either, sim_folded, sim_branches, sim_if_true, sim_if_false}
+use Rattle.minijinja_meaning.proofs.Parts.{Simulates, sim_then, sim_before, sim_from, sim_give, sim_nothing, sim_plain, sim_load, sim_operator, sim_get, sim_do_get, sim_do_tell, sim_folded, sim_branches, sim_if_true, sim_if_false}
 use Rattle.minijinja_meaning.proofs.Arguments.{Matches, matches_one, matches_batch, pushed_pairs, laid, laid_pairs, laid_one, laid_pair, laid_batch, laid_map, counted_pops, pops_pairs, list_batch_sim, map_batch_sim, IsReady, ready, ready_pops, none_counted, arguments_sim}
 use Rattle.minijinja_meaning.proofs.Chains.{comparison_sim, SimulatesFailing, last_sim, and_then_sim, chained_sim, on_holding, AllSimulate, paired_sim}
 

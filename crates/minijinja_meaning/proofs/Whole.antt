@@ -15,7 +15,7 @@ use Rattle.minijinja_meaning.specs.Layout.{expr, stmt, expr_code, stmt_code}
 use Rattle.minijinja_meaning.specs.Machine.{At, after, act, AtPlace, AtReturn, Finish, finished, step, run, traced}
 use Rattle.minijinja_meaning.specs.Naming.{state_as, event_of}
 use Rattle.minijinja_meaning.specs.Brackets.{IsBalanced}
-use Rattle.minijinja_meaning.specs.Correct.{fresh, Entry, over, DoesFrom, a_statement, an_expression, DoesStmt, DoesExpr}
+use Rattle.minijinja_meaning.specs.Correct.{fresh, Entry, over, DoesFrom, DoesStmt, DoesExpr}
 use Rattle.minijinja_meaning.proofs.Placed.{World, Did, Act, State, bare, Stretch}
 use Rattle.minijinja_meaning.proofs.Seen.{run_seen}
 use Rattle.minijinja_meaning.proofs.Runs.{budget, Stands, stands_behind, run_then, Comes}

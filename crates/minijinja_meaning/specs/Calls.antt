@@ -2,7 +2,7 @@
 use Rattle.std.specs.Prelude.{Bool, true, false, codes, bytes_eq}
 use Rattle.minijinja_syntax.specs.Texts.{Text}
 use Rattle.minijinja_tree.specs.Callees.{Callee, function, method, block, object, callee}
-use Rattle.minijinja_tree.specs.Tree.{Expr, variable, call, Args, no_args, pos}
+use Rattle.minijinja_tree.specs.Tree.{Expr, call, Args, no_args, pos}
 
 -- what is written: what the block above holds, a turn of the loop round it on other items, a block, or a value
 pub data Written (C : Type 0) : Type 0 where

@@ -6,7 +6,7 @@ use Rattle.minijinja_meaning.specs.Events.{Event, Answer, World, Did, Gave, Ende
 use Rattle.minijinja_meaning.specs.Answers.{AreFew}
 use Rattle.minijinja_meaning.specs.Meaning.{expr, stmt, Signal}
 use Rattle.minijinja_meaning.specs.Code.{Instr}
-use Rattle.minijinja_meaning.specs.Machine.{State, At, Halted, Finish, AtPlace, finished, run, Asked, traced}
+use Rattle.minijinja_meaning.specs.Machine.{State, At, Halted, Finish, AtPlace, finished, run, traced}
 use Rattle.minijinja_meaning.specs.Naming.{state_as, event_of}
 use Rattle.minijinja_meaning.specs.Brackets.{IsBalanced}
 

@@ -1,6 +1,5 @@
 -- What a tree does: its events with their operands, in order. There is no code in it, no place, no stack, no jump and no folding.
 use Rattle.std.specs.Prelude.{true, false, not, List, [], ◌∷◌, ◌++◌}
-use Rattle.minijinja_syntax.specs.Texts.{Text}
 use Rattle.minijinja_value.specs.Values.{Functions}
 use Rattle.minijinja_tree.specs.Operators.{Working, Makes, Divides, IfTrue, IfFalse, working, compute}
 use Rattle.minijinja_tree.specs.Comparisons.{compares}

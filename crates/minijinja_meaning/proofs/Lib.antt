@@ -1,0 +1,17 @@
+pub mod Placed
+pub mod Seen
+pub mod Renaming
+pub mod Folds
+pub mod FoldedCode
+pub mod Runs
+pub mod Lengths
+pub mod Leads
+pub mod Parts
+pub mod Arguments
+pub mod Chains
+pub mod Simulation
+pub mod Balance
+pub mod StatementSimulation
+pub mod Whole
+pub mod Samples
+pub mod Examples
