@@ -6,11 +6,11 @@ use Rattle.std.proofs.Math.Seq.{take-append_seam}
 use Rattle.std.proofs.lemmas.Bool.{cases_lt}
 use Rattle.minijinja_syntax.specs.Errors.{IsOutOfMemory}
 use Rattle.minijinja_syntax.specs.declared.error.Error.{Error}
-use Rattle.minijinja_code.specs.Code.{Instr}
-use Rattle.minijinja_code.specs.Pieces.{Here, behind, Piece, nothing, one, ◌▸◌, skipping}
+use Rattle.minijinja_meaning.specs.Code.{Instr}
+use Rattle.minijinja_meaning.specs.Pieces.{Here, behind, Piece, nothing, one, ◌▸◌, skipping}
 use Rattle.minijinja_code.specs.private.Making.{Made, here_of, followed, hole, Adds, Refuses}
-use Rattle.minijinja_code.proofs.Runs.{append_nil}
-use Rattle.minijinja_code.proofs.Lengths.{Exact, grows}
+use Rattle.minijinja_meaning.proofs.Runs.{append_nil}
+use Rattle.minijinja_meaning.proofs.Lengths.{Exact, grows}
 
 -- an instruction takes the place of another
 pub set_between : {X : Type 0} (xs ys : List X) (x y : X) → slice_set (xs ++ x ∷ ys) (length xs) y ≡ xs ++ y ∷ ys

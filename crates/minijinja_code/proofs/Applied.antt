@@ -4,13 +4,13 @@ use Rattle.minijinja_syntax.specs.Texts.{Text}
 use Rattle.minijinja_value.specs.Values.{Functions}
 use Rattle.minijinja_syntax.specs.declared.error.Error.{Error}
 use Rattle.minijinja_tree.specs.Tree.{Expr, test, filter, Optional, Args}
-use Rattle.minijinja_code.specs.Code.{Apply}
-use Rattle.minijinja_code.specs.Events.{PerformTest, ApplyFilter}
-use Rattle.minijinja_code.specs.Pieces.{Here, behind, one, ◌▸◌, id_of, noted}
-use Rattle.minijinja_code.specs.Layout.{apply_filter, perform_test, argument_count, expr, operand}
+use Rattle.minijinja_meaning.specs.Code.{Apply}
+use Rattle.minijinja_meaning.specs.Events.{PerformTest, ApplyFilter}
+use Rattle.minijinja_meaning.specs.Pieces.{Here, behind, one, ◌▸◌, id_of, noted}
+use Rattle.minijinja_meaning.specs.Layout.{apply_filter, perform_test, argument_count, expr, operand}
 use Rattle.minijinja_code.specs.private.Making.{Made, here_of, given, Adds, Refuses}
 use Rattle.minijinja_code.proofs.Adding.{adds_then, refuses_first, refuses_then, refuses_later}
-use Rattle.minijinja_code.proofs.Lengths.{Exact, then_exact, arguments_exact, positional_exact, keyword_exact, filter_exact, test_exact}
+use Rattle.minijinja_meaning.proofs.Lengths.{Exact, then_exact, arguments_exact, positional_exact, keyword_exact, filter_exact, test_exact}
 
 module _ {C : Type 0} where
   perform_adds : {c d z : Made C} (x : Text) (m n : Option ℕ) (id : ℕ) → d ≡ record c { tests = noted x c.tests } → id ≡ id_of x c.tests → m ≡ n → Adds d z (one (Apply PerformTest x m id)) → Adds c z (perform_test x n)

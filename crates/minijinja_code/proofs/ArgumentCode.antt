@@ -9,12 +9,12 @@ use Rattle.minijinja_tree.specs.Tree.{Args, no_args, pos, pos_splat, kwarg, kwar
 use Rattle.minijinja_tree.specs.WellFormed.{AreArguments, arg_count}
 use Rattle.minijinja_tree.specs.declared.ast.CallArg.{CallArg, Pos, Kwarg, PosSplat, KwargSplat}
 use Rattle.minijinja_tree.specs.declared.ast.Expr.{Expr}
-use Rattle.minijinja_code.specs.Code.{Load}
-use Rattle.minijinja_code.specs.Pieces.{Here, behind, Piece, nothing, one, ◌▸◌}
-use Rattle.minijinja_code.specs.Layout.{Count, batch_count, count_one, count_batch, count_positional, count_keyword, list_batch, map_batch, expr, positional, keyword}
+use Rattle.minijinja_meaning.specs.Code.{Load}
+use Rattle.minijinja_meaning.specs.Pieces.{Here, behind, Piece, nothing, one, ◌▸◌}
+use Rattle.minijinja_meaning.specs.Layout.{Count, batch_count, count_one, count_batch, count_positional, count_keyword, list_batch, map_batch, expr, positional, keyword}
 use Rattle.minijinja_code.specs.private.Making.{Made, here_of, Adds, Refuses, IsAdded}
-use Rattle.minijinja_code.proofs.Runs.{append_nil}
-use Rattle.minijinja_code.proofs.Lengths.{Exact, grows, expr_exact, positional_exact, keyword_exact}
+use Rattle.minijinja_meaning.proofs.Runs.{append_nil}
+use Rattle.minijinja_meaning.proofs.Lengths.{Exact, grows, expr_exact, positional_exact, keyword_exact}
 use Rattle.minijinja_code.proofs.Adding.{adds_then, adds_as, adds_nothing, refuses_first, refuses_then, refuses_later}
 use Rattle.minijinja_code.proofs.Exits.{added_ok}
 

@@ -1,12 +1,12 @@
 -- The code that closes, merges and spreads batches, by how many there are.
 use Rattle.std.proofs.Common.{◌≡◌, ℕ, zero, suc, ◌+◌, ◌<◌, ◌≤◌, [], Some, None, refl, sym, ap, subst, arith}
 use Rattle.minijinja_syntax.specs.declared.error.Error.{Error}
-use Rattle.minijinja_code.specs.Code.{Do}
-use Rattle.minijinja_code.specs.Events.{MergeKwargs, UnpackLists}
-use Rattle.minijinja_code.specs.Pieces.{Here, behind, Piece, one, ◌▸◌}
-use Rattle.minijinja_code.specs.Layout.{batch_count, list_batch, map_batch, merged, map_count, spreading, counted}
+use Rattle.minijinja_meaning.specs.Code.{Do}
+use Rattle.minijinja_meaning.specs.Events.{MergeKwargs, UnpackLists}
+use Rattle.minijinja_meaning.specs.Pieces.{Here, behind, Piece, one, ◌▸◌}
+use Rattle.minijinja_meaning.specs.Layout.{batch_count, list_batch, map_batch, merged, map_count, spreading, counted}
 use Rattle.minijinja_code.specs.private.Making.{Made, here_of, Adds, Refuses}
-use Rattle.minijinja_code.proofs.Lengths.{one_exact}
+use Rattle.minijinja_meaning.proofs.Lengths.{one_exact}
 use Rattle.minijinja_code.proofs.Adding.{refuses_first, refuses_then, adds_then, adds_as, adds_nothing}
 
 module _ {C : Type 0} where

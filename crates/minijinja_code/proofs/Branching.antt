@@ -1,10 +1,10 @@
 -- What is refused in a part of an if expression.
 use Rattle.std.proofs.Common.{◌≡◌, ◌<◌, [], ◌∷◌, length, arith}
 use Rattle.minijinja_syntax.specs.declared.error.Error.{Error}
-use Rattle.minijinja_code.specs.Pieces.{Piece, one, ◌▸◌, branches}
+use Rattle.minijinja_meaning.specs.Pieces.{Piece, one, ◌▸◌, branches}
 use Rattle.minijinja_code.specs.private.Making.{Made, here_of, followed, hole, Adds, Refuses}
 use Rattle.minijinja_code.proofs.Adding.{adds_length, refuses_first, refuses_then, refuses_behind}
-use Rattle.minijinja_code.proofs.Lengths.{Exact, one_exact, then_exact}
+use Rattle.minijinja_meaning.proofs.Lengths.{Exact, one_exact, then_exact}
 use Rattle.minijinja_code.proofs.Longer.{Longer}
 
 module _ {C : Type 0} where

@@ -5,30 +5,31 @@ use Rattle.minijinja_syntax.specs.Texts.{Text}
 use Rattle.minijinja_value.specs.Values.{Functions}
 use Rattle.minijinja_syntax.specs.declared.error.Error.{Error}
 use Rattle.minijinja_tree.specs.Erasure.{expr_tree, compare_tree}
+use Rattle.minijinja_tree.specs.Callees.{Callee, method, block as block_named, callee_of_attribute}
 use Rattle.minijinja_tree.specs.Tree as tree
 use Rattle.minijinja_tree.specs.Tree.{variable, attribute, call, Args}
 use Rattle.minijinja_tree.specs.declared.ast.CallArg.TheBlock as block
 use Rattle.minijinja_tree.specs.declared.ast.Expr.{Expr}
 use Rattle.minijinja_tree.specs.declared.ast.Expr.TheVariants as expr
 use Rattle.minijinja_tree.specs.declared.ast.Expr.TheVariants.{Var, GetAttr', Compare'}
-use Rattle.minijinja_code.specs.Calls.{is_self}
-use Rattle.minijinja_code.specs.Code.{Instr, Call}
-use Rattle.minijinja_code.specs.Events.{CallFunction, CallMethod, CallObject}
-use Rattle.minijinja_code.specs.Layout as layout
-use Rattle.minijinja_code.specs.Layout.{captured, argument_count}
-use Rattle.minijinja_code.specs.Pieces.{Here, behind, Piece, one, ◌▸◌}
+use Rattle.minijinja_code.specs.private.Calling.{captured, is_self}
+use Rattle.minijinja_meaning.specs.Code.{Instr, Call}
+use Rattle.minijinja_meaning.specs.Events.{CallFunction, CallMethod, CallObject}
+use Rattle.minijinja_meaning.specs.Layout as layout
+use Rattle.minijinja_meaning.specs.Layout.{argument_count, call_of}
+use Rattle.minijinja_meaning.specs.Pieces.{Here, behind, Piece, one, ◌▸◌}
 use Rattle.minijinja_code.specs.private.Making.{Made, here_of, given, Adds, Refuses}
 use Rattle.minijinja_code.proofs.Adding.{adds_as, adds_then, refuses_first, refuses_then}
 use Rattle.minijinja_code.proofs.Applied.{given_exact}
-use Rattle.minijinja_code.proofs.Lengths.{one_exact, then_exact}
+use Rattle.minijinja_meaning.proofs.Lengths.{one_exact, then_exact}
 
-either_first : {X : Type 0} (b : Bool) (p q : X) → true ≡ b → p ≡ (if b then p else q)
-either_first true p q h = refl
-either_first false p q h = absurd (cc)
+method_chosen : {C : Type 0} (e : tree.Expr C) (x : Text) → false ≡ is_self e → callee_of_attribute e x ≡ method e x
+method_chosen (variable y) x n = ap (λ b. if b then block_named x else method (variable y) x) (sym n)
+method_chosen e x n = refl
 
-either_second : {X : Type 0} (b : Bool) (p q : X) → false ≡ b → q ≡ (if b then p else q)
-either_second false p q h = refl
-either_second true p q h = absurd (cc)
+block_chosen : {C : Type 0} (e : tree.Expr C) (x : Text) → true ≡ is_self e → callee_of_attribute e x ≡ block_named x
+block_chosen (variable y) x n = ap (λ b. if b then block_named x else method (variable y) x) (sym n)
+block_chosen e x n = absurd (cc)
 
 module _ {C F : Type 0} (f : Functions C F) where
   -- of a function
@@ -66,11 +67,11 @@ module _ {C F : Type 0} (f : Functions C F) where
   -- a method is called on the object of an attribute
   pub method_piece : {o e : tree.Expr C} {x : Text} (args : Args C) → o ≡ attribute e x → false ≡ is_self e →
       (layout.expr f e ▸ given f args 1 ▸ one (Call CallMethod x (argument_count args 1))) ≡ layout.expr f (call o args)
-  method_piece {o} {e} args is n = either_second (is_self e) _ _ n ∙ ap (λ p. layout.expr f (call p args)) (sym is)
+  method_piece {o} {e} {x} args is n = ap (λ c. call_of c (layout.expr f e) (layout.expr f (attribute e x)) (given f args) (argument_count args)) (sym (method_chosen e x n)) ∙ ap (λ p. layout.expr f (call p args)) (sym is)
 
   -- an attribute of the template itself is a block
   pub block_piece : {o e : tree.Expr C} {x : Text} (args : Args C) → o ≡ attribute e x → true ≡ is_self e → captured x ≡ layout.expr f (call o args)
-  block_piece {o} {e} args is n = either_first (is_self e) _ _ n ∙ ap (λ p. layout.expr f (call p args)) (sym is)
+  block_piece {o} {e} {x} args is n = ap (λ c. call_of c (layout.expr f e) (layout.expr f (attribute e x)) (given f args) (argument_count args)) (sym (block_chosen e x n)) ∙ ap (λ p. layout.expr f (call p args)) (sym is)
 
   compare_piece : {V K : Type 0} (c : V → C) (q : block.the_data-4 V K) (args : Args C) →
       (layout.expr f (compare_tree c q) ▸ given f args 1 ▸ one (Call CallObject [] (argument_count args 1))) ≡ layout.expr f (call (compare_tree c q) args)

@@ -3,9 +3,9 @@ use Rattle.std.proofs.Common.{◌≡◌, ℕ, zero, suc, ◌+◌, ◌<◌, ◌^�
 use Rattle.std.specs.Prelude.{slice_set}
 use Rattle.std.proofs.lemmas.List.{length-set}
 use Rattle.minijinja_tree.specs.CompareOps.{CompareOp}
-use Rattle.minijinja_code.specs.Code.{Instr, CompareAndPreserve, Jump, JumpIfFalseOrPop, Swap, DiscardTop}
-use Rattle.minijinja_code.specs.Pieces.{Here, behind, Piece, one, ◌▸◌}
-use Rattle.minijinja_code.specs.Layout.{Failing, last, and_then, chained}
+use Rattle.minijinja_meaning.specs.Code.{Instr, CompareAndPreserve, Jump, JumpIfFalseOrPop, Swap, DiscardTop}
+use Rattle.minijinja_meaning.specs.Pieces.{Here, behind, Piece, one, ◌▸◌, plain}
+use Rattle.minijinja_meaning.specs.Layout.{Failing, and_then, chained}
 use Rattle.minijinja_code.specs.private.Making.{Made, here_of, followed, hole, Adds}
 use Rattle.minijinja_code.specs.private.Comparing.{with_jumps, jumping, operand_then, Leads, leaving, Closes}
 use Rattle.minijinja_code.proofs.Adding.{set_between, here_behind, adds_length, adds_filled, adds_kept, one_small}
@@ -107,7 +107,7 @@ module _ {C : Type 0} where
       }
 
   -- the last comparison and the end of the chain, and then the jumps
-  pub closes : {a b c d : Made C} {p : Piece C} {n : ℕ} (ps : List ℕ) → Adds a b p → Adds b c leaving → n ≡ length b.code + 1 → d ≡ jumping ps n c → Closes a ps (last p) d
+  pub closes : {a b c d : Made C} {p : Piece C} {n : ℕ} (ps : List ℕ) → Adds a b p → Adds b c leaving → n ≡ length b.code + 1 → d ≡ jumping ps n c → Closes a ps (plain p) d
   closes {a} {b} {c} {d} {p} {n} ps s t en ed =
       let h : Here = here_of a in
       let e : Here = p.past h in

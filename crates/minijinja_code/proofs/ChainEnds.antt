@@ -16,15 +16,15 @@ use Rattle.minijinja_tree.specs.WellFormed.{IsWhole, IsChain, AreCompared}
 use Rattle.minijinja_tree.specs.declared.ast.Compare.{Compare, out-Compare}
 use Rattle.minijinja_tree.proofs.Nodes.{compare_is}
 use Rattle.minijinja_tree.specs.declared.ast.CompareOp.{CompareOp as Comparison}
-use Rattle.minijinja_code.specs.Code.{Instr}
-use Rattle.minijinja_code.specs.Pieces.{Here, ◌▸◌}
-use Rattle.minijinja_code.specs.Layout.{Failing, last, comparison, expr, chain, comparisons}
+use Rattle.minijinja_meaning.specs.Code.{Instr}
+use Rattle.minijinja_meaning.specs.Pieces.{Here, ◌▸◌}
+use Rattle.minijinja_meaning.specs.Layout.{Failing, comparison, expr, chain, comparisons}
 use Rattle.minijinja_code.specs.private.Making.{Made, here_of, Adds, AddsUnless, Refuses, RefusesUnfolded, IsPart}
 use Rattle.minijinja_code.specs.private.Comparing.{operand_then, behind_one, behind_two, ahead, Leads, leaving, Closes, Holds}
-use Rattle.minijinja_code.proofs.Lengths.{grows, expr_exact, failing_grows, comparisons_exact}
+use Rattle.minijinja_meaning.proofs.Lengths.{grows, exact_to, expr_exact, comparisons_exact}
 use Rattle.minijinja_code.proofs.Adding.{adds_as, cut_back}
 use Rattle.minijinja_code.proofs.Exits.{part_err}
-use Rattle.minijinja_code.proofs.FoldedCode.{folded_none}
+use Rattle.minijinja_meaning.proofs.FoldedCode.{folded_none}
 use Rattle.minijinja_code.proofs.ChainCode.{leads_closes, adds_chain}
 use Rattle.minijinja_code.proofs.ChainFolds.{chain_none, known_none, leads_as, no_constant, Underway}
 
@@ -94,11 +94,11 @@ module _ {V K C F : Type 0} (f : Functions C F) (c : V → C) where
   first_before e (x ∷ xs) a some =
       let h : Here = (expr f e).past (here_of a) in
       let operand = grows (expr_exact f (expr_tree c x.expr)) h in
-      let most = failing_grows (comparisons_exact f (comparisons_of c xs) (compare_op x.op)) ((expr f (expr_tree c x.expr)).past h) in
+      let most = grows (exact_to (comparisons_exact f (comparisons_of c xs) (compare_op x.op)) 0) ((expr f (expr_tree c x.expr)).past h) in
       omega (arith, operand, most)
 
-  -- after all comparisons but the last
-  last_ahead : (xs : List (Comparison V K)) (x : Comparison V K) → 0 < length xs → ahead f c xs (length xs) ≡ last (comparison (compare_op (get_or xs (length xs - 1) x).op))
+  -- after all comparisons but the plain
+  last_ahead : (xs : List (Comparison V K)) (x : Comparison V K) → 0 < length xs → ahead f c xs (length xs) ≡ plain (comparison (compare_op (get_or xs (length xs - 1) x).op))
   last_ahead xs x some =
       let j : ℕ = length xs - 1 in
       let o : CompareOp = compare_op (get_or xs j x).op in
@@ -129,10 +129,10 @@ module _ {V K C F : Type 0} (f : Functions C F) (c : V → C) where
     unfolding if_some
     end_unfolded none = u.folds ∙ ap (λ k. if_some k (λ v. fold_chain f v (comparisons_of c (drop n xs)))) (not_known m.code held u.value u.holds none)
 
-    end_leads : (x : Comparison V K) → n ≡ length xs → 0 < length xs → Leads a [] (whole e xs) m ps (last (comparison (compare_op (get_or xs (length xs - 1) x).op)))
+    end_leads : (x : Comparison V K) → n ≡ length xs → 0 < length xs → Leads a [] (whole e xs) m ps (plain (comparison (compare_op (get_or xs (length xs - 1) x).op)))
     end_leads x all some = leads_as refl (ap (ahead f c xs) all ∙ last_ahead xs x some) u.leads
 
-    pub end_adds : {d : Made C} (x : Comparison V K) → n ≡ length xs → 0 < length xs → is_some held ≡ false → Closes m ps (last (comparison (compare_op (get_or xs (length xs - 1) x).op))) d → Adds a d (expr f (compare e (comparisons_of c xs)))
+    pub end_adds : {d : Made C} (x : Comparison V K) → n ≡ length xs → 0 < length xs → is_some held ≡ false → Closes m ps (plain (comparison (compare_op (get_or xs (length xs - 1) x).op))) d → Adds a d (expr f (compare e (comparisons_of c xs)))
     end_adds x all some none k =
         adds_as (sym (chain_code e xs (end_unfolded none))) (closes_chain e xs some (leads_closes (end_leads x all some) k))
 
@@ -150,7 +150,7 @@ module _ {V K C F : Type 0} (f : Functions C F) (c : V → C) where
         let h : Here = (expr f (expr_tree c y.expr)).past (here_of m1) in
         let was : behind_one f (comparisons_of c (drop n xs)) ≡ operand_then (expr f (expr_tree c y.expr)) (comparisons f o rest) = at_drop_more (λ ys. behind_one f (comparisons_of c ys)) xs n x within in
         let end : (comparisons f o rest).past h ≡ (whole e xs).past (here_of a) = ap (λ (q : Failing C). q.past (here_of m1)) (sym was) ∙ l.past ∙ u.leads.past in
-        let most = failing_grows (comparisons_exact f rest o) h in
+        let most = grows (exact_to (comparisons_exact f rest o) 0) h in
         refused_chain e xs a (omega (arith, within)) (omega (arith, ap (λ k. k.place) end, most))
         (λ many. u.folds ∙ at_drop_more (λ ys. if_some u.value (λ v. fold_chain f v (comparisons_of c ys))) xs n x within
         ∙ chain_none f o (expr_tree c y.expr) rest u.value None (sym (r.unfolded many)) (sym (known_none f o u.value)))

@@ -12,11 +12,11 @@ use Rattle.minijinja_tree.specs.Tree.{Expr, Comparisons, against, compare}
 use Rattle.minijinja_tree.specs.Erasure.{expr_tree, compare_op, comparisons_of}
 use Rattle.minijinja_tree.specs.declared.ast.CompareOp.{CompareOp as Comparison}
 use Rattle.minijinja_tree.proofs.Chains.{chain-holds, chain-fails, chain-faults, chain-unknown}
-use Rattle.minijinja_code.specs.Code.{Instr, Load, CompareAndPreserve, JumpIfFalseOrPop}
-use Rattle.minijinja_code.specs.Layout.{Failing, and_then, expr, comparisons}
+use Rattle.minijinja_meaning.specs.Code.{Instr, Load, CompareAndPreserve, JumpIfFalseOrPop}
+use Rattle.minijinja_meaning.specs.Layout.{Failing, and_then, expr, comparisons}
 use Rattle.minijinja_code.specs.private.Making.{Made, followed, AddsUnless}
 use Rattle.minijinja_code.specs.private.Comparing.{AreBelow, operand_then, behind_one, behind_two, ahead, Leads, Holds, loaded, known}
-use Rattle.minijinja_code.proofs.FoldedCode.{folded_code}
+use Rattle.minijinja_meaning.proofs.FoldedCode.{folded_code}
 use Rattle.minijinja_code.proofs.ChainCode.{Puts, puts_added, puts_kept, leads_comparison}
 
 module _ {X : Type 0} where

@@ -9,13 +9,13 @@ use Rattle.minijinja_tree.specs.Folding.{if_some, fold, fold_chain}
 use Rattle.minijinja_tree.specs.Tree.{Expr, against, compare}
 use Rattle.minijinja_tree.specs.Erasure.{expr_tree, compare_op, comparisons_of}
 use Rattle.minijinja_tree.specs.declared.ast.CompareOp.{CompareOp as Comparison}
-use Rattle.minijinja_code.specs.Code.{Instr, Load}
-use Rattle.minijinja_code.specs.Pieces.{Piece}
-use Rattle.minijinja_code.specs.Layout.{Failing, expr, comparisons}
+use Rattle.minijinja_meaning.specs.Code.{Instr, Load}
+use Rattle.minijinja_meaning.specs.Pieces.{Piece}
+use Rattle.minijinja_meaning.specs.Layout.{Failing, expr, comparisons}
 use Rattle.minijinja_code.specs.private.Making.{Made, here_of, followed, AddsUnless}
 use Rattle.minijinja_code.specs.private.Comparing.{AreBelow, operand_then, behind_one, behind_two, ahead, Leads, Holds, loaded, known}
-use Rattle.minijinja_code.proofs.Runs.{append_nil}
-use Rattle.minijinja_code.proofs.Lengths.{grows, expr_exact}
+use Rattle.minijinja_meaning.proofs.Runs.{append_nil}
+use Rattle.minijinja_meaning.proofs.Lengths.{grows, expr_exact}
 use Rattle.minijinja_code.proofs.Adding.{cut_back}
 use Rattle.minijinja_code.proofs.ChainCode.{leads_then, leads_operand}
 use Rattle.minijinja_code.proofs.ChainFolds.{get_behind, below_later, holds_before, chain_true, chain_false, chain_none, known_none, leads_as, puts_part, Underway}

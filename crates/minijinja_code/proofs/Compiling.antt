@@ -12,13 +12,13 @@ use Rattle.minijinja_tree.specs.BinOps.{BinOp}
 use Rattle.minijinja_tree.specs.Operators.{Working, working}
 use Rattle.minijinja_tree.specs.Folding.{if_some, fold, fold_unary, fold_binary}
 use Rattle.minijinja_tree.specs.Tree.{UnaryOp, Expr, variable, constant, slice, unary, binary, compare, if_expr, filter, test, attribute, item, call, list, tuple, map}
-use Rattle.minijinja_code.specs.Code.{Load, Jump, JumpIfFalse}
-use Rattle.minijinja_code.specs.Pieces.{Here, behind, Piece, one, ◌▸◌, branches}
-use Rattle.minijinja_code.specs.Layout.{folded, operation, expr}
+use Rattle.minijinja_meaning.specs.Code.{Load, Jump, JumpIfFalse}
+use Rattle.minijinja_meaning.specs.Pieces.{Here, behind, Piece, one, ◌▸◌, branches}
+use Rattle.minijinja_meaning.specs.Layout.{folded, operation, expr}
 use Rattle.minijinja_code.specs.private.Making.{Made, here_of, followed, hole, Adds, AddsUnless, Refuses, RefusesUnfolded, IsAdded, IsPart, Gives, IsExprPart}
 use Rattle.minijinja_code.proofs.Adding.{adds_then, adds_as, adds_filled, here_behind, refuses_memory}
 use Rattle.minijinja_code.proofs.Exits.{part_err, unfolded_memory, unfolded_none}
-use Rattle.minijinja_code.proofs.FoldedCode.{folded_none, folded_code}
+use Rattle.minijinja_meaning.proofs.FoldedCode.{folded_none, folded_code}
 
 none_is : {X C : Type 0} (c : X → C) (r : Option X) {s : Option C} → option_map c r ≡ s → r ≡ None → s ≡ None
 none_is c r e n = sym e ∙ ap (option_map c) n

@@ -8,11 +8,12 @@ use Rattle.minijinja_tree.specs.Erasure.{exprs_of}
 use Rattle.minijinja_tree.specs.Tree.{Optional}
 use Rattle.minijinja_tree.specs.declared.ast.Expr.{Expr}
 use Rattle.minijinja_tree.specs.Operators.{Working, Makes, Divides, IfTrue, IfFalse}
-use Rattle.minijinja_code.specs.Code.{Apply}
-use Rattle.minijinja_code.specs.Events.{ApplyFilter, PerformTest}
+use Rattle.minijinja_tree.specs.WellFormed.{expr_count}
+use Rattle.minijinja_meaning.specs.Code.{Apply}
+use Rattle.minijinja_meaning.specs.Events.{ApplyFilter, PerformTest}
 use Rattle.minijinja_code.proofs.Adding.{refuses_later}
-use Rattle.minijinja_code.specs.Pieces.{Here, Piece, behind, one, id_of, noted}
-use Rattle.minijinja_code.specs.Layout.{optional, items, item_count, operation, apply_filter, perform_test}
+use Rattle.minijinja_meaning.specs.Pieces.{Here, Piece, behind, one, id_of, noted}
+use Rattle.minijinja_meaning.specs.Layout.{optional, items, operation, apply_filter, perform_test}
 use Rattle.minijinja_code.specs.private.Making.{Made, here_of, Adds, Refuses, RefusesUnfolded, is_lazy}
 
 pub optional_as : {C F : Type 0} (f : Functions C F) {a b : Made C} {d d' : C} (o : Optional C) → d ≡ d' → Adds a b (optional f d o) → Adds a b (optional f d' o)
@@ -26,7 +27,7 @@ pub const_none : {C X : Type 0} (c : X → C) (x : Option X) {r : Option C} → 
 const_none c None e n = sym e
 const_none c (Some v) e n = absurd (n v refl)
 
-pub exprs_count : {V F C : Type 0} (c : V → C) (xs : List (Expr V F)) → item_count (exprs_of c xs) ≡ length xs
+pub exprs_count : {V F C : Type 0} (c : V → C) (xs : List (Expr V F)) → expr_count (exprs_of c xs) ≡ length xs
 exprs_count c [] = refl
 exprs_count c (x ∷ xs) = omega (arith, exprs_count c xs)
 

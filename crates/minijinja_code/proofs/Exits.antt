@@ -3,7 +3,7 @@ use Rattle.std.proofs.Common.{◌≡◌, Option, None, Result, Ok, Err, sym, sub
 use Rattle.std.specs.Result.{IsErrAnd}
 use Rattle.minijinja_syntax.specs.Errors.{IsOutOfMemory}
 use Rattle.minijinja_syntax.specs.declared.error.Error.{Error}
-use Rattle.minijinja_code.specs.Pieces.{Here, Piece}
+use Rattle.minijinja_meaning.specs.Pieces.{Here, Piece}
 use Rattle.minijinja_code.specs.private.Making.{Made, here_of, Adds, Refuses, RefusesUnfolded, IsAdded, IsPart}
 use Rattle.minijinja_code.proofs.Adding.{refuses_memory}
 

@@ -3,7 +3,7 @@ use Rattle.std.proofs.Common.{◌≡◌, ℕ, suc, ◌+◌, ◌<◌, List, ◌�
 use Rattle.std.specs.Prelude.{bytes_eq, if◌then◌else◌}
 use Rattle.std.proofs.lemmas.List.{at_drop_more, take-append-drop, map-append}
 use Rattle.minijinja_syntax.specs.Texts.{Text}
-use Rattle.minijinja_code.specs.Pieces.{noted_behind, noted}
+use Rattle.minijinja_meaning.specs.Pieces.{noted_behind, noted}
 
 abbrev now_of : Bor Text → Text
 now_of x = x.now

@@ -3,9 +3,9 @@ use Rattle.std.proofs.Common.{ℕ, ◌++◌, Option, Some, None, arith, length-a
 use Rattle.std.specs.Prelude.{IfNone}
 use Rattle.minijinja_syntax.specs.declared.error.Error.{Error}
 use Rattle.minijinja_code.specs.Generator.{OnlyWhereTooLong}
-use Rattle.minijinja_code.specs.Pieces.{Piece}
+use Rattle.minijinja_meaning.specs.Pieces.{Piece}
 use Rattle.minijinja_code.specs.private.Making.{Made, here_of, Refuses}
-use Rattle.minijinja_code.proofs.Lengths.{Exact}
+use Rattle.minijinja_meaning.proofs.Lengths.{Exact}
 
 pub if_none : {X : Type 0} {P : Type 0} (o : Option X) → P → IfNone o P
 if_none None p = p

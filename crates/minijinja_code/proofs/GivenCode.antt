@@ -9,17 +9,17 @@ use Rattle.minijinja_syntax.specs.declared.error.Error.{Error}
 use Rattle.minijinja_tree.specs.Tree.{Args}
 use Rattle.minijinja_tree.specs.WellFormed.{arg_count, most_arguments}
 use Rattle.minijinja_tree.specs.Folding.{constant_keywords, fold_keywords}
-use Rattle.minijinja_code.specs.Code.{Load}
-use Rattle.minijinja_code.specs.Pieces.{Here, behind, Piece, one, ◌▸◌}
-use Rattle.minijinja_code.specs.Layout.{Count, count_positional, count_keyword, merged, map_count, spreading, positional, keyword}
+use Rattle.minijinja_meaning.specs.Code.{Load}
+use Rattle.minijinja_meaning.specs.Pieces.{Here, behind, Piece, one, ◌▸◌}
+use Rattle.minijinja_meaning.specs.Layout.{Count, count_positional, count_keyword, merged, map_count, spreading, positional, keyword}
 use Rattle.minijinja_code.specs.private.Making.{Made, here_of, operands, given, keyword_map, Adds, Refuses, IsAdded}
 use Rattle.minijinja_code.proofs.Adding.{adds_as, adds_then, refuses_first, refuses_then, refuses_memory}
 use Rattle.minijinja_code.proofs.ArgumentCode.{size, count_positional_few, count_keyword_few}
-use Rattle.minijinja_code.proofs.Arguments.{AllCounted, all_counted, one_map, none_counted}
+use Rattle.minijinja_meaning.proofs.Arguments.{AllCounted, all_counted, one_map, none_counted}
 use Rattle.minijinja_code.proofs.Batches.{map_count_few}
 use Rattle.minijinja_code.proofs.Exits.{added_ok}
-use Rattle.minijinja_code.proofs.FoldedCode.{folded_some, folded_none}
-use Rattle.minijinja_code.proofs.Lengths.{Exact, then_exact, folded_exact, merged_exact, spreading_exact, keyword_exact}
+use Rattle.minijinja_meaning.proofs.FoldedCode.{folded_some, folded_none}
+use Rattle.minijinja_meaning.proofs.Lengths.{Exact, then_exact, folded_exact, merged_exact, spreading_exact, keyword_exact}
 
 -- a piece that was added, and what a call answered that adds the next one
 pub then_added : {C X : Type 0} {a b c : Made C} {p : Piece C} (q : Piece C) (r : Result X Error) → Adds a b p → OnOk r (Adds b c q) → IfErr r (λ e. Refuses e (q.past (here_of b))) → IsAdded a (p ▸ q) r c

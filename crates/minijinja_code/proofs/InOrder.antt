@@ -6,11 +6,11 @@ use Rattle.minijinja_syntax.specs.declared.error.Error.{Error}
 use Rattle.minijinja_tree.specs.Erasure.{expr_tree, exprs_of}
 use Rattle.minijinja_tree.specs.WellFormed.{IsWhole, AreWhole, expr_count}
 use Rattle.minijinja_tree.specs.declared.ast.Expr.{Expr}
-use Rattle.minijinja_code.specs.Layout as layout
-use Rattle.minijinja_code.specs.Layout.{items, each, paired, pair_count}
-use Rattle.minijinja_code.specs.Pieces.{Piece, nothing, ◌▸◌}
+use Rattle.minijinja_meaning.specs.Layout as layout
+use Rattle.minijinja_meaning.specs.Layout.{items, each, paired}
+use Rattle.minijinja_meaning.specs.Pieces.{Piece, nothing, ◌▸◌}
 use Rattle.minijinja_code.specs.private.Making.{Made, here_of, Refuses}
-use Rattle.minijinja_code.proofs.Lengths.{Exact, then_exact, expr_exact, paired_exact, each_exact}
+use Rattle.minijinja_meaning.proofs.Lengths.{Exact, then_exact, expr_exact, paired_exact, each_exact}
 use Rattle.minijinja_code.proofs.OneByOne.{Going, going_refused}
 
 pub count_length : {V K C : Type 0} (c : V → C) (xs : List (Expr V K)) → expr_count (exprs_of c xs) ≡ length xs
@@ -48,11 +48,6 @@ module _ {V K C F : Type 0} (f : Functions C F) (c : V → C) where
 
   pub pairs_end : (ks vs : List (Expr V K)) (i : ℕ) → length ks ≤ i → pairs (drop i ks) (drop i vs) ≡ nothing
   pairs_end ks vs i past = at_drop_all (λ ys. pairs ys (drop i vs)) ks i past
-
-  pub pairs_count : (ks vs : List (Expr V K)) → length ks ≡ length vs → pair_count (each f (exprs_of c ks)) (each f (exprs_of c vs)) ≡ length ks
-  pairs_count [] vs e = refl
-  pairs_count (k ∷ ks) [] e = absurd (omega (arith, e))
-  pairs_count (k ∷ ks) (v ∷ vs) e = ap suc (pairs_count ks vs (omega (arith, e)))
 
   pairs_exact : (ks vs : List (Expr V K)) → Exact (pairs ks vs)
   pairs_exact ks vs = paired_exact (each f (exprs_of c ks)) (each f (exprs_of c vs)) (each_exact f (exprs_of c ks)) (each_exact f (exprs_of c vs))

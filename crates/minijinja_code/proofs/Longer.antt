@@ -6,12 +6,12 @@ use Rattle.minijinja_value.specs.Values.{Functions}
 use Rattle.minijinja_tree.specs.Operators.{Working, Makes, Divides, IfTrue, IfFalse, working}
 use Rattle.minijinja_tree.specs.Folding.{fold}
 use Rattle.minijinja_tree.specs.Tree.{Expr, variable, constant, slice, unary, binary, compare, if_expr, filter, test, attribute, item, call, list, tuple, map, Optional, absent, present, Args}
-use Rattle.minijinja_code.specs.Calls.{is_self}
-use Rattle.minijinja_code.specs.Code.{Instr}
-use Rattle.minijinja_code.specs.Pieces.{Here, behind, Piece, one, ◌▸◌}
-use Rattle.minijinja_code.specs.Layout.{folded, operation, arguments, apply_filter, expr, optional, operand, each, positional, keyword}
+use Rattle.minijinja_tree.specs.Callees.{Callee, function, method, block, object, callee}
+use Rattle.minijinja_meaning.specs.Code.{Instr}
+use Rattle.minijinja_meaning.specs.Pieces.{Here, behind, Piece, one, ◌▸◌}
+use Rattle.minijinja_meaning.specs.Layout.{folded, operation, arguments, argument_count, apply_filter, call_of, expr, optional, each, positional, keyword}
 use Rattle.minijinja_code.specs.private.Making.{Made, here_of, Adds}
-use Rattle.minijinja_code.proofs.Lengths.{Exact, grows, nothing_exact, one_exact, then_exact, test_exact, branches_exact, operation_exact, paired_exact, arguments_exact, expr_exact, optional_exact, items_exact, each_exact, chain_exact, positional_exact, keyword_exact}
+use Rattle.minijinja_meaning.proofs.Lengths.{Exact, grows, one_exact, then_exact, test_exact, branches_exact, operation_exact, paired_exact, arguments_exact, expr_exact, base_exact, optional_exact, operand_exact, items_exact, each_exact, chain_exact, positional_exact, keyword_exact}
 use Rattle.minijinja_code.proofs.Adding.{adds_length}
 
 pub record Longer {C : Type 0} (p : Piece C) : Type 0 where
@@ -32,20 +32,18 @@ module _ {C : Type 0} where
   folded_longer None l = l
   folded_longer (Some c) l = one_longer _
 
-  either_longer : (b : Bool) {p q : Piece C} → Longer p → Longer q → Longer (if b then p else q)
-  either_longer true l m = l
-  either_longer false l m = m
-
   filter_longer : (x : Text) (n : Option ℕ) → Longer {C = C} (apply_filter x n)
   filter_longer x n = record { more = λ h. omega arith }
 
 module _ {C F : Type 0} (f : Functions C F) where
-  operand_exact : (o : Optional C) → Exact (operand f o)
-  operand_exact absent = nothing_exact
-  operand_exact (present e) = expr_exact f e
-
   given_exact : (args : Args C) (n : ℕ) → Exact (arguments f args n (positional f args n) (keyword f args 0))
   given_exact args n = arguments_exact f args n (positional_exact f args n) (keyword_exact f args 0)
+
+  call_longer : (c : Callee C) (count : ℕ → Option ℕ) {b v : Piece C} {given : ℕ → Piece C} → Exact b → Exact v → ((n : ℕ) → Exact (given n)) → Longer (call_of c b v given count)
+  call_longer (function x) count eb ev eg = last_longer (eg 0) (one_longer _)
+  call_longer (block x) count eb ev eg = first_longer (one_longer _) (then_exact (one_exact _) (one_exact _))
+  call_longer (method e x) count eb ev eg = last_longer eb (last_longer (eg 1) (one_longer _))
+  call_longer (object e) count eb ev eg = last_longer ev (last_longer (eg 1) (one_longer _))
 
   pub expr_longer : (e : Expr C) → Longer (expr f e)
   expr_longer (variable x) = one_longer _
@@ -55,15 +53,11 @@ module _ {C F : Type 0} (f : Functions C F) where
   expr_longer (binary o a b) = folded_longer (fold f (binary o a b)) (first_longer (expr_longer a) (operation_exact (working o) (expr_exact f b)))
   expr_longer (compare e cs) = folded_longer (fold f (compare e cs)) (first_longer (expr_longer e) (chain_exact f cs))
   expr_longer (if_expr t a b) = first_longer (expr_longer t) (branches_exact (expr_exact f a) (optional_exact f f.silent_undefined b))
-  expr_longer (filter o x args) = last_longer (operand_exact o) (last_longer (given_exact args 1) (filter_longer _ _))
+  expr_longer (filter o x args) = last_longer (operand_exact f o) (last_longer (given_exact args 1) (filter_longer _ _))
   expr_longer (test e x args) = first_longer (expr_longer e) (then_exact (given_exact args 1) (test_exact _ _))
   expr_longer (attribute e x) = first_longer (expr_longer e) (one_exact _)
   expr_longer (item e k) = first_longer (expr_longer e) (then_exact (expr_exact f k) (one_exact _))
-  expr_longer (call (variable x) args) = last_longer (given_exact args 0) (one_longer _)
-  expr_longer (call (attribute e x) args) =
-      either_longer (is_self e) (first_longer (one_longer _) (then_exact (one_exact _) (one_exact _)))
-      (first_longer (expr_longer e) (then_exact (given_exact args 1) (one_exact _)))
-  expr_longer (call e args) = first_longer (expr_longer e) (then_exact (given_exact args 1) (one_exact _))
+  expr_longer (call e args) = call_longer (callee e) (argument_count args) (base_exact f e) (expr_exact f e) (given_exact args)
   expr_longer (list es) = folded_longer (fold f (list es)) (last_longer (items_exact f es) (one_longer _))
   expr_longer (tuple es) = folded_longer (fold f (tuple es)) (last_longer (items_exact f es) (one_longer _))
   expr_longer (map ks vs) = folded_longer (fold f (map ks vs)) (last_longer (paired_exact (each f ks) (each f vs) (each_exact f ks) (each_exact f vs)) (one_longer _))

@@ -2,11 +2,11 @@
 use Rattle.std.proofs.Common.{◌≡◌, ◌<◌, ◌≤◌, ◌^◌, List, ◌++◌, length, sym, ap, ◌∙◌, subst, arith, ⊎_elim, append_assoc, length-append}
 use Rattle.std.proofs.lemmas.Bool.{cases_lt}
 use Rattle.minijinja_syntax.specs.declared.error.Error.{Error}
-use Rattle.minijinja_code.specs.Code.{Instr}
-use Rattle.minijinja_code.specs.Pieces.{Here, Piece, nothing, ◌▸◌}
+use Rattle.minijinja_meaning.specs.Code.{Instr}
+use Rattle.minijinja_meaning.specs.Pieces.{Here, Piece, nothing, ◌▸◌}
 use Rattle.minijinja_code.specs.private.Making.{Made, here_of, Adds, Refuses}
-use Rattle.minijinja_code.proofs.Runs.{append_nil}
-use Rattle.minijinja_code.proofs.Lengths.{Exact, grows}
+use Rattle.minijinja_meaning.proofs.Runs.{append_nil}
+use Rattle.minijinja_meaning.proofs.Lengths.{Exact, grows}
 use Rattle.minijinja_code.proofs.Adding.{refuses_later}
 
 pub record Going {C : Type 0} (old now : Made C) (whole rest : Piece C) : Type 0 where

@@ -9,8 +9,8 @@ use Rattle.minijinja_tree.specs.declared.ast.CallArg.TheBlock as block
 use Rattle.minijinja_tree.specs.declared.ast.Expr.{Expr}
 use Rattle.minijinja_tree.specs.declared.ast.Expr.TheVariants as expr
 use Rattle.minijinja_tree.specs.declared.ast.Expr.TheVariants.{Var, Compare'}
-use Rattle.minijinja_code.specs.Calls.{Recursion, Plain, written_loop, written_function, written}
-use Rattle.minijinja_code.proofs.StatementSimulation.{WrittenWhole, written_whole}
+use Rattle.minijinja_meaning.specs.Calls.{Recursion, Plain, written_loop, written_function, written}
+use Rattle.minijinja_meaning.proofs.StatementSimulation.{WrittenWhole, written_whole}
 
 compare_plain : {V F C : Type 0} (c : V → C) (q : block.the_data-4 V F) → written (compare_tree c q) ≡ Plain
 compare_plain c (block.struct-Compare e k ops) = refl

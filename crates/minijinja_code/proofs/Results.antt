@@ -8,11 +8,11 @@ use Rattle.minijinja_tree.specs.BinOps.{BinOp}
 use Rattle.minijinja_tree.specs.Operators.{working}
 use Rattle.minijinja_tree.specs.Folding.{fold, fold_unary, fold_binary}
 use Rattle.minijinja_tree.specs.Tree.{UnaryOp, Expr, unary, binary}
-use Rattle.minijinja_code.specs.Code.{Load}
-use Rattle.minijinja_code.specs.Pieces.{Piece, one, ◌▸◌}
-use Rattle.minijinja_code.specs.Layout.{operation, unary_instr, expr}
+use Rattle.minijinja_meaning.specs.Code.{Load}
+use Rattle.minijinja_meaning.specs.Pieces.{Piece, one, ◌▸◌}
+use Rattle.minijinja_meaning.specs.Layout.{operation, unary_instr, expr}
 use Rattle.minijinja_code.specs.private.Making.{Made, here_of, AddsUnless, RefusesUnfolded, IsPart, Gives}
-use Rattle.minijinja_code.proofs.FoldedCode.{folded_code}
+use Rattle.minijinja_meaning.proofs.FoldedCode.{folded_code}
 use Rattle.minijinja_code.proofs.Compiling.{node_result, given_some, given_folds, unary_folds, binary_folds}
 
 -- the same answer, over the code of the tree that folds to what was computed with

@@ -3,7 +3,7 @@ use Rattle.std.specs.Prelude.{◌≡◌, ◌≤◌, ◌^◌, List, length}
 use Rattle.minijinja_syntax.specs.Errors.{kind_of}
 use Rattle.minijinja_syntax.specs.declared.error.Error.{Error}
 use Rattle.minijinja_syntax.specs.declared.error.ErrorKind.TheVariants.{TooManyInstructions}
-use Rattle.minijinja_code.specs.Code.{Instr}
+use Rattle.minijinja_meaning.specs.Code.{Instr}
 
 -- a refusal for want of room comes only where the list would have 2 ^ 32 instructions or more
 abbrev pub OnlyWhereTooLong : {C : Type 0} → Error → List (Instr C) → Type 0

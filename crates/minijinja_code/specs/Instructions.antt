@@ -1,10 +1,10 @@
 -- What the instructions of a list are, over what values hold.
 use Rattle.std.specs.Prelude.{List, [], map}
 use Rattle.minijinja_tree.specs.CompareOps as cmp
-use Rattle.minijinja_code.specs.Events as event
+use Rattle.minijinja_meaning.specs.Events as event
 use Rattle.minijinja_tree.specs.Operators as operator
-use Rattle.minijinja_code.specs.Code as code
-use Rattle.minijinja_code.specs.Code.{Instr}
+use Rattle.minijinja_meaning.specs.Code as code
+use Rattle.minijinja_meaning.specs.Code.{Instr}
 use Rattle.minijinja_code.specs.InstructionLists.{instructions_of}
 use Rattle.minijinja_code.specs.declared.instructions.CaptureMode.{CaptureMode}
 use Rattle.minijinja_code.specs.declared.instructions.CaptureMode.TheVariants as capture_mode

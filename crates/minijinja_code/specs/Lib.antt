@@ -1,16 +1,5 @@
 pub mod InstructionLists
-pub mod Laws
-pub mod Events
-pub mod Answers
-pub mod Calls
-pub mod Meaning
-pub mod Code
 pub mod Instructions
-pub mod Pieces
-pub mod Layout
-pub mod Machine
-pub mod Brackets
-pub mod Correct
 pub mod Hint
 pub mod Generator
 pub mod private

@@ -3,3 +3,5 @@ pub mod Making
 pub mod AtGenerator
 pub mod Comparing
 pub mod Outputs
+pub mod Calling
+pub mod Statements

@@ -5,16 +5,17 @@ ghost use Rattle.minijinja_tree.specs.Erasure.{expr_tree, stmt_tree};
 ghost use Rattle.minijinja_tree.specs.Tree.{stmts_of};
 ghost use Rattle.minijinja_tree.specs.WellFormed.{IsTarget, IsWhole, IsInner, AreInner, IsWellFormed};
 ghost use Rattle.minijinja_code.specs.Instructions.{code_of};
-ghost use Rattle.minijinja_code.specs.Correct.{Does, DoesExpr};
+ghost use Rattle.minijinja_meaning.specs.Correct.{DoesExpr, DoesStmt};
 ghost use Rattle.minijinja_code.specs.Generator.{OnlyWhereTooLong};
-ghost use Rattle.minijinja_code.specs.Calls.{written};
+ghost use Rattle.minijinja_meaning.specs.Calls.{written};
 ghost use Rattle.minijinja_code.specs.Hint.{IsHint, data_bytes, all_data_bytes};
 ghost use Rattle.minijinja_code.specs.InstructionLists.{IsAddError, name_of, source_of};
-ghost use Rattle.minijinja_code.specs.Layout.{expr_code, past_expr, target_code, past_target, stmt_code, past_stmt};
-ghost use Rattle.minijinja_code.specs.Layout as layout;
+ghost use Rattle.minijinja_meaning.specs.Layout.{expr_code, past_expr, target_code, past_target, stmt_code, past_stmt};
+ghost use Rattle.minijinja_meaning.specs.Layout as layout;
+ghost use Rattle.minijinja_code.specs.private.Statements.{stmt_piece, stmts_piece};
 ghost use Rattle.minijinja_code.specs.private.AtGenerator.{generated, here_so_far, counted_bytes, blocks_of, file_of, text_of, refusal_of};
 ghost use Rattle.minijinja_code.specs.private.Making.{made_of, IsAdded};
-ghost use Rattle.minijinja_code.specs.Pieces.{start};
+ghost use Rattle.minijinja_meaning.specs.Pieces.{start};
 
 mod arguments;
 mod chain;
@@ -76,7 +77,7 @@ impl<'s, V: TemplateValue> CodeGenerator<'s, V> {
         ensures past { OnOk result (here_so_far V.contents self.new ≡ past_stmt V.functions
             (stmt_tree V.contents stmt.now) (here_so_far V.contents self.old)) }
         // Entered where they begin, they do what the statement means.
-        ensures does { OnOk result (Does V.functions (generated V.contents self.new)
+        ensures does { OnOk result (DoesStmt V.functions (generated V.contents self.new)
             (length (generated V.contents self.old)) (length (generated V.contents self.new))
             (stmt_tree V.contents stmt.now)) }
         ensures counted { OnOk result (counted_bytes self.new
@@ -213,7 +214,7 @@ fn compile_stmt<'s, V: TemplateValue>(
 ) -> Result<usize, Error<'static>>
     requires { IsWellFormed (stmt_tree V.contents stmt.now) }
     ensures added { IsAdded (made_of V.contents code.old)
-        (layout.stmt V.functions (stmt_tree V.contents stmt.now)) result
+        (stmt_piece V.functions (stmt_tree V.contents stmt.now)) result
         (made_of V.contents code.new) }
     ensures counted { IfOk result
         (λ n. n ≡ min usize.MAX (data_bytes (stmt_tree V.contents stmt.now))) }
@@ -231,7 +232,7 @@ fn compile_all<'s, V: TemplateValue>(
 ) -> Result<usize, Error<'static>>
     requires { AreInner (stmts_of (map (stmt_tree V.contents) stmts.now)) }
     ensures added { IsAdded (made_of V.contents code.old)
-        (layout.stmts V.functions (stmts_of (map (stmt_tree V.contents) stmts.now))) result
+        (stmts_piece V.functions (stmts_of (map (stmt_tree V.contents) stmts.now))) result
         (made_of V.contents code.new) }
     ensures counted { IfOk result (λ n. n ≡ min usize.MAX
         (all_data_bytes (stmts_of (map (stmt_tree V.contents) stmts.now)))) }
@@ -250,7 +251,7 @@ fn compile_inner<'s, V: TemplateValue>(
 ) -> Result<usize, Error<'static>>
     requires { IsInner (stmt_tree V.contents stmt.now) }
     ensures added { IsAdded (made_of V.contents code.old)
-        (layout.stmt V.functions (stmt_tree V.contents stmt.now)) result
+        (stmt_piece V.functions (stmt_tree V.contents stmt.now)) result
         (made_of V.contents code.new) }
     ensures counted { IfOk result (λ n. n ≡ data_bytes (stmt_tree V.contents stmt.now)) }
 {

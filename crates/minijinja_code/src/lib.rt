@@ -3,4 +3,3 @@
 
 pub mod codegen;
 pub mod instructions;
-pub mod laws;

@@ -12,9 +12,9 @@ use Rattle.minijinja_tree.specs.SpannedTrees.{Expr, Stmt, bare_expr, bare_stmt}
 use Rattle.minijinja_parser.specs.Causes.{IsRefusal}
 use Rattle.minijinja_parser.specs.Derived.{IsDerived, IsExprDerived}
 use Rattle.minijinja_code.specs.Instructions.{code_of}
-use Rattle.minijinja_code.specs.Pieces.{start}
-use Rattle.minijinja_code.specs.Layout.{expr_code, stmt_code}
-use Rattle.minijinja_code.specs.Correct.{Does, DoesExpr}
+use Rattle.minijinja_meaning.specs.Pieces.{start}
+use Rattle.minijinja_meaning.specs.Layout.{expr_code, stmt_code}
+use Rattle.minijinja_meaning.specs.Correct.{DoesExpr, DoesStmt}
 use Rattle.minijinja_code.specs.Hint.{IsHint, data_bytes}
 use Rattle.minijinja_code.specs.InstructionLists.{name_of, source_of}
 use Rattle.minijinja_code.specs.declared.instructions.Instructions.{Instructions}
@@ -28,7 +28,7 @@ pub record IsCompiled {V E C F : Type 0} (f : Functions C F) (contents : V → C
   pub derived : IsDerived f syntax source tree
   pub only : (t : Stmt C) → IsDerived f syntax source t → t ≡ tree
   pub code : code_of contents c.instructions ≡ stmt_code f (bare_stmt tree) start
-  pub does : Does f (code_of contents c.instructions) 0 (length (code_of contents c.instructions)) (bare_stmt tree)
+  pub does : DoesStmt f (code_of contents c.instructions) 0 (length (code_of contents c.instructions)) (bare_stmt tree)
   pub hint : IsHint (data_bytes (bare_stmt tree)) c.buffer_size_hint
   pub no_blocks : IsEmpty c.blocks
   pub name : name_of c.instructions ≡ filename

@@ -50,9 +50,6 @@ module _ {C F : Type 0} {f : Functions C F} {code : List (Instr C)} {to : Stretc
   pub sim_from : {X : Type 0} {p : Piece C} {ops ops' : List C} {P : X → Type 0} {put : X → List C} {m : Act C F X} → ops ≡ ops' → Simulates f code to p ops' P put m → Simulates f code to p ops P put m
   sim_from {p = p} {P = P} {put = put} {m = m} e s = subst (λ o. Simulates f code to p o P put m) (sym e) s
 
-  pub sim_to : {X : Type 0} {p : Piece C} {ops : List C} {P : X → Type 0} {put put' : X → List C} {m : Act C F X} → ((x : X) → put x ≡ put' x) → Simulates f code to p ops P put m → Simulates f code to p ops P put' m
-  sim_to {p = p} {ops = ops} {P = P} {m = m} e s = subst (λ g. Simulates f code to p ops P g m) (λ i x. e x i) s
-
   -- the same meaning, written otherwise
   pub sim_same : {X : Type 0} {p : Piece C} {ops : List C} {P : X → Type 0} {put : X → List C} {m n : Act C F X} → ((w : World C) → m w ≡ n w) → Simulates f code to p ops P put m → Simulates f code to p ops P put n
   sim_same {p = p} {ops = ops} {P = P} {put = put} e s = record { gives = λ h ls w few le stand. subst (λ d. Gives f code to (At h.place ops ls w) (p.past h).place ls P put d) (e w) (s.gives h ls w few le stand) }
@@ -94,12 +91,6 @@ module _ {C F : Type 0} {f : Functions C F} {code : List (Instr C)} {to : Stretc
 
   pub sim_do_tell : (k : Kind) (t : Text) (vs below : List C) → size k ≡ Nothing → Simulates f code to (one (Do k t (length vs))) (pushed vs below) Any (λ _. below) (tell k t vs)
   sim_do_tell k t vs below is = sim_tell k t vs (does f k t (length vs) vs below refl) is
-
-  -- one of two pieces, by a test that is known before the run
-  pub sim_either : {X : Type 0} {p q : Piece C} {ops : List C} {P : X → Type 0} {put : X → List C} {m n : Act C F X} (b : Bool) → Simulates f code to p ops P put m → Simulates f code to q ops P put n → Simulates f code to (if b then p else q) ops P put (choose b m n)
-  unfolding choose
-  sim_either true s k = s
-  sim_either false s k = k
 
   -- a constant in place of a piece that gives it
   pub sim_folded : {p : Piece C} {ops : List C} (r : Option C) {m : Act C F C} → Folds r m → Simulates f code to p ops Any (λ v. v ∷ ops) m → Simulates f code to (folded r p) ops Any (λ v. v ∷ ops) m

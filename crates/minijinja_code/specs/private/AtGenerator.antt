@@ -4,8 +4,8 @@ use Rattle.std.specs.Borrow.{Bor}
 use Rattle.std.specs.BTreeMap.{BTreeMap}
 use Rattle.minijinja_syntax.specs.Texts.{Text}
 use Rattle.minijinja_syntax.specs.declared.error.Error.{Error}
-use Rattle.minijinja_code.specs.Code.{Instr}
-use Rattle.minijinja_code.specs.Pieces.{Here}
+use Rattle.minijinja_meaning.specs.Code.{Instr}
+use Rattle.minijinja_meaning.specs.Pieces.{Here}
 use Rattle.minijinja_code.specs.private.Making.{made_of, here_of}
 use Rattle.minijinja_code.specs.declared.codegen.CodeGenerator.{CodeGenerator}
 use Rattle.minijinja_code.specs.declared.instructions.Instructions.{Instructions}

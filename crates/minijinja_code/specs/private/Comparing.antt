@@ -7,9 +7,9 @@ use Rattle.minijinja_tree.specs.Folding.{if_some, unless_fault}
 use Rattle.minijinja_tree.specs.Tree.{Comparisons, compared, against}
 use Rattle.minijinja_tree.specs.Erasure.{comparisons_of}
 use Rattle.minijinja_tree.specs.declared.ast.CompareOp.{CompareOp as Comparison}
-use Rattle.minijinja_code.specs.Code.{Instr, Load, Jump, JumpIfFalseOrPop, Swap, DiscardTop}
-use Rattle.minijinja_code.specs.Pieces.{behind, Piece, nothing}
-use Rattle.minijinja_code.specs.Layout.{Failing, last, expr, comparisons}
+use Rattle.minijinja_meaning.specs.Code.{Instr, Load, Jump, JumpIfFalseOrPop, Swap, DiscardTop}
+use Rattle.minijinja_meaning.specs.Pieces.{behind, Piece, nothing, plain}
+use Rattle.minijinja_meaning.specs.Layout.{Failing, expr, comparisons}
 use Rattle.minijinja_code.specs.private.Making.{Made, here_of, followed}
 
 -- the instructions with a jump to a target at each of these places
@@ -31,12 +31,12 @@ operand_then p r = record { past = λ h. r.past (p.past h); code = λ failed h. 
 
 -- comparisons after their first operand
 abbrev pub behind_one : {C F : Type 0} → Functions C F → Comparisons C → Failing C
-behind_one f compared = last nothing
+behind_one f compared = plain nothing
 behind_one f (against o e cs) = operand_then (expr f e) (comparisons f o cs)
 
 -- comparisons after their first two operands
 abbrev pub behind_two : {C F : Type 0} → Functions C F → Comparisons C → Failing C
-behind_two f compared = last nothing
+behind_two f compared = plain nothing
 behind_two f (against o e cs) = comparisons f o cs
 
 -- what is left of comparisons after the operand of so many of them

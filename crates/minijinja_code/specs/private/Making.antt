@@ -7,17 +7,17 @@ use Rattle.minijinja_syntax.specs.Errors.{kind_of}
 use Rattle.minijinja_syntax.specs.declared.error.Error.{Error}
 use Rattle.minijinja_syntax.specs.declared.error.ErrorKind.TheVariants.{TooManyInstructions}
 use Rattle.minijinja_tree.specs.Operators.{Working, Makes, Divides, IfTrue, IfFalse}
-use Rattle.minijinja_code.specs.Events.{Div}
-use Rattle.minijinja_code.specs.Code.{Instr, Do, Operate, Swap, JumpIfFalseOrPop, JumpIfTrueOrPop}
+use Rattle.minijinja_meaning.specs.Events.{Div}
+use Rattle.minijinja_meaning.specs.Code.{Instr, Do, Operate, Swap, JumpIfFalseOrPop, JumpIfTrueOrPop}
 use Rattle.minijinja_code.specs.Instructions.{instr_of}
 use Rattle.minijinja_code.specs.InstructionLists.{IsAddError}
 use Rattle.minijinja_tree.specs.Folding.{fold, constant_keywords, fold_keywords}
 use Rattle.minijinja_tree.specs.Tree.{Expr, Args}
-use Rattle.minijinja_code.specs.Layout.{arguments, positional, keyword, expr, folded, merged, count_keyword}
-use Rattle.minijinja_code.specs.Pieces.{Here, Piece, ◌▸◌}
+use Rattle.minijinja_meaning.specs.Layout.{arguments, positional, keyword, expr, folded, merged, count_keyword}
+use Rattle.minijinja_meaning.specs.Pieces.{Here, Piece, ◌▸◌}
 use Rattle.minijinja_code.specs.declared.codegen.emit.Emitter.{Emitter}
 use Rattle.minijinja_code.specs.declared.codegen.names.Names.{Names}
-use Rattle.minijinja_code.specs.Layout as layout
+use Rattle.minijinja_meaning.specs.Layout as layout
 use Rattle.minijinja_code.specs.declared.codegen.arguments.Count.{Count}
 
 -- the instructions so far, and the names of filters and of tests that have an id

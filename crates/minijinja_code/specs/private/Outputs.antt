@@ -1,7 +1,7 @@
 -- What is known of an output, as what it writes.
 use Rattle.minijinja_tree.specs.Erasure.{expr_tree}
-use Rattle.minijinja_code.specs.Calls.{Written}
-use Rattle.minijinja_code.specs.Calls as calls
+use Rattle.minijinja_meaning.specs.Calls.{Written}
+use Rattle.minijinja_meaning.specs.Calls as calls
 use Rattle.minijinja_code.specs.declared.codegen.output.Output.{Output}
 use Rattle.minijinja_code.specs.declared.codegen.output.Output.TheVariants.{Super, Recursion, Block, Plain}
 

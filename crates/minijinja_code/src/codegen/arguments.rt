@@ -4,8 +4,8 @@ ghost use Rattle.minijinja_tree.specs.Erasure.{arg_tree, args_of};
 ghost use Rattle.minijinja_tree.specs.Folding.{constant_keywords, fold_keywords};
 ghost use Rattle.minijinja_tree.specs.Tree.{no_args};
 ghost use Rattle.minijinja_tree.specs.WellFormed.{AreArguments, arg_count, most_arguments};
-ghost use Rattle.minijinja_code.specs.Layout as layout;
-ghost use Rattle.minijinja_code.specs.Layout.{batch_count, count_one, count_batch, count_positional, count_keyword, counted, list_batch, map_batch, map_count, merged, spreading};
+ghost use Rattle.minijinja_meaning.specs.Layout as layout;
+ghost use Rattle.minijinja_meaning.specs.Layout.{batch_count, count_one, count_batch, count_positional, count_keyword, counted, list_batch, map_batch, map_count, merged, spreading};
 ghost use Rattle.minijinja_code.specs.private.Making.{made_of, here_of, count_of, operands, given, keyword_map, Adds, Refuses, IsAdded};
 
 use super::emit::Emitter;

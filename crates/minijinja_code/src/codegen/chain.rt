@@ -5,12 +5,12 @@ ghost use Rattle.minijinja_syntax.specs.Errors.{IsOutOfMemory};
 ghost use Rattle.minijinja_tree.specs.Erasure.{expr_tree, compare_op, compare_tree, comparisons_of};
 ghost use Rattle.minijinja_tree.specs.WellFormed.{IsWhole, AreCompared};
 ghost use Rattle.minijinja_tree.specs.declared.ast.Compare.{out-Compare};
-ghost use Rattle.minijinja_code.specs.Code.{Instr, CompareAndPreserve, JumpIfFalseOrPop};
+ghost use Rattle.minijinja_meaning.specs.Code.{Instr, CompareAndPreserve, JumpIfFalseOrPop};
 ghost use Rattle.minijinja_code.specs.private.Comparing.{jumping, AreBelow, ahead, behind_one, Leads, leaving, Closes, Holds, loaded, known};
-ghost use Rattle.minijinja_code.specs.Layout as layout;
-ghost use Rattle.minijinja_code.specs.Layout.{comparison};
+ghost use Rattle.minijinja_meaning.specs.Layout as layout;
+ghost use Rattle.minijinja_meaning.specs.Layout.{comparison};
 ghost use Rattle.minijinja_code.specs.private.Making.{made_of, here_of, followed, Adds, Refuses};
-ghost use Rattle.minijinja_code.specs.Pieces.{behind};
+ghost use Rattle.minijinja_meaning.specs.Pieces.{behind, plain};
 
 use super::constants::{comparison_operator, last_comparison};
 use super::emit::Emitter;
@@ -149,7 +149,7 @@ pub(super) fn close<V: TemplateValue>(
 ) -> Result<(), Error<'static>>
     requires { AreBelow places.now (length (made_of V.contents code.old).code) }
     ensures closed { OnOk result (Closes (made_of V.contents code.old) places.now
-        (layout.last (comparison (compare_op op))) (made_of V.contents code.new)) }
+        (plain (comparison (compare_op op))) (made_of V.contents code.new)) }
     ensures refused { IfErr result (λ e. Refuses e ((leaving {C = V.Contents}).past
         ((comparison {C = V.Contents} (compare_op op)).past
         (here_of (made_of V.contents code.old))))) }

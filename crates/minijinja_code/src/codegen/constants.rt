@@ -4,12 +4,12 @@ ghost use Rattle.std.specs.Option.{option_map};
 ghost use Rattle.minijinja_tree.specs.Erasure.{unary_op, bin_op, compare_op};
 ghost use Rattle.minijinja_tree.specs.Folding.{fold_unary, fold_binary};
 ghost use Rattle.minijinja_tree.specs.Operators.{working};
-ghost use Rattle.minijinja_code.specs.Code.{Load};
+ghost use Rattle.minijinja_meaning.specs.Code.{Load};
 ghost use Rattle.minijinja_code.specs.Instructions.{instr_of, compared_by};
-ghost use Rattle.minijinja_code.specs.Layout.{unary_instr, operation, comparison};
+ghost use Rattle.minijinja_meaning.specs.Layout.{unary_instr, operation, comparison};
 ghost use Rattle.minijinja_code.specs.private.Making as spec;
 ghost use Rattle.minijinja_code.specs.private.Making.{made_of, here_of, jump_of, operator_of, Adds, AddsUnless, Refuses, RefusesUnfolded};
-ghost use Rattle.minijinja_code.specs.Pieces.{behind, one, ◌▸◌};
+ghost use Rattle.minijinja_meaning.specs.Pieces.{behind, one, ◌▸◌};
 
 use super::emit::Emitter;
 use crate::instructions::{CompareOp, Instruction};

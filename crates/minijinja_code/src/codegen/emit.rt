@@ -1,10 +1,10 @@
 //! The instructions of a unit that is being made.
 ghost use Rattle.std.specs.Prelude.{◌≡◌, ◌+◌, ◌≤◌, ◌<◌, map, [], ◌∷◌, length, take, slice_get, slice_set, Some, IfOk, IfErr, OnOk};
 ghost use Rattle.minijinja_syntax.specs.Errors.{IsOutOfMemory};
-ghost use Rattle.minijinja_code.specs.Code.{Load};
+ghost use Rattle.minijinja_meaning.specs.Code.{Load};
 ghost use Rattle.minijinja_code.specs.Instructions.{instr_of};
 ghost use Rattle.minijinja_code.specs.private.Making.{made_of, here_of, texts_of, followed, hole, Adds, Refuses};
-ghost use Rattle.minijinja_code.specs.Pieces.{start, behind, one, id_of, noted};
+ghost use Rattle.minijinja_meaning.specs.Pieces.{start, behind, one, id_of, noted};
 
 use super::names::Names;
 use crate::instructions::{Instruction, LocalId, push_within};

@@ -5,9 +5,9 @@ ghost use Rattle.minijinja_tree.specs.Folding.{fold};
 ghost use Rattle.minijinja_tree.specs.Operators.{working};
 ghost use Rattle.minijinja_tree.specs.Tree as tree;
 ghost use Rattle.minijinja_tree.specs.WellFormed.{IsWhole, IsWholeIfAny, AreWhole, AreArguments, arg_count, expr_count, most_arguments};
-ghost use Rattle.minijinja_code.specs.Layout as layout;
-ghost use Rattle.minijinja_code.specs.Calls.{is_self};
-ghost use Rattle.minijinja_code.specs.Layout.{operation, captured};
+ghost use Rattle.minijinja_meaning.specs.Layout as layout;
+ghost use Rattle.minijinja_code.specs.private.Calling.{captured, is_self};
+ghost use Rattle.minijinja_meaning.specs.Layout.{operation};
 ghost use Rattle.minijinja_code.specs.private.Making.{made_of, IsAdded, IsPart, IsExpr, IsExprPart};
 
 use super::arguments::arguments;

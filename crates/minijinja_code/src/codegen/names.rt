@@ -19,7 +19,7 @@ impl<'s> Names<'s> {
     ghost use Rattle.std.specs.Prelude.{[], IfErr};
     ghost use Rattle.minijinja_syntax.specs.Errors.{IsOutOfMemory};
     ghost use Rattle.minijinja_code.specs.private.Making.{texts_of};
-    ghost use Rattle.minijinja_code.specs.Pieces.{id_of, noted};
+    ghost use Rattle.minijinja_meaning.specs.Pieces.{id_of, noted};
 
     /// No name. It takes no memory yet.
     pub(super) fn new(alloc: Global) -> Self

@@ -2,7 +2,7 @@
 ghost use Rattle.std.specs.Prelude.{◌≡◌, [], ◌∷◌, codes};
 ghost use Rattle.minijinja_tree.specs.Callees.{callee};
 ghost use Rattle.minijinja_tree.specs.Erasure.{expr_tree, args_of};
-ghost use Rattle.minijinja_code.specs.Calls.{written_function, written_call, written};
+ghost use Rattle.minijinja_meaning.specs.Calls.{written_function, written_call, written};
 ghost use Rattle.minijinja_code.specs.private.Outputs.{output_shown};
 
 use minijinja_base::value::TemplateValue;

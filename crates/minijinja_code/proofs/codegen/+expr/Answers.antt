@@ -1,27 +1,27 @@
 use Rattle.minijinja_code.proofs.Called.{function_adds, function_args_refuse, function_refuses, called_adds, called_operand_refuses, called_args_refuse, called_refuses, method_piece, block_piece, object_piece}
 use Rattle.minijinja_code.proofs.Branching.{longer_grows, first_branch_refuses, second_branch_refuses}
-use Rattle.minijinja_code.proofs.InOrder.{whole_here, whole_behind, count_length, items_next, items_end, pairs, pairs_next, pairs_end, pairs_count, pair_refused}
+use Rattle.minijinja_code.proofs.InOrder.{whole_here, whole_behind, count_length, items_next, items_end, pairs, pairs_next, pairs_end, pair_refused}
 use Rattle.minijinja_code.proofs.OneByOne.{going_on, going_last, going_refused}
 use Rattle.std.proofs.Common.{rules, arith, ◌≡◌, [], ◌∷◌, true, false, Option, Some, None, Ok, length, drop, refl, sym, ap, ◌∙◌, subst, ℕ, ◌+◌, ◌-◌, ◌<◌, get_or}
 use Rattle.minijinja_tree.specs.Erasure.{unary_op, bin_op, expr_tree, optional_of, exprs_of, args_of, compare_op, comparisons_of, arg_tree}
 use Rattle.minijinja_tree.specs.Operators.{working}
 use Rattle.minijinja_tree.specs.Tree.{variable, constant, no_args}
-use Rattle.minijinja_tree.specs.WellFormed.{IsWhole, AreArguments}
+use Rattle.minijinja_tree.specs.WellFormed.{IsWhole, AreArguments, expr_count}
 use Rattle.minijinja_tree.specs.declared.ast.Var.{Var}
 use Rattle.minijinja_tree.specs.declared.ast.Const.{Const}
-use Rattle.minijinja_code.specs.Code as code
-use Rattle.minijinja_code.specs.Code.{Do, Instr}
-use Rattle.minijinja_code.specs.Events.{Slice, GetAttr, GetItem, CallMethod, CallObject}
-use Rattle.minijinja_code.specs.Layout as layout
-use Rattle.minijinja_code.specs.Layout.{operation, unary_instr, expr, last, comparison, argument_count, operand}
+use Rattle.minijinja_meaning.specs.Code as code
+use Rattle.minijinja_meaning.specs.Code.{Do, Instr}
+use Rattle.minijinja_meaning.specs.Events.{Slice, GetAttr, GetItem, CallMethod, CallObject}
+use Rattle.minijinja_meaning.specs.Layout as layout
+use Rattle.minijinja_meaning.specs.Layout.{operation, unary_instr, expr, comparison, argument_count, operand}
 use Rattle.minijinja_code.specs.private.Making.{made_of, here_of, IsAdded, Refuses, hole, jump_of, operator_of, AddsUnless, RefusesUnfolded, count_of, operands, given, Adds, IsExpr}
-use Rattle.minijinja_code.specs.Pieces.{one, ◌▸◌, branches}
-use Rattle.minijinja_code.proofs.Lengths.{one_exact, then_exact, expr_exact, operation_exact, optional_exact, items_exact, branches_exact, paired_exact, each_exact}
+use Rattle.minijinja_meaning.specs.Pieces.{one, ◌▸◌, branches}
+use Rattle.minijinja_meaning.proofs.Lengths.{one_exact, then_exact, expr_exact, operation_exact, optional_exact, items_exact, branches_exact, paired_exact, each_exact}
 use Rattle.minijinja_code.proofs.Adding.{adds_then, adds_as, refuses_first, refuses_then, refuses_memory, refuses_behind, adds_skipping, cut_back}
 use Rattle.minijinja_code.proofs.Longer.{longer_small, expr_longer, operation_longer, optional_longer, expr_small}
 use Rattle.minijinja_code.specs.private.Making as Making
 use Rattle.std.specs.Prelude.{slice_set}
-use Rattle.minijinja_code.proofs.FoldedCode.{strict_operation, lazy_operation}
+use Rattle.minijinja_code.proofs.Operations.{strict_operation, lazy_operation}
 use Rattle.minijinja_code.proofs.Results.{unary_result, binary_result}
 use Rattle.minijinja_code.proofs.Compiling.{some_is, node_ok, node_err, given_none, given_some, given_folds, given_open, part_memory, unary_open, binary_open, binary_open_right, part_open, part_open_err, part_as, part_constant, set_down, set_down_err, right_refused, left_filled, right_set, right_set_err, adds_branches}
 use Rattle.minijinja_code.proofs.Details.{optional_as, optional_err_as, const_none, exprs_count, op_refused, items_as, items_err_as}
@@ -71,16 +71,16 @@ pub expr::behind_left-returns-in_ok-add-in-None : goal.expr::behind_left-returns
 expr::behind_left-returns-in_ok-add-in-None g t c = let v = g.V.TemplateValue.contents in let f = g.V.TemplateValue.functions in let e : Making.is_lazy (working (bin_op c.args.op)) ≡ false = search rules in let s = strict_operation (working (bin_op c.args.op)) (layout.expr f (expr_tree v c.args.right.now)) e in record { ok = record { value = sym (given_open _ c.in_ok-right.ensures.ok c.in-None.is); state = adds_as (sym s) (adds_then (given_none _ c.in_ok-right.ensures.ok c.in-None.is) (adds_as (ap (λ i. one i) c.operator.ensures) c.in_ok-add-in-None.ensures.added)) }; err = tt }
 
 pub expr::build_list-returns : goal.expr::build_list-returns
-expr::build_list-returns g t c = let v = g.V.TemplateValue.contents in let f = g.V.TemplateValue.functions in node_ok v (layout.items f (exprs_of v c.args.node.now.items.items) ▸ (one (code.BuildList (Some (layout.item_count (exprs_of v c.args.node.now.items.items)))))) _ _ None (sym (const_none v _ c.in_ok-list.ensures.folds c.in_default.not-Some)) (adds_then (items_as f v c.deref.ensures.value c.in_ok-items.ensures.ok) (adds_as (ap (λ n. one (code.BuildList (Some n))) (omega (arith, exprs_count v c.args.node.now.items.items, c.len.ensures, c.args.node.now.items.ok.0))) c.in_ok-add.ensures.added))
+expr::build_list-returns g t c = let v = g.V.TemplateValue.contents in let f = g.V.TemplateValue.functions in node_ok v (layout.items f (exprs_of v c.args.node.now.items.items) ▸ (one (code.BuildList (Some (expr_count (exprs_of v c.args.node.now.items.items)))))) _ _ None (sym (const_none v _ c.in_ok-list.ensures.folds c.in_default.not-Some)) (adds_then (items_as f v c.deref.ensures.value c.in_ok-items.ensures.ok) (adds_as (ap (λ n. one (code.BuildList (Some n))) (omega (arith, exprs_count v c.args.node.now.items.items, c.len.ensures, c.args.node.now.items.ok.0))) c.in_ok-add.ensures.added))
 
 pub expr::build_list-returns-in-Some : goal.expr::build_list-returns-in-Some
 expr::build_list-returns-in-Some g t c = let v = g.V.TemplateValue.contents in let f = g.V.TemplateValue.functions in record { ok = record { value = sym (some_is v _ c.in_ok-list.ensures.folds c.in-Some.is); state = refl }; err = tt }
 
 pub expr::build_list-returns-in_err-add : goal.expr::build_list-returns-in_err-add
-expr::build_list-returns-in_err-add g t c = let v = g.V.TemplateValue.contents in let f = g.V.TemplateValue.functions in node_err v (layout.items f (exprs_of v c.args.node.now.items.items) ▸ (one (code.BuildList (Some (layout.item_count (exprs_of v c.args.node.now.items.items)))))) _ _ c.from_residual-in_err-add.result c.from_residual-in_err-add.ensures.1 (λ d h. cc) (λ m. (const_none v _ c.in_ok-list.ensures.folds c.in_default.not-Some)) (refuses_then (one (code.BuildList (Some (layout.item_count (exprs_of v c.args.node.now.items.items))))) (items_as f v c.deref.ensures.value c.in_ok-items.ensures.ok) c.in_err-add.ensures.refused)
+expr::build_list-returns-in_err-add g t c = let v = g.V.TemplateValue.contents in let f = g.V.TemplateValue.functions in node_err v (layout.items f (exprs_of v c.args.node.now.items.items) ▸ (one (code.BuildList (Some (expr_count (exprs_of v c.args.node.now.items.items)))))) _ _ c.from_residual-in_err-add.result c.from_residual-in_err-add.ensures.1 (λ d h. cc) (λ m. (const_none v _ c.in_ok-list.ensures.folds c.in_default.not-Some)) (refuses_then (one (code.BuildList (Some (expr_count (exprs_of v c.args.node.now.items.items))))) (items_as f v c.deref.ensures.value c.in_ok-items.ensures.ok) c.in_err-add.ensures.refused)
 
 pub expr::build_list-returns-in_err-items : goal.expr::build_list-returns-in_err-items
-expr::build_list-returns-in_err-items g t c = let v = g.V.TemplateValue.contents in let f = g.V.TemplateValue.functions in node_err v (layout.items f (exprs_of v c.args.node.now.items.items) ▸ (one (code.BuildList (Some (layout.item_count (exprs_of v c.args.node.now.items.items)))))) _ _ c.from_residual-in_err-items.result c.from_residual-in_err-items.ensures.1 (λ d h. cc) (λ m. (const_none v _ c.in_ok-list.ensures.folds c.in_default.not-Some)) (refuses_first _ (layout.items f (exprs_of v c.args.node.now.items.items)) (one (code.BuildList (Some (layout.item_count (exprs_of v c.args.node.now.items.items))))) (one_exact _) (items_err_as f v _ c.deref.ensures.value c.in_err-items.ensures.err))
+expr::build_list-returns-in_err-items g t c = let v = g.V.TemplateValue.contents in let f = g.V.TemplateValue.functions in node_err v (layout.items f (exprs_of v c.args.node.now.items.items) ▸ (one (code.BuildList (Some (expr_count (exprs_of v c.args.node.now.items.items)))))) _ _ c.from_residual-in_err-items.result c.from_residual-in_err-items.ensures.1 (λ d h. cc) (λ m. (const_none v _ c.in_ok-list.ensures.folds c.in_default.not-Some)) (refuses_first _ (layout.items f (exprs_of v c.args.node.now.items.items)) (one (code.BuildList (Some (expr_count (exprs_of v c.args.node.now.items.items))))) (one_exact _) (items_err_as f v _ c.deref.ensures.value c.in_err-items.ensures.err))
 
 pub expr::build_list-returns-in_err-list : goal.expr::build_list-returns-in_err-list
 expr::build_list-returns-in_err-list g t c = part_err c.from_residual.result c.from_residual.ensures.1 (λ d h. cc) (unfolded_memory _ _ c.in_err-list.ensures.memory)
@@ -95,8 +95,8 @@ expr::build_map-returns g t c =
     let l = c.loop-i in
     let same : length ks ≡ length vs = sym (count_length v ks) ∙ c.requires.pairs ∙ count_length v vs in
     let all = going_last (pairs_end f v ks vs l.i (omega (arith, n.keys.ok.0))) l.invariant.going in
-    node_ok v (pairs f v ks vs ▸ one (code.BuildMap (layout.pair_count (layout.each f (exprs_of v ks)) (layout.each f (exprs_of v vs))))) _ _ None (sym (const_none v _ c.in_ok-map.ensures.folds c.in_default.not-Some))
-    (adds_then all (adds_as (ap (λ n. one (code.BuildMap n)) (omega (arith, pairs_count f v ks vs same, c.len.ensures, n.keys.ok.0))) c.in_ok-add.ensures.added))
+    node_ok v (pairs f v ks vs ▸ one (code.BuildMap (expr_count (exprs_of v ks)))) _ _ None (sym (const_none v _ c.in_ok-map.ensures.folds c.in_default.not-Some))
+    (adds_then all (adds_as (ap (λ n. one (code.BuildMap n)) (omega (arith, count_length v ks, c.len.ensures, n.keys.ok.0))) c.in_ok-add.ensures.added))
 
 pub expr::build_map-returns-in-Some : goal.expr::build_map-returns-in-Some
 expr::build_map-returns-in-Some g t c = let v = g.V.TemplateValue.contents in let f = g.V.TemplateValue.functions in record { ok = record { value = sym (some_is v _ c.in_ok-map.ensures.folds c.in-Some.is); state = refl }; err = tt }
@@ -110,8 +110,8 @@ expr::build_map-returns-in_err-add g t c =
     let vs = n.values.items in
     let l = c.loop-i in
     let all = going_last (pairs_end f v ks vs l.i (omega (arith, n.keys.ok.0))) l.invariant.going in
-    node_err v (pairs f v ks vs ▸ one (code.BuildMap (layout.pair_count (layout.each f (exprs_of v ks)) (layout.each f (exprs_of v vs))))) _ _ c.from_residual-in_err-add.result c.from_residual-in_err-add.ensures.1 (λ d h. cc) (λ m. (const_none v _ c.in_ok-map.ensures.folds c.in_default.not-Some))
-    (refuses_then (one (code.BuildMap (layout.pair_count (layout.each f (exprs_of v ks)) (layout.each f (exprs_of v vs))))) all c.in_err-add.ensures.refused)
+    node_err v (pairs f v ks vs ▸ one (code.BuildMap (expr_count (exprs_of v ks)))) _ _ c.from_residual-in_err-add.result c.from_residual-in_err-add.ensures.1 (λ d h. cc) (λ m. (const_none v _ c.in_ok-map.ensures.folds c.in_default.not-Some))
+    (refuses_then (one (code.BuildMap (expr_count (exprs_of v ks)))) all c.in_err-add.ensures.refused)
 
 pub expr::build_map-returns-in_err-expression : goal.expr::build_map-returns-in_err-expression
 expr::build_map-returns-in_err-expression g t c =
@@ -125,8 +125,8 @@ expr::build_map-returns-in_err-expression g t c =
     let k = c.index.result.now in
     let within : l.i < length ks = omega (arith, n.keys.ok.0) in
     let also : l.i < length vs = omega (arith, within, same) in
-    node_err v (pairs f v ks vs ▸ one (code.BuildMap (layout.pair_count (layout.each f (exprs_of v ks)) (layout.each f (exprs_of v vs))))) _ _ c.from_residual-in_err-expression.result c.from_residual-in_err-expression.ensures.1 (λ d h. cc) (λ m. (const_none v _ c.in_ok-map.ensures.folds c.in_default.not-Some))
-    (refuses_first _ (pairs f v ks vs) (one (code.BuildMap (layout.pair_count (layout.each f (exprs_of v ks)) (layout.each f (exprs_of v vs))))) (one_exact _) (pair_refused f v ks vs l.i k within also c.index.ensures l.invariant.going c.in_err-expression.ensures.err))
+    node_err v (pairs f v ks vs ▸ one (code.BuildMap (expr_count (exprs_of v ks)))) _ _ c.from_residual-in_err-expression.result c.from_residual-in_err-expression.ensures.1 (λ d h. cc) (λ m. (const_none v _ c.in_ok-map.ensures.folds c.in_default.not-Some))
+    (refuses_first _ (pairs f v ks vs) (one (code.BuildMap (expr_count (exprs_of v ks)))) (one_exact _) (pair_refused f v ks vs l.i k within also c.index.ensures l.invariant.going c.in_err-expression.ensures.err))
 
 pub expr::build_map-returns-in_err-expression-2 : goal.expr::build_map-returns-in_err-expression-2
 expr::build_map-returns-in_err-expression-2 g t c =
@@ -142,23 +142,23 @@ expr::build_map-returns-in_err-expression-2 g t c =
     let within : l.i < length ks = omega (arith, n.keys.ok.0) in
     let also : l.i < length vs = omega (arith, within, same) in
     let first = going_on (pairs_next f v ks vs l.i k x within also c.index.ensures c.index-in-loop-i.ensures) c.in_ok-expression.ensures.ok l.invariant.going in
-    node_err v (pairs f v ks vs ▸ one (code.BuildMap (layout.pair_count (layout.each f (exprs_of v ks)) (layout.each f (exprs_of v vs))))) _ _ c.from_residual-in_err-expression-2.result c.from_residual-in_err-expression-2.ensures.1 (λ d h. cc) (λ m. (const_none v _ c.in_ok-map.ensures.folds c.in_default.not-Some))
-    (refuses_first _ (pairs f v ks vs) (one (code.BuildMap (layout.pair_count (layout.each f (exprs_of v ks)) (layout.each f (exprs_of v vs))))) (one_exact _) (going_refused (layout.expr f (expr_tree v x)) refl (paired_exact (layout.each f (exprs_of v (drop (l.i + 1) ks))) (layout.each f (exprs_of v (drop (l.i + 1) vs))) (each_exact f (exprs_of v (drop (l.i + 1) ks))) (each_exact f (exprs_of v (drop (l.i + 1) vs)))) first c.in_err-expression-2.ensures.err))
+    node_err v (pairs f v ks vs ▸ one (code.BuildMap (expr_count (exprs_of v ks)))) _ _ c.from_residual-in_err-expression-2.result c.from_residual-in_err-expression-2.ensures.1 (λ d h. cc) (λ m. (const_none v _ c.in_ok-map.ensures.folds c.in_default.not-Some))
+    (refuses_first _ (pairs f v ks vs) (one (code.BuildMap (expr_count (exprs_of v ks)))) (one_exact _) (going_refused (layout.expr f (expr_tree v x)) refl (paired_exact (layout.each f (exprs_of v (drop (l.i + 1) ks))) (layout.each f (exprs_of v (drop (l.i + 1) vs))) (each_exact f (exprs_of v (drop (l.i + 1) ks))) (each_exact f (exprs_of v (drop (l.i + 1) vs)))) first c.in_err-expression-2.ensures.err))
 
 pub expr::build_map-returns-in_err-map : goal.expr::build_map-returns-in_err-map
 expr::build_map-returns-in_err-map g t c = part_err c.from_residual.result c.from_residual.ensures.1 (λ d h. cc) (unfolded_memory _ _ c.in_err-map.ensures.memory)
 
 pub expr::build_tuple-returns : goal.expr::build_tuple-returns
-expr::build_tuple-returns g t c = let v = g.V.TemplateValue.contents in let f = g.V.TemplateValue.functions in node_ok v (layout.items f (exprs_of v c.args.node.now.items.items) ▸ (one (code.BuildTuple (Some (layout.item_count (exprs_of v c.args.node.now.items.items)))))) _ _ None (sym (const_none v _ c.in_ok-tuple.ensures.folds c.in_default.not-Some)) (adds_then (items_as f v c.deref.ensures.value c.in_ok-items.ensures.ok) (adds_as (ap (λ n. one (code.BuildTuple (Some n))) (omega (arith, exprs_count v c.args.node.now.items.items, c.len.ensures, c.args.node.now.items.ok.0))) c.in_ok-add.ensures.added))
+expr::build_tuple-returns g t c = let v = g.V.TemplateValue.contents in let f = g.V.TemplateValue.functions in node_ok v (layout.items f (exprs_of v c.args.node.now.items.items) ▸ (one (code.BuildTuple (Some (expr_count (exprs_of v c.args.node.now.items.items)))))) _ _ None (sym (const_none v _ c.in_ok-tuple.ensures.folds c.in_default.not-Some)) (adds_then (items_as f v c.deref.ensures.value c.in_ok-items.ensures.ok) (adds_as (ap (λ n. one (code.BuildTuple (Some n))) (omega (arith, exprs_count v c.args.node.now.items.items, c.len.ensures, c.args.node.now.items.ok.0))) c.in_ok-add.ensures.added))
 
 pub expr::build_tuple-returns-in-Some : goal.expr::build_tuple-returns-in-Some
 expr::build_tuple-returns-in-Some g t c = let v = g.V.TemplateValue.contents in let f = g.V.TemplateValue.functions in record { ok = record { value = sym (some_is v _ c.in_ok-tuple.ensures.folds c.in-Some.is); state = refl }; err = tt }
 
 pub expr::build_tuple-returns-in_err-add : goal.expr::build_tuple-returns-in_err-add
-expr::build_tuple-returns-in_err-add g t c = let v = g.V.TemplateValue.contents in let f = g.V.TemplateValue.functions in node_err v (layout.items f (exprs_of v c.args.node.now.items.items) ▸ (one (code.BuildTuple (Some (layout.item_count (exprs_of v c.args.node.now.items.items)))))) _ _ c.from_residual-in_err-add.result c.from_residual-in_err-add.ensures.1 (λ d h. cc) (λ m. (const_none v _ c.in_ok-tuple.ensures.folds c.in_default.not-Some)) (refuses_then (one (code.BuildTuple (Some (layout.item_count (exprs_of v c.args.node.now.items.items))))) (items_as f v c.deref.ensures.value c.in_ok-items.ensures.ok) c.in_err-add.ensures.refused)
+expr::build_tuple-returns-in_err-add g t c = let v = g.V.TemplateValue.contents in let f = g.V.TemplateValue.functions in node_err v (layout.items f (exprs_of v c.args.node.now.items.items) ▸ (one (code.BuildTuple (Some (expr_count (exprs_of v c.args.node.now.items.items)))))) _ _ c.from_residual-in_err-add.result c.from_residual-in_err-add.ensures.1 (λ d h. cc) (λ m. (const_none v _ c.in_ok-tuple.ensures.folds c.in_default.not-Some)) (refuses_then (one (code.BuildTuple (Some (expr_count (exprs_of v c.args.node.now.items.items))))) (items_as f v c.deref.ensures.value c.in_ok-items.ensures.ok) c.in_err-add.ensures.refused)
 
 pub expr::build_tuple-returns-in_err-items : goal.expr::build_tuple-returns-in_err-items
-expr::build_tuple-returns-in_err-items g t c = let v = g.V.TemplateValue.contents in let f = g.V.TemplateValue.functions in node_err v (layout.items f (exprs_of v c.args.node.now.items.items) ▸ (one (code.BuildTuple (Some (layout.item_count (exprs_of v c.args.node.now.items.items)))))) _ _ c.from_residual-in_err-items.result c.from_residual-in_err-items.ensures.1 (λ d h. cc) (λ m. (const_none v _ c.in_ok-tuple.ensures.folds c.in_default.not-Some)) (refuses_first _ (layout.items f (exprs_of v c.args.node.now.items.items)) (one (code.BuildTuple (Some (layout.item_count (exprs_of v c.args.node.now.items.items))))) (one_exact _) (items_err_as f v _ c.deref.ensures.value c.in_err-items.ensures.err))
+expr::build_tuple-returns-in_err-items g t c = let v = g.V.TemplateValue.contents in let f = g.V.TemplateValue.functions in node_err v (layout.items f (exprs_of v c.args.node.now.items.items) ▸ (one (code.BuildTuple (Some (expr_count (exprs_of v c.args.node.now.items.items)))))) _ _ c.from_residual-in_err-items.result c.from_residual-in_err-items.ensures.1 (λ d h. cc) (λ m. (const_none v _ c.in_ok-tuple.ensures.folds c.in_default.not-Some)) (refuses_first _ (layout.items f (exprs_of v c.args.node.now.items.items)) (one (code.BuildTuple (Some (expr_count (exprs_of v c.args.node.now.items.items))))) (one_exact _) (items_err_as f v _ c.deref.ensures.value c.in_err-items.ensures.err))
 
 pub expr::build_tuple-returns-in_err-tuple : goal.expr::build_tuple-returns-in_err-tuple
 expr::build_tuple-returns-in_err-tuple g t c = part_err c.from_residual.result c.from_residual.ensures.1 (λ d h. cc) (unfolded_memory _ _ c.in_err-tuple.ensures.memory)

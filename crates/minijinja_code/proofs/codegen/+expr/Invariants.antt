@@ -1,7 +1,7 @@
 use Rattle.std.proofs.Common.{drop}
 use Rattle.minijinja_tree.specs.Erasure.{exprs_of, expr_tree, comparisons_of}
 use Rattle.minijinja_tree.specs.WellFormed.{AreWhole, AreCompared}
-use Rattle.minijinja_code.specs.Layout.{items, each, paired, count_positional, count_keyword, positional, keyword}
+use Rattle.minijinja_meaning.specs.Layout.{items, each, paired, count_positional, count_keyword, positional, keyword}
 use Rattle.minijinja_code.specs.private.Making.{made_of, count_of}
 use Rattle.minijinja_code.proofs.OneByOne.{Going}
 use Rattle.minijinja_code.proofs.codegen.+expr.Given as goal

@@ -4,10 +4,10 @@ use Rattle.minijinja_tree.specs.Erasure.{stmt_tree}
 use Rattle.minijinja_tree.specs.SpannedTrees.{bare_stmt}
 use Rattle.minijinja_tree.specs.SpannedErasure.{stmt_node}
 use Rattle.minijinja_tree.proofs.Bare.{stmt_is}
-use Rattle.minijinja_code.specs.Pieces.{start}
+use Rattle.minijinja_meaning.specs.Pieces.{start}
 use Rattle.minijinja_code.specs.Instructions.{code_of}
-use Rattle.minijinja_code.specs.Layout.{stmt_code}
-use Rattle.minijinja_code.specs.Correct.{Does}
+use Rattle.minijinja_meaning.specs.Layout.{stmt_code}
+use Rattle.minijinja_meaning.specs.Correct.{DoesStmt}
 use Rattle.minijinja_code.specs.private.AtGenerator.{generated, here_so_far}
 use Rattle.minijinja_code.specs.Hint.{IsHint, data_bytes}
 use Rattle.minijinja_compiler.proofs.Parts.{whole_code, whole_does, limit_of_parser, never_refusal, never_another, too_long_list, unkept, hint_of_all}
@@ -32,7 +32,7 @@ returns-clause-compiled g c =
       derived = parsed.found;
       only = λ t d. sym (parsed.only t d);
       code = whole_code before after code (here_so_far v made) (stmt_code f tree) empty c.new-generator.ensures.here done.added finished ∙ ap (λ t. stmt_code f t start) (sym bare);
-      does = subst (λ t. Does f code 0 (length code) t) (sym bare) (whole_does (λ is from to. Does f is from to tree) before after code empty done.does finished);
+      does = subst (λ t. DoesStmt f code 0 (length code) t) (sym bare) (whole_does (λ is from to. DoesStmt f is from to tree) before after code empty done.does finished);
       hint = subst (λ t. IsHint (data_bytes t) c.buffer_size_hint-buffer_size_hint.result) (sym bare) (hint_of_all (data_bytes tree) _ _ c.buffer_size_hint-buffer_size_hint.result c.new-generator.ensures.bytes done.counted c.buffer_size_hint-buffer_size_hint.ensures);
       no_blocks = rw (c.finish-instructions.ensures.blocks, done.blocks) c.new-generator.ensures.blocks;
       name = c.finish-instructions.ensures.name ∙ done.name ∙ c.new-generator.ensures.name;

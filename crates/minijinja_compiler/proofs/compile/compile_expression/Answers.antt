@@ -4,10 +4,10 @@ use Rattle.minijinja_tree.specs.Erasure.{expr_tree}
 use Rattle.minijinja_tree.specs.SpannedTrees.{bare_expr}
 use Rattle.minijinja_tree.specs.SpannedErasure.{expr_node}
 use Rattle.minijinja_tree.proofs.Bare.{expr_is}
-use Rattle.minijinja_code.specs.Pieces.{start}
+use Rattle.minijinja_meaning.specs.Pieces.{start}
 use Rattle.minijinja_code.specs.Instructions.{code_of}
-use Rattle.minijinja_code.specs.Layout.{expr_code}
-use Rattle.minijinja_code.specs.Correct.{DoesExpr}
+use Rattle.minijinja_meaning.specs.Layout.{expr_code}
+use Rattle.minijinja_meaning.specs.Correct.{DoesExpr}
 use Rattle.minijinja_code.specs.private.AtGenerator.{generated, here_so_far}
 use Rattle.minijinja_compiler.proofs.Parts.{whole_code, whole_does, limit_of_parser, never_refusal, never_another, too_long_list, unkept}
 use Rattle.minijinja_compiler.proofs.compile.compile_expression.Goals as goal

@@ -1,8 +1,8 @@
 use Rattle.minijinja_tree.specs.Erasure.{expr_tree}
-use Rattle.minijinja_code.specs.Layout as layout
+use Rattle.minijinja_meaning.specs.Layout as layout
 use Rattle.minijinja_code.specs.private.Making.{made_of}
 use Rattle.minijinja_code.proofs.Generators.{if_none, too_long}
-use Rattle.minijinja_code.proofs.Lengths.{target_exact}
+use Rattle.minijinja_meaning.proofs.Lengths.{target_exact}
 use Rattle.minijinja_code.proofs.codegen.CodeGenerator.compile_assignment.Goals as goal
 
 pub returns-in-Err-clause-too_many : goal.returns-in-Err-clause-too_many

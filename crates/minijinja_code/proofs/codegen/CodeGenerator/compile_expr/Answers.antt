@@ -1,13 +1,13 @@
 use Rattle.std.proofs.Common.{List, length, refl, sym, subst}
 use Rattle.minijinja_tree.specs.Erasure.{expr_tree}
-use Rattle.minijinja_code.specs.Code.{Instr}
-use Rattle.minijinja_code.specs.Correct.{DoesExpr}
-use Rattle.minijinja_code.specs.Laws.{Laws}
-use Rattle.minijinja_code.specs.Layout as layout
+use Rattle.minijinja_meaning.specs.Code.{Instr}
+use Rattle.minijinja_meaning.specs.Correct.{DoesExpr}
+use Rattle.minijinja_meaning.specs.Laws.{Laws}
+use Rattle.minijinja_meaning.specs.Layout as layout
 use Rattle.minijinja_code.specs.private.Making.{made_of, here_of}
 use Rattle.minijinja_code.proofs.Generators.{if_none, too_long}
-use Rattle.minijinja_code.proofs.Lengths.{expr_exact}
-use Rattle.minijinja_code.proofs.Whole.{expression_does}
+use Rattle.minijinja_meaning.proofs.Lengths.{expr_exact}
+use Rattle.minijinja_meaning.proofs.Whole.{expression_does}
 use Rattle.minijinja_code.proofs.codegen.CodeGenerator.compile_expr.Goals as goal
 
 pub returns-in-Ok-clause-does : goal.returns-in-Ok-clause-does

@@ -1,6 +1,6 @@
 use Rattle.std.proofs.Common.{◌≡◌, ◌+◌, ◌-◌, ◌∷◌, [], drop, get_or, arith, refl, ◌∙◌, subst}
 use Rattle.minijinja_tree.specs.Erasure.{compare_op, comparisons_of}
-use Rattle.minijinja_code.specs.Code.{CompareAndPreserve, JumpIfFalseOrPop}
+use Rattle.minijinja_meaning.specs.Code.{CompareAndPreserve, JumpIfFalseOrPop}
 use Rattle.minijinja_code.specs.private.Making.{made_of}
 use Rattle.minijinja_code.specs.private.Comparing.{ahead, behind_one, Leads}
 use Rattle.minijinja_code.proofs.ChainFolds.{leads_before, followed_twice}

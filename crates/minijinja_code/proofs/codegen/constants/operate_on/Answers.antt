@@ -2,11 +2,11 @@ use Rattle.std.proofs.Common.{sym, ap, ◌∙◌}
 use Rattle.std.specs.Prelude.{slice_set}
 use Rattle.minijinja_tree.specs.Erasure.{bin_op}
 use Rattle.minijinja_tree.specs.Operators.{working}
-use Rattle.minijinja_code.specs.Code.{Instr, Load}
+use Rattle.minijinja_meaning.specs.Code.{Instr, Load}
 use Rattle.minijinja_code.specs.private.Making.{made_of, jump_of}
-use Rattle.minijinja_code.specs.Pieces.{one}
+use Rattle.minijinja_meaning.specs.Pieces.{one}
 use Rattle.minijinja_code.proofs.Adding.{adds_skipping, adds_as, one_small}
-use Rattle.minijinja_code.proofs.FoldedCode.{lazy_operation}
+use Rattle.minijinja_code.proofs.Operations.{lazy_operation}
 use Rattle.minijinja_code.proofs.codegen.constants.operate_on.Goals as goal
 
 pub returns-in_ok-add-clause-added : goal.returns-in_ok-add-clause-added

@@ -1,5 +1,5 @@
 use Rattle.std.proofs.Common.{sym, ap, ◌∙◌}
-use Rattle.minijinja_code.specs.Calls.{written}
+use Rattle.minijinja_meaning.specs.Calls.{written}
 use Rattle.minijinja_code.proofs.Arms.{call_arm}
 use Rattle.minijinja_code.proofs.Outputs.{comparison_plain}
 use Rattle.minijinja_code.proofs.codegen.output.output_of.Goals as goal

@@ -1,6 +1,6 @@
 use Rattle.std.proofs.Common.{List, ap, sym, ◌∙◌, map}
 use Rattle.std.proofs.lemmas.List.{take-map}
-use Rattle.minijinja_code.specs.Code.{Instr}
+use Rattle.minijinja_meaning.specs.Code.{Instr}
 use Rattle.minijinja_code.specs.Instructions.{instr_of}
 use Rattle.minijinja_code.specs.private.Making.{Made, texts_of}
 use Rattle.minijinja_code.proofs.codegen.emit.Emitter.cut.Goals as goal

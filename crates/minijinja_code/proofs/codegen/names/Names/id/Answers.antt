@@ -1,6 +1,6 @@
 use Rattle.std.proofs.Common.{List, Bor, map, sym, ap, ◌∙◌}
 use Rattle.minijinja_syntax.specs.Texts.{Text}
-use Rattle.minijinja_code.specs.Pieces.{noted}
+use Rattle.minijinja_meaning.specs.Pieces.{noted}
 use Rattle.minijinja_code.proofs.FoundNames.{found_noted}
 use Rattle.minijinja_code.proofs.codegen.names.Names.id.Goals as goal
 

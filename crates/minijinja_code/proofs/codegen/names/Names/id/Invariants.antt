@@ -1,5 +1,5 @@
 use Rattle.std.proofs.Common.{◌≡◌, ◌++◌, drop, take, map}
-use Rattle.minijinja_code.specs.Pieces.{id_behind, noted_behind, id_of, noted}
+use Rattle.minijinja_meaning.specs.Pieces.{id_behind, noted_behind, id_of, noted}
 use Rattle.minijinja_code.proofs.codegen.names.Names.id.Given as goal
 
 abbrev pub invariant-loop-i : goal.invariant-loop-i
