@@ -17,7 +17,7 @@ use Rattle.minijinja_tree.specs.declared.ast.Compare.{Compare, out-Compare}
 use Rattle.minijinja_tree.proofs.Nodes.{compare_is}
 use Rattle.minijinja_tree.specs.declared.ast.CompareOp.{CompareOp as Comparison}
 use Rattle.minijinja_meaning.specs.Code.{Instr}
-use Rattle.minijinja_meaning.specs.Pieces.{Here, ◌▸◌}
+use Rattle.minijinja_meaning.specs.Pieces.{Here, ◌▸◌, plain}
 use Rattle.minijinja_meaning.specs.Layout.{Failing, comparison, expr, chain, comparisons}
 use Rattle.minijinja_code.specs.private.Making.{Made, here_of, Adds, AddsUnless, Refuses, RefusesUnfolded, IsPart}
 use Rattle.minijinja_code.specs.private.Comparing.{operand_then, behind_one, behind_two, ahead, Leads, leaving, Closes, Holds}

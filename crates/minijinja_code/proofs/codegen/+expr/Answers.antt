@@ -15,7 +15,7 @@ use Rattle.minijinja_meaning.specs.Events.{Slice, GetAttr, GetItem, CallMethod, 
 use Rattle.minijinja_meaning.specs.Layout as layout
 use Rattle.minijinja_meaning.specs.Layout.{operation, unary_instr, expr, comparison, argument_count, operand}
 use Rattle.minijinja_code.specs.private.Making.{made_of, here_of, IsAdded, Refuses, hole, jump_of, operator_of, AddsUnless, RefusesUnfolded, count_of, operands, given, Adds, IsExpr}
-use Rattle.minijinja_meaning.specs.Pieces.{one, ◌▸◌, branches}
+use Rattle.minijinja_meaning.specs.Pieces.{one, ◌▸◌, branches, plain}
 use Rattle.minijinja_meaning.proofs.Lengths.{one_exact, then_exact, expr_exact, operation_exact, optional_exact, items_exact, branches_exact, paired_exact, each_exact}
 use Rattle.minijinja_code.proofs.Adding.{adds_then, adds_as, refuses_first, refuses_then, refuses_memory, refuses_behind, adds_skipping, cut_back}
 use Rattle.minijinja_code.proofs.Longer.{longer_small, expr_longer, operation_longer, optional_longer, expr_small}
@@ -768,10 +768,10 @@ expr::compare-returns g t c =
     let m = made_of v c.loop-i.code in
     let x = c.index.result.now in
     let item : x ≡ get_or xs (length xs - 1) x = c.index.ensures ∙ ap (λ k. get_or xs k x) place in
-    let closed = subst (λ ps. Closes m ps (last (comparison (compare_op x.op))) (made_of v c.close.new.code)) c.deref-2.ensures.value c.in_ok-close.ensures.closed in
+    let closed = subst (λ ps. Closes m ps (plain (comparison (compare_op x.op))) (made_of v c.close.new.code)) c.deref-2.ensures.value c.in_ok-close.ensures.closed in
     same_ok f v (made_of v c.args.code.now) (made_of v c.close.new.code) (compare_is v c.args.node.now) None
     (sym (end_unfolded f v u none))
-    (end_adds f v u x all some none (subst (λ y. Closes m c.loop-i.places.items (last (comparison (compare_op y.op))) (made_of v c.close.new.code)) item closed))
+    (end_adds f v u x all some none (subst (λ y. Closes m c.loop-i.places.items (plain (comparison (compare_op y.op))) (made_of v c.close.new.code)) item closed))
 
 pub arguments::arguments-returns-in_err-count-clause-added : goal.arguments::arguments-returns-in_err-count-clause-added
 arguments::arguments-returns-in_err-count-clause-added g t c =
