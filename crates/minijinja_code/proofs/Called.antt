@@ -1,11 +1,11 @@
 -- The code of calls: what is called, the arguments, and the instruction of the call.
-use Rattle.std.proofs.Common.{◌≡◌, ℕ, [], Bool, true, false, Option, refl, sym, ap, ◌∙◌, subst}
+use Rattle.std.proofs.Common.{◌≡◌, ℕ, [], true, false, Option, refl, sym, ap, ◌∙◌, subst}
 use Rattle.std.specs.Prelude.{if◌then◌else◌}
 use Rattle.minijinja_syntax.specs.Texts.{Text}
 use Rattle.minijinja_value.specs.Values.{Functions}
 use Rattle.minijinja_syntax.specs.declared.error.Error.{Error}
 use Rattle.minijinja_tree.specs.Erasure.{expr_tree, compare_tree}
-use Rattle.minijinja_tree.specs.Callees.{Callee, method, block as block_named, callee_of_attribute}
+use Rattle.minijinja_tree.specs.Callees.{method, block as block_named, callee_of_attribute}
 use Rattle.minijinja_tree.specs.Tree as tree
 use Rattle.minijinja_tree.specs.Tree.{variable, attribute, call, Args}
 use Rattle.minijinja_tree.specs.declared.ast.CallArg.TheBlock as block

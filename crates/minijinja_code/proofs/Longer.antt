@@ -1,6 +1,5 @@
 -- Each expression has some code.
 use Rattle.std.proofs.Common.{ℕ, ◌<◌, ◌^◌, length, Option, Some, None, arith}
-use Rattle.std.specs.Prelude.{Bool, true, false, if◌then◌else◌}
 use Rattle.minijinja_syntax.specs.Texts.{Text}
 use Rattle.minijinja_value.specs.Values.{Functions}
 use Rattle.minijinja_tree.specs.Operators.{Working, Makes, Divides, IfTrue, IfFalse, working}

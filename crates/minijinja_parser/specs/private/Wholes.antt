@@ -1,5 +1,5 @@
 -- Whole texts: what is read up to the end of the tokens, and refusals that stand.
-use Rattle.std.specs.Prelude.{◌≡◌, ◌≢◌, [], Option, Some, None, Result, Ok, Err}
+use Rattle.std.specs.Prelude.{◌≡◌, ◌≢◌, [], Result, Ok, Err}
 use Rattle.minijinja_syntax.specs.Errors.{kind_of, span_of}
 use Rattle.minijinja_syntax.specs.Streams.{Ending, finished, refused}
 use Rattle.minijinja_syntax.specs.declared.error.Error.{Error}
