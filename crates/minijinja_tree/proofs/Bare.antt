@@ -1,8 +1,7 @@
 -- The tree of a node without its spans is the bare tree of the node.
-use Rattle.std.proofs.Common.{◌≡◌, refl, sym, ap, ap₂, ◌∙◌}
+use Rattle.std.proofs.Common.{◌≡◌, refl, ap, ◌∙◌}
 use Rattle.minijinja_tree.specs.Nodes.{node_of}
-use Rattle.minijinja_tree.specs.Tree as bare
-use Rattle.minijinja_tree.specs.Erasure.{expr_tree, optional_tree, exprs_tree, args_tree, arg_tree, compare_tree, comparisons_tree, stmt_tree, stmts_tree, unary_op, bin_op, compare_op}
+use Rattle.minijinja_tree.specs.Erasure.{expr_tree, optional_tree, exprs_tree, args_tree, arg_tree, compare_tree, comparisons_tree, stmt_tree, stmts_tree}
 use Rattle.minijinja_tree.specs.SpannedErasure.{expr_node, optional_node, exprs_node, args_node, arg_node, compare_node, comparisons_node, stmt_node, stmts_node}
 use Rattle.minijinja_tree.specs.SpannedTrees.{bare_expr, bare_optional, bare_exprs, bare_args, bare_comparisons, bare_stmt, bare_stmts, Args}
 use Rattle.minijinja_syntax.specs.declared.tokens.Span.{Span}

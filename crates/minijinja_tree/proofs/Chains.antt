@@ -8,6 +8,7 @@ use Rattle.minijinja_tree.specs.CompareOps.{CompareOp}
 use Rattle.minijinja_tree.specs.Tree.{Expr, Comparisons, against}
 use Rattle.minijinja_tree.specs.Erasure.{compare_op, expr_tree, compare_tree, comparisons_of}
 use Rattle.minijinja_tree.specs.Folding.{if_some, unless_fault, fold, fold_chain, fold_on}
+use Rattle.minijinja_tree.specs.private.FoldingSteps.{fold_node}
 use Rattle.minijinja_tree.specs.declared.ast.Compare.{Compare, out-Compare}
 use Rattle.minijinja_tree.specs.declared.ast.CompareOp.{CompareOp as Comparison}
 use Rattle.minijinja_tree.proofs.Nodes.{compare_is}
@@ -51,12 +52,11 @@ pub chain-ends : {V K C F : Type 0} (f : Functions C F) (c : V → C) (l : C) (x
 unfolding fold_chain
 chain-ends f c l xs i past = at_drop_all (λ ys. fold_chain f l (comparisons_of c ys)) xs i past
 
--- a chain with a known first operand, and one without
-pub compare-known : {V K C F : Type 0} (f : Functions C F) (c : V → C) (q : Compare V K) (v : C) → Some v ≡ fold f (expr_tree c (out-Compare V K q).expr) →
-    fold f (compare_tree c q) ≡ fold_chain f v (comparisons_of c (out-Compare V K q).ops.items)
-unfolding fold if_some
-compare-known {V} {K} f c q v h = ap (fold f) (compare_is c q) ∙ ap (λ o. if_some o (λ v. fold_chain f v (comparisons_of c (out-Compare V K q).ops.items))) (sym h)
+-- a chain on a known first operand, and one without
+pub compare-known : {V K C F : Type 0} (f : Functions C F) (c : V → C) (q : Compare V K) (v : C) → fold_chain f v (comparisons_of c (out-Compare V K q).ops.items) ≡ fold_node f (compare_tree c q) (Some v)
+unfolding if_some
+compare-known f c q v = ap (λ e. fold_node f e (Some v)) (sym (compare_is c q))
 
-pub compare-unknown : {V K C F : Type 0} (f : Functions C F) (c : V → C) (q : Compare V K) → None ≡ fold f (expr_tree c (out-Compare V K q).expr) → fold f (compare_tree c q) ≡ None
-unfolding fold if_some
-compare-unknown {V} {K} f c q h = ap (fold f) (compare_is c q) ∙ ap (λ o. if_some o (λ v. fold_chain f v (comparisons_of c (out-Compare V K q).ops.items))) (sym h)
+pub compare-unknown : {V K C F : Type 0} (f : Functions C F) (c : V → C) (q : Compare V K) → None ≡ fold_node f (compare_tree c q) None
+unfolding if_some
+compare-unknown f c q = ap (λ e. fold_node f e None) (sym (compare_is c q))

@@ -1,5 +1,5 @@
 -- The tree that a node stands for, with its spans, and with values seen as what they hold.
-use Rattle.std.specs.Prelude.{List, [], ◌∷◌, map, Option}
+use Rattle.std.specs.Prelude.{List, map, Option}
 use Rattle.std.specs.Option.{option_map}
 use Rattle.minijinja_syntax.specs.declared.tokens.Span.{Span}
 use Rattle.minijinja_tree.specs.declared.ast.CallArg.{CallArg}

@@ -1,2 +1,4 @@
 -- What specifies private functions alone, and need not be believed.
+pub mod Sizes
 pub mod WellFormedTests
+pub mod FoldingSteps

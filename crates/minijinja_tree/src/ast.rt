@@ -80,8 +80,8 @@ pub enum Expr<'s, V: TemplateValue = Value> {
     Map(Spanned<Map<'s, V>>),
 }
 
-/// What stands on the left goes in a loop, so that a chain of operators, attributes, filters or calls takes no more stack than
-/// one of them.
+/// What stands on the left goes in a loop, and so does the last part of an if expression, so that a row of operators, attributes,
+/// filters, calls or else parts takes no more stack than one of them.
 impl<'s, V: TemplateValue> Drop for Expr<'s, V> {
     #[cycle(expr)]
     fn drop(mut self) {
@@ -109,8 +109,18 @@ impl<'s, V: TemplateValue> Drop for Expr<'s, V> {
                 }
                 Expr::IfExpr(Spanned { place }) => {
                     let Placed { node, .. } = Box::into_inner(place);
-                    let IfExpr { true_expr, .. } = node;
-                    self = true_expr;
+                    let IfExpr {
+                        true_expr,
+                        false_expr,
+                        ..
+                    } = node;
+                    match false_expr {
+                        Some(expr) => {
+                            drop(true_expr);
+                            self = expr;
+                        }
+                        None => self = true_expr,
+                    }
                 }
                 Expr::Filter(Spanned { place }) => {
                     let Placed { node, .. } = Box::into_inner(place);

@@ -1,12 +1,14 @@
 //! Expressions whose value is known before a template runs.
-ghost use Rattle.std.specs.Prelude.{◌≡◌, IfErr, IfOk, map, zip};
+ghost use Rattle.std.specs.Prelude.{◌≡◌, ◌<◌, IfErr, IfOk, IfSome, map, zip};
 ghost use Rattle.std.specs.Option.{option_map};
 ghost use Rattle.minijinja_syntax.specs.Errors.{IsOutOfMemory};
-ghost use Rattle.minijinja_tree.specs.Erasure.{unary_op, bin_op, expr_tree, exprs_of, compare_tree, comparisons_of, args_of};
+ghost use Rattle.minijinja_tree.specs.Erasure.{bin_op, expr_tree, exprs_of, comparisons_of, args_of};
 ghost use Rattle.minijinja_tree.specs.Folding.{fold, fold_chain, fold_keywords, constants, constant_node, constant_keywords};
 ghost use Rattle.minijinja_tree.specs.Tree as tree;
+ghost use Rattle.minijinja_tree.specs.private.FoldingSteps.{operand_of, fold_node, fold_onto};
+ghost use Rattle.minijinja_tree.specs.private.Sizes.{size_of};
 
-use crate::ast::{BinOp, CallArg, Compare, CompareOp, Expr, List, Map, Tuple, UnaryOp};
+use crate::ast::{BinOp, CallArg, CompareOp, Expr, List, Map, Tuple};
 use minijinja_base::error::Error;
 use minijinja_base::value::TemplateValue;
 use std::alloc::{AllocError, Global};
@@ -15,73 +17,88 @@ impl<'s, V: TemplateValue> Expr<'s, V> {
     /// The value of the expression, where it is known: of a constant, of a list, tuple or map of constants, and of operators
     /// and comparisons over operands of known value that do not fault. A quotient is not known. Refused memory is the only
     /// error.
+    ///
+    /// Goes down first operands in a loop and folds on the way up, so that a row of operators takes no more stack than one.
     #[cycle(as_const)]
-    #[tactic(auto, unfolding(crate::specs::Folding::fold, crate::specs::Folding::if_some))]
     pub fn as_const(&self, alloc: Global) -> Result<Option<V>, Error<'static>>
         ensures folds { IfOk result
             (λ r. option_map V.contents r ≡ fold V.functions (expr_tree V.contents self.now)) }
         ensures memory { IfErr result IsOutOfMemory }
     {
-        match self {
-            Expr::Const(constant) => Ok(Some(constant.node().value.try_clone()?)),
-            Expr::UnaryOp(operation) => unary_constant(alloc, operation.node()),
-            Expr::BinOp(operation) => binary_constant(alloc, operation.node()),
-            Expr::Compare(chain) => compare_constant(alloc, chain.node()),
-            Expr::List(list) => list.node().as_const(alloc),
-            Expr::Tuple(tuple) => tuple.node().as_const(alloc),
-            Expr::Map(map) => map.node().as_const(alloc),
-            _ => Ok(None),
+        let mut nodes = Vec::new(alloc);
+        let mut rest = Some(self);
+        while let Some(node) = rest {
+            nodes.push(node)?;
+            rest = first_operand(node);
         }
+        let mut constant = None;
+        while let Some(node) = nodes.pop() {
+            constant = node_constant(alloc, node, constant)?;
+        }
+        Ok(constant)
     }
 }
 
+/// The first operand of an operator or of a chain of comparisons.
+fn first_operand<'a, 's, V: TemplateValue>(expr: &'a Expr<'s, V>) -> Option<&'a Expr<'s, V>>
+    ensures first { option_map (λ e. expr_tree V.contents e.now) result ≡ operand_of
+        (expr_tree V.contents expr.now) }
+    ensures smaller { IfSome result (λ e. size_of e.now < size_of expr.now) }
+{
+    match expr {
+        Expr::UnaryOp(operation) => Some(&operation.node().expr),
+        Expr::BinOp(operation) => Some(&operation.node().left),
+        Expr::Compare(chain) => Some(&chain.node().expr),
+        _ => None,
+    }
+}
+
+/// The value of a node, by that of its first operand where it has one.
 #[cycle(as_const)]
 #[tactic(auto, unfolding(crate::specs::Folding::fold, crate::specs::Folding::if_some))]
-fn unary_constant<V: TemplateValue>(
+fn node_constant<V: TemplateValue>(
     alloc: Global,
-    operation: &UnaryOp<'_, V>,
+    node: &Expr<'_, V>,
+    first: Option<V>,
 ) -> Result<Option<V>, Error<'static>>
-    ensures folds { IfOk result (λ r. option_map V.contents r ≡ fold V.functions
-        (tree.unary (unary_op operation.now.op) (expr_tree V.contents operation.now.expr))) }
+    ensures folds { IfOk result (λ r. option_map V.contents r ≡ fold_node V.functions
+        (expr_tree V.contents node.now) (option_map V.contents first)) }
     ensures memory { IfErr result IsOutOfMemory }
 {
-    match operation.expr.as_const(alloc)? {
-        Some(operand) => operation.op.fold(alloc, &operand),
-        None => Ok(None),
+    match node {
+        Expr::Const(constant) => Ok(Some(constant.node().value.try_clone()?)),
+        Expr::UnaryOp(operation) => match first {
+            Some(operand) => operation.node().op.fold(alloc, &operand),
+            None => Ok(None),
+        },
+        Expr::BinOp(operation) => match first {
+            Some(left) => binary_constant(alloc, operation.node(), left),
+            None => Ok(None),
+        },
+        Expr::Compare(chain) => match first {
+            Some(left) => comparisons_constant(alloc, left, &chain.node().ops),
+            None => Ok(None),
+        },
+        Expr::List(list) => list.node().as_const(alloc),
+        Expr::Tuple(tuple) => tuple.node().as_const(alloc),
+        Expr::Map(map) => map.node().as_const(alloc),
+        _ => Ok(None),
     }
 }
 
 #[cycle(as_const)]
-#[tactic(auto, unfolding(crate::specs::Folding::fold, crate::specs::Folding::if_some))]
+#[tactic(auto, unfolding(crate::specs::Folding::if_some))]
 fn binary_constant<V: TemplateValue>(
     alloc: Global,
     operation: &BinOp<'_, V>,
+    left: V,
 ) -> Result<Option<V>, Error<'static>>
-    ensures folds { IfOk result (λ r. option_map V.contents r ≡ fold V.functions
-        (tree.binary (bin_op operation.now.op) (expr_tree V.contents operation.now.left)
-        (expr_tree V.contents operation.now.right))) }
+    ensures folds { IfOk result (λ r. option_map V.contents r ≡ fold_onto V.functions
+        (bin_op operation.now.op) (V.contents left) (expr_tree V.contents operation.now.right)) }
     ensures memory { IfErr result IsOutOfMemory }
 {
-    match operation.left.as_const(alloc)? {
-        Some(left) => match operation.right.as_const(alloc)? {
-            Some(right) => operation.op.fold(alloc, left, right),
-            None => Ok(None),
-        },
-        None => Ok(None),
-    }
-}
-
-#[cycle(as_const)]
-fn compare_constant<V: TemplateValue>(
-    alloc: Global,
-    chain: &Compare<'_, V>,
-) -> Result<Option<V>, Error<'static>>
-    ensures folds { IfOk result
-        (λ r. option_map V.contents r ≡ fold V.functions (compare_tree V.contents chain.now)) }
-    ensures memory { IfErr result IsOutOfMemory }
-{
-    match chain.expr.as_const(alloc)? {
-        Some(first) => comparisons_constant(alloc, first, &chain.ops),
+    match operation.right.as_const(alloc)? {
+        Some(right) => operation.op.fold(alloc, left, right),
         None => Ok(None),
     }
 }

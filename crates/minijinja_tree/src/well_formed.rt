@@ -1,15 +1,13 @@
 //! Which trees code is made of.
-ghost use Rattle.std.specs.Prelude.{◌≡◌, ◌==◌, ◌↔◌, IsTrue, map, nat_le};
+ghost use Rattle.std.specs.Prelude.{◌≡◌, ◌==◌, ◌↔◌, ◌<◌, ◌&&◌, IfSome, IsTrue, map, nat_le, option_map};
 ghost use Rattle.minijinja_tree.specs.Erasure.{expr_tree, optional_of, exprs_of, arg_tree, args_of, comparisons_of, stmt_tree};
 ghost use Rattle.minijinja_tree.specs.Tree as tree;
 ghost use Rattle.minijinja_tree.specs.Tree.{stmts_of};
 ghost use Rattle.minijinja_tree.specs.WellFormed.{IsWhole, IsWellFormed, most_arguments, arg_count, expr_count};
+ghost use Rattle.minijinja_tree.specs.private.Sizes.{size_of};
 ghost use Rattle.minijinja_tree.specs.private.WellFormedTests as tests;
-ghost use Rattle.minijinja_tree.specs.declared.ast.Compare.{out-Compare};
 
-use crate::ast::{
-    Call, CallArg, Compare, CompareOp, Expr, Filter, IfExpr, MOST_ARGUMENTS, Map, Slice, Stmt, Test,
-};
+use crate::ast::{CallArg, CompareOp, Expr, IfExpr, MOST_ARGUMENTS, Map, Slice, Stmt};
 use minijinja_base::value::TemplateValue;
 
 impl<'s, V: TemplateValue> Expr<'s, V> {
@@ -71,29 +69,74 @@ fn is_target<V: TemplateValue>(expr: &Expr<'_, V>) -> bool
     matches!(expr, Expr::Var(_))
 }
 
+/// Goes down the long side in a loop, so that a row of operators, calls or else parts takes no more stack than one of them.
 #[cycle(well_formed)]
 fn is_whole<V: TemplateValue>(expr: &Expr<'_, V>) -> bool
     ensures { result ≡ tests.is_whole (expr_tree V.contents expr.now) }
 {
+    let mut rest = Some(expr);
+    while let Some(part) = rest {
+        if !is_whole_beside(part) {
+            return false;
+        }
+        rest = long_side(part);
+    }
+    true
+}
+
+/// The part that rows nest in without a bound, if the expression has one: the operand on its left, or the last part of an if
+/// expression.
+fn long_side<'a, 's, V: TemplateValue>(expr: &'a Expr<'s, V>) -> Option<&'a Expr<'s, V>>
+    ensures side { option_map (λ e. expr_tree V.contents e.now) result ≡ tests.long_side
+        (expr_tree V.contents expr.now) }
+    ensures smaller { IfSome result (λ e. size_of e.now < size_of expr.now) }
+{
+    match expr {
+        Expr::Var(_) => None,
+        Expr::Const(_) => None,
+        Expr::Slice(slice) => Some(&slice.node().expr),
+        Expr::UnaryOp(operation) => Some(&operation.node().expr),
+        Expr::BinOp(operation) => Some(&operation.node().left),
+        Expr::Compare(chain) => Some(&chain.node().expr),
+        Expr::IfExpr(choice) => {
+            let choice = choice.node();
+            match &choice.false_expr {
+                Some(expr) => Some(expr),
+                None => Some(&choice.true_expr),
+            }
+        }
+        Expr::Filter(filter) => filter.node().expr.as_ref(),
+        Expr::Test(test) => Some(&test.node().expr),
+        Expr::GetAttr(attribute) => Some(&attribute.node().expr),
+        Expr::GetItem(item) => Some(&item.node().expr),
+        Expr::Call(call) => Some(&call.node().expr),
+        Expr::List(_) => None,
+        Expr::Tuple(_) => None,
+        Expr::Map(_) => None,
+    }
+}
+
+/// Whether all but the long side is whole.
+#[cycle(well_formed)]
+fn is_whole_beside<V: TemplateValue>(expr: &Expr<'_, V>) -> bool
+    ensures { result ≡ tests.is_whole_beside (expr_tree V.contents expr.now) }
+{
     match expr {
         Expr::Var(_) => true,
         Expr::Const(_) => true,
-        Expr::Slice(slice) => is_slice(slice.node()),
-        Expr::UnaryOp(operation) => is_whole(&operation.node().expr),
-        Expr::BinOp(operation) => {
-            let operation = operation.node();
-            is_whole(&operation.left) && is_whole(&operation.right)
-        }
-        Expr::Compare(chain) => is_chain(chain.node()),
+        Expr::Slice(slice) => are_bounds(slice.node()),
+        Expr::UnaryOp(_) => true,
+        Expr::BinOp(operation) => is_whole(&operation.node().right),
+        Expr::Compare(chain) => are_compared(&chain.node().ops),
         Expr::IfExpr(choice) => is_choice(choice.node()),
-        Expr::Filter(filter) => is_filter(filter.node()),
-        Expr::Test(test) => is_test(test.node()),
-        Expr::GetAttr(attribute) => is_whole(&attribute.node().expr),
-        Expr::GetItem(item) => {
-            let item = item.node();
-            is_whole(&item.expr) && is_whole(&item.subscript_expr)
+        Expr::Filter(filter) => {
+            let filter = filter.node();
+            filter.expr.is_some() && are_arguments(&filter.args)
         }
-        Expr::Call(call) => is_call(call.node()),
+        Expr::Test(test) => are_arguments(&test.node().args),
+        Expr::GetAttr(_) => true,
+        Expr::GetItem(item) => is_whole(&item.node().subscript_expr),
+        Expr::Call(call) => are_arguments(&call.node().args),
         Expr::List(list) => are_whole(&list.node().items),
         Expr::Tuple(tuple) => are_whole(&tuple.node().items),
         Expr::Map(map) => is_map(map.node()),
@@ -101,59 +144,21 @@ fn is_whole<V: TemplateValue>(expr: &Expr<'_, V>) -> bool
 }
 
 #[cycle(well_formed)]
-fn is_slice<V: TemplateValue>(slice: &Slice<'_, V>) -> bool
-    ensures { result ≡ tests.is_whole (tree.slice (expr_tree V.contents slice.now.expr)
-        (optional_of V.contents slice.now.start) (optional_of V.contents slice.now.stop)
-        (optional_of V.contents slice.now.step)) }
+fn are_bounds<V: TemplateValue>(slice: &Slice<'_, V>) -> bool
+    ensures { result ≡ (tests.is_whole_if_any (optional_of V.contents slice.now.start)
+        && (tests.is_whole_if_any (optional_of V.contents slice.now.stop)
+        && tests.is_whole_if_any (optional_of V.contents slice.now.step))) }
 {
-    is_whole(&slice.expr)
-        && is_whole_if_any(&slice.start)
-        && is_whole_if_any(&slice.stop)
-        && is_whole_if_any(&slice.step)
-}
-
-#[cycle(well_formed)]
-fn is_chain<V: TemplateValue>(chain: &Compare<'_, V>) -> bool
-    ensures { result ≡ tests.is_whole (tree.compare
-        (expr_tree V.contents (out-Compare _ _ chain.now).expr)
-        (comparisons_of V.contents (out-Compare _ _ chain.now).ops.items)) }
-{
-    has_two(&chain.ops) && is_whole(&chain.expr) && are_compared(&chain.ops)
+    is_whole_if_any(&slice.start) && is_whole_if_any(&slice.stop) && is_whole_if_any(&slice.step)
 }
 
 #[cycle(well_formed)]
 fn is_choice<V: TemplateValue>(choice: &IfExpr<'_, V>) -> bool
-    ensures { result ≡ tests.is_whole (tree.if_expr (expr_tree V.contents choice.now.test_expr)
-        (expr_tree V.contents choice.now.true_expr)
+    ensures { result ≡ tests.is_whole_beside (tree.if_expr
+        (expr_tree V.contents choice.now.test_expr) (expr_tree V.contents choice.now.true_expr)
         (optional_of V.contents choice.now.false_expr)) }
 {
-    is_whole(&choice.test_expr)
-        && is_whole(&choice.true_expr)
-        && is_whole_if_any(&choice.false_expr)
-}
-
-#[cycle(well_formed)]
-fn is_filter<V: TemplateValue>(filter: &Filter<'_, V>) -> bool
-    ensures { result ≡ tests.is_whole (tree.filter (optional_of V.contents filter.now.expr)
-        filter.now.name.now (args_of V.contents filter.now.args.items)) }
-{
-    is_whole_operand(&filter.expr) && are_few(&filter.args) && are_arguments(&filter.args)
-}
-
-#[cycle(well_formed)]
-fn is_test<V: TemplateValue>(test: &Test<'_, V>) -> bool
-    ensures { result ≡ tests.is_whole (tree.test (expr_tree V.contents test.now.expr)
-        test.now.name.now (args_of V.contents test.now.args.items)) }
-{
-    is_whole(&test.expr) && are_few(&test.args) && are_arguments(&test.args)
-}
-
-#[cycle(well_formed)]
-fn is_call<V: TemplateValue>(call: &Call<'_, V>) -> bool
-    ensures { result ≡ tests.is_whole
-        (tree.call (expr_tree V.contents call.now.expr) (args_of V.contents call.now.args.items)) }
-{
-    is_whole(&call.expr) && are_few(&call.args) && are_arguments(&call.args)
+    is_whole(&choice.test_expr) && (choice.false_expr.is_none() || is_whole(&choice.true_expr))
 }
 
 #[cycle(well_formed)]
@@ -174,17 +179,6 @@ fn is_whole_if_any<V: TemplateValue>(expr: &Option<Expr<'_, V>>) -> bool
     }
 }
 
-/// Whether it is there and whole.
-#[cycle(well_formed)]
-fn is_whole_operand<V: TemplateValue>(expr: &Option<Expr<'_, V>>) -> bool
-    ensures { result ≡ tests.is_whole_operand (optional_of V.contents expr.now) }
-{
-    match expr {
-        Some(expr) => is_whole(expr),
-        None => false,
-    }
-}
-
 #[cycle(well_formed)]
 fn are_whole<V: TemplateValue>(exprs: &[Expr<'_, V>]) -> bool
     ensures { result ≡ tests.are_whole (exprs_of V.contents exprs.now) }
@@ -197,10 +191,15 @@ fn are_whole<V: TemplateValue>(exprs: &[Expr<'_, V>]) -> bool
     true
 }
 
+/// Whether there are two comparisons or more, and their operands are whole.
 #[cycle(well_formed)]
 fn are_compared<V: TemplateValue>(comparisons: &[CompareOp<'_, V>]) -> bool
-    ensures { result ≡ tests.are_compared (comparisons_of V.contents comparisons.now) }
+    ensures { result ≡ (tests.is_chain (comparisons_of V.contents comparisons.now)
+        && tests.are_compared (comparisons_of V.contents comparisons.now)) }
 {
+    if !has_two(comparisons) {
+        return false;
+    }
     for comparison in comparisons {
         if !is_whole(&comparison.expr) {
             return false;
@@ -209,10 +208,14 @@ fn are_compared<V: TemplateValue>(comparisons: &[CompareOp<'_, V>]) -> bool
     true
 }
 
+/// Whether there are not too many arguments, and they are whole.
 #[cycle(well_formed)]
 fn are_arguments<V: TemplateValue>(args: &[CallArg<'_, V>]) -> bool
-    ensures { result ≡ tests.are_arguments (args_of V.contents args.now) }
+    ensures { result ≡ tests.takes_arguments (args_of V.contents args.now) }
 {
+    if !are_few(args) {
+        return false;
+    }
     for arg in args {
         if !is_argument(arg) {
             return false;

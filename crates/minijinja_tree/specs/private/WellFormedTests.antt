@@ -1,5 +1,5 @@
 -- The same as `WellFormed`, as tests.
-use Rattle.std.specs.Prelude.{Bool, true, false, ◌&&◌, ◌==◌, nat_le}
+use Rattle.std.specs.Prelude.{Bool, true, false, ◌&&◌, ◌==◌, Option, Some, None, nat_le}
 use Rattle.minijinja_tree.specs.Tree.{Expr, variable, constant, slice, unary, binary, compare, if_expr, filter, test, attribute, item, call, list, tuple, map, Optional, absent, present, Exprs, no_more, more, Comparisons, compared, against, Args, no_args, pos, pos_splat, kwarg, kwarg_splat, Stmt, template, data_text, output, assignment, Stmts, done, also}
 use Rattle.minijinja_tree.specs.WellFormed.{most_arguments, expr_count, arg_count}
 
@@ -54,6 +54,50 @@ abbrev mutual
   are_arguments (pos_splat e args) = is_whole e && are_arguments args
   are_arguments (kwarg x e args) = is_whole e && are_arguments args
   are_arguments (kwarg_splat e args) = is_whole e && are_arguments args
+
+-- the part that rows nest in without a bound
+abbrev pub long_side : {C : Type 0} → Expr C → Option (Expr C)
+long_side (variable x) = None
+long_side (constant c) = None
+long_side (slice e start stop step) = Some e
+long_side (unary o e) = Some e
+long_side (binary o a b) = Some a
+long_side (compare e cs) = Some e
+long_side (if_expr t a absent) = Some a
+long_side (if_expr t a (present b)) = Some b
+long_side (filter absent x args) = None
+long_side (filter (present e) x args) = Some e
+long_side (test e x args) = Some e
+long_side (attribute e x) = Some e
+long_side (item e k) = Some e
+long_side (call e args) = Some e
+long_side (list es) = None
+long_side (tuple es) = None
+long_side (map ks vs) = None
+
+-- not too many arguments, and the value of each
+abbrev pub takes_arguments : {C : Type 0} → Args C → Bool
+takes_arguments args = nat_le (arg_count args) most_arguments && are_arguments args
+
+-- all but that part
+abbrev pub is_whole_beside : {C : Type 0} → Expr C → Bool
+is_whole_beside (variable x) = true
+is_whole_beside (constant c) = true
+is_whole_beside (slice e start stop step) = is_whole_if_any start && (is_whole_if_any stop && is_whole_if_any step)
+is_whole_beside (unary o e) = true
+is_whole_beside (binary o a b) = is_whole b
+is_whole_beside (compare e cs) = is_chain cs && are_compared cs
+is_whole_beside (if_expr t a absent) = is_whole t
+is_whole_beside (if_expr t a (present b)) = is_whole t && is_whole a
+is_whole_beside (filter absent x args) = false
+is_whole_beside (filter (present e) x args) = takes_arguments args
+is_whole_beside (test e x args) = takes_arguments args
+is_whole_beside (attribute e x) = true
+is_whole_beside (item e k) = is_whole k
+is_whole_beside (call e args) = takes_arguments args
+is_whole_beside (list es) = are_whole es
+is_whole_beside (tuple es) = are_whole es
+is_whole_beside (map ks vs) = (expr_count ks == expr_count vs) && (are_whole ks && are_whole vs)
 
 -- a name may be assigned to
 abbrev pub is_target : {C : Type 0} → Expr C → Bool
