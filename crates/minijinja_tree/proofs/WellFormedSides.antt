@@ -1,10 +1,9 @@
 -- An expression is whole where its long side is, and all beside it.
 use Rattle.std.proofs.Common.{◌≡◌, ◌<◌, refl, sym, ap, ◌∙◌, true, false, arith}
-use Rattle.std.specs.Prelude.{Bool, ◌&&◌, Option, Some, None, IfSome, is_some, option_map}
+use Rattle.std.specs.Prelude.{Bool, ◌&&◌, Option, Some, None, IfSome, option_map}
 use Rattle.std.specs.Borrow.{Bor}
-use Rattle.minijinja_tree.specs.Tree.{Expr, variable, constant, slice, unary, binary, compare, if_expr, filter, test, attribute, item, call, list, tuple, map, absent, present, Args}
-use Rattle.minijinja_syntax.specs.Texts.{Text}
-use Rattle.minijinja_tree.specs.Erasure.{expr_tree, optional_of}
+use Rattle.minijinja_tree.specs.Tree.{Expr, variable, constant, slice, unary, binary, compare, if_expr, filter, test, attribute, item, call, list, tuple, map, absent, present}
+use Rattle.minijinja_tree.specs.Erasure.{expr_tree}
 use Rattle.minijinja_tree.specs.private.Sizes.{size_of}
 use Rattle.minijinja_tree.specs.declared.ast.Expr.{Expr as Node}
 use Rattle.minijinja_tree.proofs.Sizes.{IsWithin, next-within}
@@ -76,8 +75,3 @@ module _ {V K C : Type 0} (c : V → C) (whole : Node V K) where
 
   pub ends : (rest : Option (Bor (Node V K))) → rest ≡ None → IsRest c whole rest → true ≡ is_whole (expr_tree c whole)
   ends rest k h = sym (h.same ∙ ap (λ o. is_whole_if_some (option_map (λ x. expr_tree c x.now) o)) k)
-
--- a filter with an operand
-pub with-operand : {V K C : Type 0} (c : V → C) (o : Option (Node V K)) (x : Text) (args : Args C) → is_some o ≡ true → takes_arguments args ≡ is_whole_beside (filter (optional_of c o) x args)
-with-operand c None x args h = cc
-with-operand c (Some e) x args h = refl

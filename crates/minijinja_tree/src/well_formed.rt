@@ -131,7 +131,10 @@ fn is_whole_beside<V: TemplateValue>(expr: &Expr<'_, V>) -> bool
         Expr::IfExpr(choice) => is_choice(choice.node()),
         Expr::Filter(filter) => {
             let filter = filter.node();
-            filter.expr.is_some() && are_arguments(&filter.args)
+            match filter.expr {
+                Some(_) => are_arguments(&filter.args),
+                None => false,
+            }
         }
         Expr::Test(test) => are_arguments(&test.node().args),
         Expr::GetAttr(_) => true,

@@ -6,7 +6,7 @@ use Rattle.minijinja_tree.specs.private.WellFormedTests.{is_chain, is_whole_besi
 use Rattle.minijinja_tree.proofs.Nodes.{list_is, tuple_is, map_is, filter_is, test_is, call_is, compare_is}
 use Rattle.minijinja_tree.proofs.WellFormedCounts.{next-argument}
 use Rattle.minijinja_tree.proofs.Sizes.{rest-within, next-smaller}
-use Rattle.minijinja_tree.proofs.WellFormedSides.{goes-on, with-operand}
+use Rattle.minijinja_tree.proofs.WellFormedSides.{goes-on}
 use Rattle.minijinja_tree.proofs.well_formed.+well_formed.Goals as goal
 
 pub is_whole-is_whole_beside-requires : goal.is_whole-is_whole_beside-requires
@@ -31,12 +31,12 @@ is_whole_beside-returns-in-Compare g t c =
     ∙ ap (λ n. is_whole_beside (compare_tree v n)) c.node-in-Compare.ensures
     ∙ ap (λ e. is_whole_beside (expr_tree v e)) (sym c.in-Compare.is)
 
-pub is_whole_beside-returns-then-is_some : goal.is_whole_beside-returns-then-is_some
-is_whole_beside-returns-then-is_some g t c =
+pub is_whole_beside-returns-in-Some : goal.is_whole_beside-returns-in-Some
+is_whole_beside-returns-in-Some g t c =
     let v = g.V.TemplateValue.contents in
     let n = c.node-filter.result.now in
-    c.are_arguments.ensures ∙ ap (λ xs. takes_arguments (args_of v xs)) c.deref-then-is_some.ensures.value
-    ∙ with-operand v n.expr n.name.now (args_of v n.args.items) (sym c.is_some.ensures ∙ c.if-is_some.true)
+    c.are_arguments.ensures ∙ ap (λ xs. takes_arguments (args_of v xs)) c.deref-in-Some.ensures.value
+    ∙ ap (λ o. is_whole_beside (filter (optional_of v o) n.name.now (args_of v n.args.items))) (sym c.in-Some.is)
     ∙ ap (λ n. is_whole_beside (filter (optional_of v n.expr) n.name.now (args_of v n.args.items))) c.node-filter.ensures
     ∙ ap is_whole_beside (sym (filter_is v c.in-Filter.filter))
     ∙ ap (λ e. is_whole_beside (expr_tree v e)) (sym c.in-Filter.is)
