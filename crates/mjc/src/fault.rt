@@ -1,6 +1,10 @@
 //! Why a run ends without doing what was asked.
-ghost use Rattle.std.specs.Prelude.{◌≡◌, ◌≤◌};
-ghost use Rattle.mjc.specs.Fault.{status_of};
+ghost use Rattle.std.specs.Prelude.{◌≡◌, ◌≢◌};
+ghost use Rattle.std.specs.IoError.{error_kind};
+ghost use Rattle.std.specs.declared.io.ErrorKind.TheVariants as kind;
+ghost use Rattle.minijinja_syntax.specs.Errors.{kind_of};
+ghost use Rattle.minijinja_syntax.specs.declared.error.ErrorKind.TheVariants.{OutOfMemory, SourceTooLong};
+ghost use Rattle.mjc.specs.Fault.{status_of, IsRefusedAs};
 
 use minijinja_compiler::error::{Error, ErrorKind};
 use std::{fmt, io};
@@ -24,7 +28,9 @@ pub enum Fault<'p> {
 }
 
 impl<'p> Fault<'p> {
-    fn without_place(kind: ErrorKind) -> Self {
+    fn without_place(kind: ErrorKind) -> Self
+        ensures { IsRefusedAs kind result }
+    {
         Fault::Refused {
             kind,
             line: 0,
@@ -33,12 +39,17 @@ impl<'p> Fault<'p> {
     }
 
     /// The text has 2^32 bytes or more.
-    pub fn source_too_long() -> Self {
+    pub fn source_too_long() -> Self
+        ensures { IsRefusedAs SourceTooLong result }
+    {
         Fault::without_place(ErrorKind::SourceTooLong)
     }
 
     /// Want of memory, or else the other fault.
-    fn memory_or(error: &io::Error, other: Fault<'p>) -> Self {
+    fn memory_or(error: &io::Error, other: Fault<'p>) -> Self
+        ensures memory { error_kind error.now ≡ kind.OutOfMemory → IsRefusedAs OutOfMemory result }
+        ensures other { error_kind error.now ≢ kind.OutOfMemory → result ≡ other.entry }
+    {
         if error.kind() == io::ErrorKind::OutOfMemory {
             Fault::without_place(ErrorKind::OutOfMemory)
         } else {
@@ -47,23 +58,33 @@ impl<'p> Fault<'p> {
     }
 
     /// The words of the process cannot be had, or one is not UTF-8.
-    pub fn of_words(error: &io::Error) -> Self {
+    pub fn of_words(error: &io::Error) -> Self
+        ensures memory { error_kind error.now ≡ kind.OutOfMemory → IsRefusedAs OutOfMemory result }
+        ensures other { error_kind error.now ≢ kind.OutOfMemory → result ≡ Fault.Usage }
+    {
         Fault::memory_or(error, Fault::Usage)
     }
 
     /// The file of the path cannot be read.
-    pub fn of_read(error: &io::Error, path: &'p str) -> Self {
+    pub fn of_read(error: &io::Error, path: &'p str) -> Self
+        ensures memory { error_kind error.now ≡ kind.OutOfMemory → IsRefusedAs OutOfMemory result }
+        ensures other { error_kind error.now ≢ kind.OutOfMemory → result ≡ Fault.CannotRead path.entry }
+    {
         Fault::memory_or(error, Fault::CannotRead(path))
     }
 
     /// The output fails.
-    pub fn of_write(error: &io::Error) -> Self {
+    pub fn of_write(error: &io::Error) -> Self
+        ensures memory { error_kind error.now ≡ kind.OutOfMemory → IsRefusedAs OutOfMemory result }
+        ensures other { error_kind error.now ≢ kind.OutOfMemory → result ≡ Fault.CannotWrite }
+    {
         Fault::memory_or(error, Fault::CannotWrite)
     }
 
     /// The syntax or the text is refused.
     pub fn of_refusal(error: &Error<'_>) -> Self
-        ensures { status_of result ≡ 1 }
+        ensures status { status_of result ≡ 1 }
+        ensures kind { IsRefusedAs (kind_of error.now) result }
     {
         let (line, column) = match error.span() {
             Some(span) => (span.start_line, span.start_col),

@@ -9,23 +9,25 @@ mod source;
 #[cfg(test)]
 mod tests;
 mod usage;
+pub mod watched;
 
 use fault::Fault;
-use run::{refuse, run};
+use run::{refuse, run, status};
 use source::Source;
 use std::env;
 use std::io::{self, BufWriter};
 use std::process::ExitCode;
+use watched::Watched;
 
 /// Runs with the words and the streams of the process.
 fn start(rt: &HostRuntime) -> io::Result<u8> {
     let alloc = rt.alloc();
     let words: Vec<String> = env::args(rt)?.skip(1).collect(alloc)?;
     let args: Vec<&str> = words.iter().map(|word| word.as_str()).collect(alloc)?;
-    let mut file = Source::open(rt, usage::file_named(&args));
-    let mut out = BufWriter::new(alloc, rt.stdout())?;
+    let mut file = Watched::new(Source::open(rt, usage::file_named(&args)));
+    let mut out = Watched::new(BufWriter::new(alloc, rt.stdout())?);
     let mut err = rt.stderr();
-    let status = run(
+    let ending = run(
         alloc,
         &args,
         &mut file,
@@ -34,8 +36,8 @@ fn start(rt: &HostRuntime) -> io::Result<u8> {
         &mut err,
     );
     // What could not be written is not tried again.
-    let _ = out.into_parts();
-    Ok(status)
+    let _ = out.into_inner().into_parts();
+    Ok(status(&ending))
 }
 
 fn main(rt: HostRuntime) -> ExitCode {

@@ -1,7 +1,12 @@
 //! The printed forms of tokens and of instructions.
+ghost use Rattle.std.specs.Prelude.{IfOk};
+ghost use Rattle.mjc.specs.Showing.{EndsBy};
+ghost use Rattle.mjc.specs.Watched.{Notes};
+
 #[cfg(test)]
 mod tests;
 
+use crate::watched::Watched;
 use minijinja_compiler::compile::Compiled;
 use minijinja_compiler::error::Error;
 use minijinja_compiler::instructions::{Instruction, Instructions};
@@ -29,7 +34,9 @@ impl fmt::Display for PrintedToken<'_, '_> {
 }
 
 /// Writes a token on a line, after its span.
-fn print_token<W: Write>(out: &mut W, token: &Token<'_>, span: Span) -> io::Result<()> {
+fn print_token<W: Write>(out: &mut Watched<W>, token: &Token<'_>, span: Span) -> io::Result<()>
+    ensures notes { Notes out.old out.new result }
+{
     let Span {
         start_line,
         start_col,
@@ -46,9 +53,12 @@ fn print_token<W: Write>(out: &mut W, token: &Token<'_>, span: Span) -> io::Resu
 
 /// Writes each token on a line, and gives the refusal that ends them, if there is one.
 pub fn print_tokens<'s, W: Write>(
-    out: &mut W,
+    out: &mut Watched<W>,
     tokens: &mut Tokenizer<'s, '_>,
-) -> io::Result<Option<Error<'s>>> {
+) -> io::Result<Option<Error<'s>>>
+    ensures ends { IfOk result (EndsBy tokens.old.stream.ending) }
+    ensures notes { Notes out.old out.new result }
+{
     let refusal = loop {
         match tokens.next_token() {
             Ok(Some((token, span))) => print_token(out, &token, span)?,
@@ -158,9 +168,11 @@ impl fmt::Display for Printed<'_, '_> {
 
 /// Writes each instruction on a line, after its index.
 fn print_instructions<W: Write>(
-    out: &mut W,
+    out: &mut Watched<W>,
     instructions: &Instructions<'_, Value>,
-) -> io::Result<()> {
+) -> io::Result<()>
+    ensures notes { Notes out.old out.new result }
+{
     // A list has fewer than 2^32 instructions.
     for index in 0..u32::MAX {
         let Some(instruction) = instructions.get(index) else {
@@ -172,7 +184,9 @@ fn print_instructions<W: Write>(
 }
 
 /// Writes the code of a template, the code of its blocks in order of their names, and the hint.
-pub fn print_code<W: Write>(out: &mut W, code: &Compiled<'_, Value>) -> io::Result<()> {
+pub fn print_code<W: Write>(out: &mut Watched<W>, code: &Compiled<'_, Value>) -> io::Result<()>
+    ensures notes { Notes out.old out.new result }
+{
     writeln!(out, "template")?;
     print_instructions(out, &code.instructions)?;
     for (name, instructions) in &code.blocks {
@@ -184,7 +198,12 @@ pub fn print_code<W: Write>(out: &mut W, code: &Compiled<'_, Value>) -> io::Resu
 }
 
 /// Writes the code of an expression.
-pub fn print_expression<W: Write>(out: &mut W, code: &Instructions<'_, Value>) -> io::Result<()> {
+pub fn print_expression<W: Write>(
+    out: &mut Watched<W>,
+    code: &Instructions<'_, Value>,
+) -> io::Result<()>
+    ensures notes { Notes out.old out.new result }
+{
     writeln!(out, "expression")?;
     print_instructions(out, code)?;
     out.flush()

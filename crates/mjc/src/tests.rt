@@ -1,11 +1,12 @@
-//! Runs of the program in memory: what is printed and which status comes is proved by no clause.
+//! Runs of the program in memory: what is printed is proved by no clause, nor which of several faults comes first.
 //!
 //! The rows of a subject stand in one text, since a test is proved too, with each text that it names spelled out.
 mod expr;
 mod tokens;
 mod words;
 
-use crate::run::run;
+use crate::run::{run, status};
+use crate::watched::Watched;
 use std::alloc::{AllocError, Global};
 use std::io::{self, Read, Write};
 use std::process::Abort;
@@ -113,10 +114,22 @@ fn character(symbol: char) -> Option<char> {
     }
 }
 
+/// The status of a run on a reader and two writers.
+fn status_of_run<R: Read, W: Write, X: Write>(
+    alloc: Global,
+    args: &[&str],
+    file: &mut R,
+    out: &mut W,
+    err: &mut X,
+) -> u8 {
+    let (mut file, mut out) = (Watched::new(file), Watched::new(out));
+    status(&run(alloc, args, &mut file, &mut io::empty(), &mut out, err))
+}
+
 /// What a run on a reader prints, and after it, where the status is not 0 or something is said, `! STATUS ` and what is said.
 fn output<R: Read>(alloc: Global, args: &[&str], file: &mut R) -> Result<String, Fail> {
     let (mut out, mut err) = (Vec::new(alloc), Vec::new(alloc));
-    let status = run(alloc, args, file, &mut io::empty(), &mut out, &mut err);
+    let status = status_of_run(alloc, args, file, &mut out, &mut err);
     let mut text = String::from_utf8(out)?;
     if status > 0 || !err.is_empty() {
         write!(text, "! {status} {}", str::from_utf8(&err)?)?;
@@ -210,7 +223,7 @@ fn reads_to_the_end(rt: HostRuntime) -> Result<(), Fail> {
 fn succeeds(rt: &impl Abort, alloc: Global, writes: usize) -> bool {
     let (mut out, mut err) = (Short::new(alloc, writes), Vec::new(alloc));
     let file = &mut GREETING.as_bytes();
-    let status = run(alloc, &CODE, file, &mut io::empty(), &mut out, &mut err);
+    let status = status_of_run(alloc, &CODE, file, &mut out, &mut err);
     assert!(rt; GREETING_CODE.as_bytes().starts_with(&out.taken));
     if status == 0 {
         assert!(rt; out.taken.len() == GREETING_CODE.len() && err.is_empty() && writes > 0);
@@ -234,7 +247,7 @@ fn ends_at_a_failing_write(rt: HostRuntime) {
 fn status_unsaid(alloc: Global, source: &str) -> u8 {
     let (mut out, mut err) = (Vec::new(alloc), Short::new(alloc, 0));
     let file = &mut source.as_bytes();
-    run(alloc, &CODE, file, &mut io::empty(), &mut out, &mut err)
+    status_of_run(alloc, &CODE, file, &mut out, &mut err)
 }
 
 #[test]
@@ -249,14 +262,7 @@ fn says_that_memory_is_refused(rt: HostRuntime) {
     let (mut printed, mut said) = ([0u8; 128], [0u8; 64]);
     let (mut out, mut err) = (printed.as_mut_slice(), said.as_mut_slice());
     let file = &mut GREETING.as_bytes();
-    let status = run(
-        rt.alloc(),
-        &CODE,
-        file,
-        &mut io::empty(),
-        &mut out,
-        &mut err,
-    );
+    let status = status_of_run(rt.alloc(), &CODE, file, &mut out, &mut err);
     if status == 0 {
         assert!(rt; printed.starts_with(GREETING_CODE.as_bytes()));
     } else {

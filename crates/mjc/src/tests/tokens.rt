@@ -1,9 +1,7 @@
 //! The lines of `mjc tokens`.
 use super::words::Commands;
-use super::{Short, Subject, hold, output};
-use crate::run::run;
+use super::{Short, Subject, hold, output, status_of_run};
 use std::alloc::Global;
-use std::io;
 use std::process::Abort;
 use std::test::Fail;
 
@@ -95,6 +93,6 @@ fn ends_at_a_failing_write_of_tokens(rt: HostRuntime) {
     let (mut out, mut err) = (Short::new(rt.alloc(), 0), Vec::new(rt.alloc()));
     let file = &mut "{{ a ?".as_bytes();
     let args = &["tokens", "-"];
-    let status = run(rt.alloc(), args, file, &mut io::empty(), &mut out, &mut err);
+    let status = status_of_run(rt.alloc(), args, file, &mut out, &mut err);
     assert!(rt; status == 2 && err.as_slice() == b"mjc: cannot write\n".as_slice());
 }
