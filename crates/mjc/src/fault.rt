@@ -68,7 +68,8 @@ impl<'p> Fault<'p> {
     /// The file of the path cannot be read.
     pub fn of_read(error: &io::Error, path: &'p str) -> Self
         ensures memory { error_kind error.now ≡ kind.OutOfMemory → IsRefusedAs OutOfMemory result }
-        ensures other { error_kind error.now ≢ kind.OutOfMemory → result ≡ Fault.CannotRead path.entry }
+        ensures other { error_kind error.now ≢ kind.OutOfMemory →
+            result ≡ Fault.CannotRead path.entry }
     {
         Fault::memory_or(error, Fault::CannotRead(path))
     }

@@ -51,7 +51,8 @@ pub fn run<'a, R: Read, Q: Read, W: Write, X: Write>(
         IsErr result }
     ensures unprinted { IsFileUsage args.now → IsNoText (R.remaining (stream_of file.old)) →
         out.new ≡ out.old }
-    ensures whole { IsFileUsage args.now → OnOk result (IsAtEnd (R.remaining (stream_of file.new))) }
+    ensures whole { IsFileUsage args.now →
+        OnOk result (IsAtEnd (R.remaining (stream_of file.new))) }
 
     // An expression stands in the words: no file is read.
     ensures expr { IsExprUsage args.now → file.new ≡ file.old }
@@ -122,7 +123,8 @@ fn run_command<'a, R: Read, W: Write>(
         IsErr result }
     ensures unprinted { IsFileUsage args.now → IsNoText (R.remaining (stream_of file.old)) →
         out.new ≡ out.old }
-    ensures whole { IsFileUsage args.now → OnOk result (IsAtEnd (R.remaining (stream_of file.new))) }
+    ensures whole { IsFileUsage args.now →
+        OnOk result (IsAtEnd (R.remaining (stream_of file.new))) }
     ensures expr { IsExprUsage args.now → file.new ≡ file.old }
     ensures shown { OnOk result (OfFile args.now (R.remaining (stream_of file.old)) IsShowable) }
     ensures expr_shown { OnOk result ((source : Text) → AsksExpr args.now source →
