@@ -1,31 +1,31 @@
 -- How what is added to code is put together of pieces.
-use Rattle.std.proofs.Common.{◌≡◌, inl, ⊎_elim, ℕ, ◌<◌, ◌≤◌, ◌^◌, List, [], ◌∷◌, ◌++◌, length, take, refl, sym, ap, ◌∙◌, subst, arith, append_assoc, length-append}
+use Rattle.std.proofs.Common.{◌≡◌, ℕ, ◌+◌, ◌-◌, List, [], ◌∷◌, ◌++◌, length, map, take, drop, Option, Some, None, refl, sym, ap, ◌∙◌, subst, arith, append_assoc, length-append}
 use Rattle.std.specs.Prelude.{slice_set}
-use Rattle.std.proofs.lemmas.List.{length-set}
-use Rattle.std.proofs.Math.Seq.{take-append_seam}
-use Rattle.std.proofs.lemmas.Bool.{cases_lt}
-use Rattle.minijinja_syntax.specs.Errors.{IsOutOfMemory}
-use Rattle.minijinja_syntax.specs.declared.error.Error.{Error}
-use Rattle.minijinja_meaning.specs.Code.{Instr}
-use Rattle.minijinja_meaning.specs.Pieces.{Here, behind, Piece, nothing, one, ◌▸◌, skipping}
-use Rattle.minijinja_code.specs.private.Making.{Made, here_of, followed, hole, Adds, Refuses}
+use Rattle.std.proofs.lemmas.List.{length-set, length-map, map-append}
+use Rattle.std.proofs.Math.Seq.{take-append_seam, drop-append_seam, take-append-add, drop-append-add}
+use Rattle.minijinja_meaning.specs.Code.{Instr, Jump, JumpIfFalse, JumpIfFalseOrPop, JumpIfTrueOrPop, Iterate}
+use Rattle.minijinja_meaning.specs.Jumps.{target}
+use Rattle.minijinja_meaning.specs.Pieces.{Here, behind, Piece, nothing, one, ◌▸◌, skipping, branches}
+use Rattle.minijinja_code.specs.private.Making.{Made, here_of, followed, hole, capped, Adds, between}
 use Rattle.minijinja_meaning.proofs.Runs.{append_nil}
-use Rattle.minijinja_meaning.proofs.Lengths.{Exact, grows}
 
 -- an instruction takes the place of another
 pub set_between : {X : Type 0} (xs ys : List X) (x y : X) → slice_set (xs ++ x ∷ ys) (length xs) y ≡ xs ++ y ∷ ys
 set_between [] ys x y = refl
 set_between (z ∷ xs) ys x y = ap (λ l. z ∷ l) (set_between xs ys x y)
 
-pub refuses_memory : {e : Error} (h : Here) → IsOutOfMemory e → Refuses e h
-refuses_memory {e} h m = record { cause = inl m.kind; too_many = λ k. absurd (cc (m.kind, k)) }
-
-pub refuses_later : {e : Error} {h k : Here} → h.place ≤ k.place → Refuses e h → Refuses e k
-refuses_later {e} {h} {k} le r = record { cause = r.cause; too_many = λ many. let n = r.too_many many in omega arith }
-
 module _ {C : Type 0} where
+  -- what leads nowhere else is not capped
+  pub same_capped : (i : Instr C) → target i ≡ None → capped i ≡ i
+  same_capped (Jump n) e = absurd (cc)
+  same_capped (JumpIfFalse n) e = absurd (cc)
+  same_capped (JumpIfFalseOrPop n) e = absurd (cc)
+  same_capped (JumpIfTrueOrPop n) e = absurd (cc)
+  same_capped (Iterate n) e = absurd (cc)
+  same_capped i e = refl
+
   pub adds_nothing : (m : Made C) → Adds m m nothing
-  adds_nothing m = record { code = sym (append_nil m.code); past = refl; fits = λ h. absurd (omega (arith, h)) }
+  adds_nothing m = record { code = sym (append_nil m.code); past = refl }
 
   -- what a piece adds is as long as it says
   pub adds_length : {a b : Made C} {p : Piece C} → Adds a b p → length b.code ≡ (p.past (here_of a)).place
@@ -35,81 +35,52 @@ module _ {C : Type 0} where
   adds_then {a} {b} {c} {p} {q} s t =
       let h = here_of a in
       record {
-        code = t.code ∙ ap (λ k. b.code ++ q.code k) s.past ∙ ap (λ (l : List (Instr C)). l ++ q.code (p.past h)) s.code ∙ append_assoc a.code (p.code h) (q.code (p.past h));
+        code = t.code ∙ ap (λ k. b.code ++ map capped (q.code k)) s.past ∙ ap (λ (l : List (Instr C)). l ++ map capped (q.code (p.past h))) s.code
+            ∙ append_assoc a.code (map capped (p.code h)) (map capped (q.code (p.past h)))
+            ∙ ap (λ l. a.code ++ l) (sym (map-append capped (p.code h) (q.code (p.past h))));
         past = t.past ∙ ap q.past s.past;
-        fits = λ longer. ⊎_elim
-            (λ (more : length b.code < length c.code). t.fits more)
-            (λ (no_more : length c.code ≤ length b.code).
-            let first : length b.code < 2 ^ 32 = s.fits (omega (arith, longer, no_more)) in
-            omega (arith, first, no_more))
-            (cases_lt (length b.code) (length c.code));
       }
 
   pub adds_as : {a b : Made C} {p q : Piece C} → p ≡ q → Adds a b p → Adds a b q
   adds_as {a} {b} e s = subst (λ r. Adds a b r) e s
 
-  -- after a hole
-  pub here_behind : (a : Made C) {b : Made C} (i : Instr C) → b ≡ followed a (i ∷ []) → here_of b ≡ behind 1 (here_of a)
-  here_behind a i e = ap here_of e ∙ ap (λ n. record { place = n; filters = a.filters; tests = a.tests }) (length-append a.code (i ∷ []))
+  -- an instruction, as it stands there
+  pub adds_followed : {a b : Made C} (i j : Instr C) → capped i ≡ j → b ≡ followed a (j ∷ []) → Adds a b (one i)
+  adds_followed {a} {b} i j e eb = record {
+    code = ap (λ (m : Made C). m.code) eb ∙ ap (λ k. a.code ++ k ∷ []) (sym e);
+    past = ap here_of eb ∙ ap (λ n. record { place = n; filters = a.filters; tests = a.tests }) (length-append a.code (j ∷ []));
+  }
 
   -- an instruction in the place of a hole, and what was added after it
-  pub adds_filled : {a b c d : Made C} {q : Piece C} (i : Instr C) (place : ℕ) → b ≡ followed a (hole ∷ []) → Adds b c q → place ≡ length a.code → length c.code < 2 ^ 32 → d ≡ record c { code = slice_set c.code place i } → Adds a d (one i ▸ q)
-  adds_filled {a} {b} {c} {d} {q} i place eb s ep small ed =
+  pub adds_filled : {a b c d : Made C} {q : Piece C} (i j : Instr C) (place : ℕ) → Adds a b (one hole) → Adds b c q → place ≡ length a.code → capped i ≡ j → d ≡ record c { code = slice_set c.code place j } → Adds a d (one i ▸ q)
+  adds_filled {a} {b} {c} {d} {q} i j place eb s ep ei ed =
       let h : Here = here_of a in
-      let hb : here_of b ≡ behind 1 h = here_behind a hole eb in
-      let is : List (Instr C) = q.code (behind 1 h) in
+      let is : List (Instr C) = map capped (q.code (behind 1 h)) in
       let made : c.code ≡ a.code ++ hole ∷ is =
-      s.code ∙ ap (λ k. b.code ++ q.code k) hb ∙ ap (λ (m : Made C). m.code ++ is) eb ∙ append_assoc a.code (hole ∷ []) is in
-      let code : d.code ≡ a.code ++ i ∷ is =
-      ap (λ (m : Made C). m.code) ed ∙ ap (λ (l : List (Instr C)). slice_set l place i) made ∙ ap (λ n. slice_set (a.code ++ hole ∷ is) n i) ep ∙ set_between a.code is hole i in
-      let same : length d.code ≡ length c.code = ap (λ (m : Made C). length m.code) ed ∙ length-set c.code place i in
+      s.code ∙ ap (λ k. b.code ++ map capped (q.code k)) eb.past ∙ ap (λ (l : List (Instr C)). l ++ is) eb.code ∙ append_assoc a.code (hole ∷ []) is in
+      let code : d.code ≡ a.code ++ capped i ∷ is =
+      ap (λ (m : Made C). m.code) ed ∙ ap (λ (l : List (Instr C)). slice_set l place j) made ∙ ap (λ n. slice_set (a.code ++ hole ∷ is) n j) ep ∙ set_between a.code is hole j ∙ ap (λ k. a.code ++ k ∷ is) (sym ei) in
       record {
         code = code;
-        past = ap here_of ed ∙ ap (λ n. record { place = n; filters = c.filters; tests = c.tests }) (length-set c.code place i) ∙ s.past ∙ ap q.past hb;
-        fits = λ longer. omega arith;
+        past = ap here_of ed ∙ ap (λ n. record { place = n; filters = c.filters; tests = c.tests }) (length-set c.code place j) ∙ s.past ∙ ap q.past eb.past;
       }
 
   -- a jump past what was added after it
-  pub adds_skipping : {a b c d : Made C} {q : Piece C} (jump : ℕ → Instr C) (place : ℕ) → b ≡ followed a (hole ∷ []) → Adds b c q → place ≡ length a.code → length c.code < 2 ^ 32 → d ≡ record c { code = slice_set c.code place (jump (length c.code)) } → Adds a d (skipping jump q)
-  adds_skipping {a} {b} {c} {d} {q} jump place eb s ep small ed =
+  pub adds_skipping : {a b c d : Made C} {q : Piece C} (jump : ℕ → Instr C) (j : Instr C) (place : ℕ) → Adds a b (one hole) → Adds b c q → place ≡ length a.code → capped (jump (length c.code)) ≡ j → d ≡ record c { code = slice_set c.code place j } → Adds a d (skipping jump q)
+  adds_skipping {a} {b} {c} {d} {q} jump j place eb s ep ej ed =
       let h : Here = here_of a in
-      let hb : here_of b ≡ behind 1 h = here_behind a hole eb in
-      let target : length c.code ≡ (q.past (behind 1 h)).place = ap (λ k. k.place) (s.past ∙ ap q.past hb) in
-      let filled = adds_filled (jump (length c.code)) place eb s ep small ed in
+      let target : length c.code ≡ (q.past (behind 1 h)).place = ap (λ k. k.place) (s.past ∙ ap q.past eb.past) in
+      let filled = adds_filled (jump (length c.code)) j place eb s ep ej ed in
       record {
-        code = filled.code ∙ ap (λ n. a.code ++ jump n ∷ q.code (behind 1 h)) target;
+        code = filled.code ∙ ap (λ n. a.code ++ capped (jump n) ∷ map capped (q.code (behind 1 h))) target;
         past = filled.past;
-        fits = filled.fits;
       }
 
-  -- what is refused in the first of two pieces, and in the second
-  pub refuses_first : {e : Error} (h : Here) (p q : Piece C) → Exact q → Refuses e (p.past h) → Refuses e (q.past (p.past h))
-  refuses_first h p q x r = refuses_later (grows x (p.past h)) r
-
-  pub refuses_then : {e : Error} {a b : Made C} {p : Piece C} (q : Piece C) → Adds a b p → Refuses e (q.past (here_of b)) → Refuses e (q.past (p.past (here_of a)))
-  refuses_then {e} {a} {b} {p} q s r = subst (λ k. Refuses e (q.past k)) s.past r
-
-  pub refuses_behind : {e : Error} (a : Made C) {b : Made C} (i : Instr C) (q : Piece C) → b ≡ followed a (i ∷ []) → Refuses e (q.past (here_of b)) → Refuses e (q.past (behind 1 (here_of a)))
-  refuses_behind {e} a {b} i q s r = subst (λ k. Refuses e (q.past k)) (here_behind a i s) r
-
-  -- one instruction makes the list longer
-  pub one_small : {a b : Made C} {i : Instr C} → Adds a b (one i) → length b.code < 2 ^ 32
-  one_small {a} {b} {i} s = s.fits (omega (arith, adds_length s))
-
-  -- an instruction that was kept, and what was added after it
-  pub adds_kept : {a b c : Made C} {q : Piece C} (i : Instr C) → b ≡ followed a (i ∷ []) → Adds b c q → length c.code < 2 ^ 32 → Adds a c (one i ▸ q)
-  adds_kept {a} {b} {c} {q} i eb s small =
-      let h : Here = here_of a in
-      let hb : here_of b ≡ behind 1 h = here_behind a i eb in
-      let is : List (Instr C) = q.code (behind 1 h) in
-      record {
-        code = s.code ∙ ap (λ k. b.code ++ q.code k) hb ∙ ap (λ (m : Made C). m.code ++ is) eb ∙ append_assoc a.code (i ∷ []) is;
-        past = s.past ∙ ap q.past hb;
-        fits = λ longer. small;
-      }
-
-  -- what was taken back
-  pub cut_back : {a b c d : Made C} {place : ℕ} (is : List (Instr C)) → b ≡ followed a is → c ≡ b → place ≡ length a.code → d ≡ record c { code = take place c.code } → d ≡ a
-  cut_back {a} {b} {c} {d} {place} is eb ec ep ed =
-      let e : take place c.code ≡ a.code = ap (λ n. take n c.code) ep ∙ ap (λ (m : Made C). take (length a.code) m.code) (ec ∙ eb) ∙ take-append_seam a.code is in
-      ed ∙ ap (λ l. record { code = l; filters = c.filters; tests = c.tests }) e ∙ ap (λ (m : Made C). record { code = a.code; filters = m.filters; tests = m.tests }) (ec ∙ eb)
+  -- what stands between two places is what was added there
+  pub between_added : (xs ys zs : List (Instr C)) (from to : ℕ) → from ≡ length xs → to ≡ length xs + length ys → between from to (xs ++ (ys ++ zs)) ≡ ys
+  between_added xs ys zs from to ef et =
+      let n : to - from ≡ length ys = omega arith in
+      ap (λ k. take k (drop from (xs ++ (ys ++ zs)))) n
+      ∙ ap (λ k. take (length ys) (drop k (xs ++ (ys ++ zs)))) ef
+      ∙ ap (take (length ys)) (drop-append_seam xs (ys ++ zs))
+      ∙ take-append_seam ys zs

@@ -1,79 +1,161 @@
--- What holds while the code of a chain of comparisons is made, as far as its constants are known.
-use Rattle.std.proofs.Common.{◌≡◌, ℕ, zero, suc, ◌+◌, ◌<◌, ◌≤◌, List, [], ◌∷◌, ◌++◌, length, drop, get_or, Option, Some, None, Result, Ok, Err, ⊎_elim, true, false, refl, sym, ap, ◌∙◌, subst, arith, append_assoc, add-one}
-use Rattle.std.specs.Prelude.{Bool, slice_get, IfOk}
-use Rattle.std.proofs.lemmas.Bool.{cases_lt}
-use Rattle.std.specs.Option.{option_map}
-use Rattle.std.proofs.lemmas.List.{at_drop_more, get_or_append_left, get_or_push, length_push}
+-- What the constants in a chain of comparisons tell of it.
+use Rattle.std.proofs.Common.{◌≡◌, ℕ, zero, suc, ◌+◌, ◌-◌, ◌<◌, ◌≤◌, List, [], ◌∷◌, ◌++◌, length, map, take, drop, Option, Some, None, true, false, refl, sym, ap, ◌∙◌, subst, arith, length-append}
+use Rattle.std.specs.Prelude.{Bool, slice_get}
 use Rattle.minijinja_value.specs.Values.{Functions}
 use Rattle.minijinja_tree.specs.CompareOps.{CompareOp}
 use Rattle.minijinja_tree.specs.Comparisons.{compares}
 use Rattle.minijinja_tree.specs.Folding.{if_some, unless_fault, fold, fold_chain}
-use Rattle.minijinja_tree.specs.Tree.{Expr, Comparisons, against, compare}
-use Rattle.minijinja_tree.specs.Erasure.{expr_tree, compare_op, comparisons_of}
-use Rattle.minijinja_tree.specs.declared.ast.CompareOp.{CompareOp as Comparison}
+use Rattle.minijinja_tree.specs.Tree.{Expr, Comparisons, against}
+use Rattle.minijinja_tree.specs.WellFormed.{IsWhole}
 use Rattle.minijinja_tree.proofs.Chains.{chain-holds, chain-fails, chain-faults, chain-unknown}
-use Rattle.minijinja_meaning.specs.Code.{Instr, Load, CompareAndPreserve, JumpIfFalseOrPop}
-use Rattle.minijinja_meaning.specs.Layout.{Failing, and_then, expr, comparisons}
-use Rattle.minijinja_code.specs.private.Making.{Made, followed, AddsUnless}
-use Rattle.minijinja_code.specs.private.Comparing.{AreBelow, operand_then, behind_one, behind_two, ahead, Leads, Holds, loaded, known}
+use Rattle.minijinja_meaning.specs.Code.{Instr, Load}
+use Rattle.minijinja_meaning.specs.Layout.{expr}
+use Rattle.minijinja_meaning.specs.Pieces.{one}
+use Rattle.minijinja_code.specs.private.Making.{Made, here_of, followed, capped, loaded_by, alone, between, Adds}
+use Rattle.minijinja_code.specs.private.Comparing.{Holds, known}
 use Rattle.minijinja_meaning.proofs.FoldedCode.{folded_code}
-use Rattle.minijinja_code.proofs.ChainCode.{Puts, puts_added, puts_kept, leads_comparison}
+use Rattle.minijinja_meaning.proofs.Runs.{append_nil}
+use Rattle.minijinja_code.proofs.Adding.{adds_as, between_added}
+use Rattle.minijinja_code.proofs.Alone.{fold_alone}
 
-module _ {X : Type 0} where
-  pub get_behind : (xs : List X) (y : X) → slice_get (xs ++ y ∷ []) (length xs) ≡ Some y
-  get_behind [] y = refl
-  get_behind (x ∷ xs) y = get_behind xs y
+get_before : {X : Type 0} (xs ys : List X) (p : ℕ) (x : X) → slice_get xs p ≡ Some x → slice_get (xs ++ ys) p ≡ Some x
+get_before [] ys p x h = absurd (cc)
+get_before (z ∷ xs) ys zero x h = h
+get_before (z ∷ xs) ys (suc p) x h = get_before xs ys p x h
 
-  get_before : (xs ys : List X) (p : ℕ) (x : X) → slice_get xs p ≡ Some x → slice_get (xs ++ ys) p ≡ Some x
-  get_before [] ys p x h = absurd (cc)
-  get_before (z ∷ xs) ys zero x h = h
-  get_before (z ∷ xs) ys (suc p) x h = get_before xs ys p x h
+get_dropped : {X : Type 0} (xs : List X) (p : ℕ) (x : X) (more : List X) → drop p xs ≡ x ∷ more → slice_get xs p ≡ Some x
+get_dropped [] zero x more e = absurd (cc)
+get_dropped [] (suc p) x more e = absurd (cc)
+get_dropped (y ∷ xs) zero x more e = let same : y ≡ x = cc in ap Some same
+get_dropped (y ∷ xs) (suc p) x more e = get_dropped xs p x more e
 
-pub below_more : (ps : List ℕ) (n m p : ℕ) → AreBelow ps n → n ≤ m → p < m → AreBelow (ps ++ p ∷ []) m
-below_more ps n m p below le lt i within = ⊎_elim
-    (λ (front : i < length ps). let same = get_or_append_left ps (p ∷ []) 0 i front in let h = below i front in omega (arith, same, h))
-    (λ (past : length ps ≤ i). let same = get_or_push ps p 0 i (omega (arith, length_push ps p)) in omega (arith, same))
-    (cases_lt i (length ps))
-
-pub below_later : (ps : List ℕ) (n m : ℕ) → AreBelow ps n → n ≤ m → AreBelow ps m
-below_later ps n m below le i within = let h = below i within in omega (arith, h)
+dropped_at : {X : Type 0} (xs : List X) (p : ℕ) (x : X) → slice_get xs p ≡ Some x → (more : List X) × (drop p xs ≡ x ∷ more)
+dropped_at [] p x e = absurd (cc)
+dropped_at (y ∷ xs) zero x e = let same : y ≡ x = cc in (xs, ap (λ z. z ∷ xs) same)
+dropped_at (y ∷ xs) (suc p) x e = dropped_at xs p x e
 
 module _ {C : Type 0} where
-  pub followed_twice : (m : Made C) (i j : Instr C) → followed (followed m (i ∷ [])) (j ∷ []) ≡ followed m (i ∷ j ∷ [])
-  followed_twice m i j = ap (λ l. record { code = l; filters = m.filters; tests = m.tests }) (append_assoc m.code (i ∷ []) (j ∷ []))
+  loads : (i : Instr C) (c : C) → loaded_by i ≡ Some c → i ≡ Load c
+  loads (Load d) c e = let same : d ≡ c = cc in ap Load same
+  loads i c e = absurd (cc)
 
-  -- the constant at a place is the one that is known
-  pub known_at : (code : List (Instr C)) (p : ℕ) (value : Option C) (x : C) → Holds code (Some p) value → slice_get code p ≡ Some (Load x) → value ≡ Some x
-  known_at code p None x h e = absurd h
-  known_at code p (Some c) x h e = let same : Some (Load c) ≡ Some (Load x) = sym h ∙ e in cc
+  first_loads : (i : Instr C) (is : List (Instr C)) (c : C) → alone (i ∷ is) ≡ Some c → i ≡ Load c
+  first_loads i [] c e = loads i c e
+  first_loads i (j ∷ is) c e = absurd (cc)
 
-  pub has_constant : (code : List (Instr C)) (p : ℕ) (value : Option C) → Holds code (Some p) value → (c : C) × (slice_get code p ≡ Some (Load c))
-  has_constant code p None h = absurd h
-  has_constant code p (Some c) h = (c, h)
+  taken_loads : (n : ℕ) (is : List (Instr C)) (c : C) → alone (take n is) ≡ Some c → (more : List (Instr C)) × (is ≡ Load c ∷ more)
+  taken_loads zero [] c e = absurd (cc)
+  taken_loads zero (i ∷ is) c e = absurd (cc)
+  taken_loads (suc n) [] c e = absurd (cc)
+  taken_loads (suc n) (i ∷ is) c e = (is, ap (λ j. j ∷ is) (first_loads i (take n is) c e))
+
+  -- where all from a place on is the load of a constant, that stands at the place
+  alone_from : (code : List (Instr C)) (p : ℕ) (c : C) → alone (between p (length code) code) ≡ Some c → slice_get code p ≡ Some (Load c)
+  alone_from code p c e = let d = taken_loads (length code - p) (drop p code) c e in get_dropped code p (Load c) d.0 d.1
+
+  -- a constant at a place is all from there to the next
+  alone_at : (code : List (Instr C)) (p : ℕ) (c : C) → slice_get code p ≡ Some (Load c) → alone (between p (p + 1) code) ≡ Some c
+  alone_at code p c e =
+      let n : p + 1 - p ≡ 1 = omega arith in
+      let d = dropped_at code p (Load c) e in
+      ap (λ k. alone (take k (drop p code))) n ∙ ap (λ (l : List (Instr C)). alone (take 1 l)) d.1
+
+  within : (code : List (Instr C)) (p : ℕ) (c : C) → slice_get code p ≡ Some (Load c) → p < length code
+  within [] p c e = absurd (cc)
+  within (i ∷ is) zero c e = omega arith
+  within (i ∷ is) (suc p) c e = let h = within is p c e in omega (arith, h)
+
+  pub held_from : (code : List (Instr C)) (p : ℕ) (c : C) → alone (between p (length code) code) ≡ Some c → Holds code (Some p) (alone (between p (length code) code))
+  held_from code p c e = subst (λ k. Holds code (Some p) k) (sym e) (alone_from code p c e)
 
   pub no_constant : (code : List (Instr C)) (value : Option C) → Holds code None value → value ≡ None
   no_constant code None h = refl
   no_constant code (Some c) h = absurd h
 
-  pub holds_before : (xs ys : List (Instr C)) (held : Option ℕ) (value : Option C) → Holds xs held value → Holds (xs ++ ys) held value
-  holds_before xs ys None None h = h
-  holds_before xs ys None (Some c) h = h
-  holds_before xs ys (Some p) None h = h
-  holds_before xs ys (Some p) (Some c) h = get_before xs ys p (Load c) h
+  pub held_before : (xs ys : List (Instr C)) (held : Option ℕ) (value : Option C) → Holds xs held value → Holds (xs ++ ys) held value
+  held_before xs ys None None h = h
+  held_before xs ys None (Some c) h = h
+  held_before xs ys (Some p) None h = h
+  held_before xs ys (Some p) (Some c) h = get_before xs ys p (Load c) h
+
+  -- the constant that is held is the one that stands there
+  held_is : (code : List (Instr C)) (p : ℕ) (value : Option C) → Holds code (Some p) value → value ≡ alone (between p (p + 1) code)
+  held_is code p None h = absurd h
+  held_is code p (Some c) h = sym (alone_at code p c h)
+
+  held_within : (code : List (Instr C)) (p : ℕ) (value : Option C) → Holds code (Some p) value → p < length code
+  held_within code p None h = absurd h
+  held_within code p (Some c) h = within code p c h
+
+  -- what stands up to the end
+  pub up_to_end : (code : List (Instr C)) (k : Option C) (from to : ℕ) → to ≡ length code → (to ≤ length code → k ≡ alone (between from to code)) → k ≡ alone (between from (length code) code)
+  up_to_end code k from to e h = h (omega (arith, e)) ∙ ap (λ n. alone (between from n code)) e
+
+module _ {C F : Type 0} (f : Functions C F) where
+  -- an operand that was added folds to the constant that it is
+  pub added_alone : {a b : Made C} {place : ℕ} (e : Expr C) → IsWhole e → place ≡ length a.code → Adds a b (expr f e) → alone (between place (length b.code) b.code) ≡ fold f e
+  added_alone {a} {b} {place} e w ep s =
+      let more : List (Instr C) = map capped ((expr f e).code (here_of a)) in
+      let code : b.code ≡ a.code ++ (more ++ []) = s.code ∙ ap (λ l. a.code ++ l) (sym (append_nil more)) in
+      let end : length b.code ≡ length a.code + length more = ap length s.code ∙ length-append a.code more in
+      ap (λ (l : List (Instr C)). alone (between place (length b.code) l)) code
+      ∙ ap alone (between_added a.code more [] place (length b.code) ep end)
+      ∙ fold_alone f e w (here_of a)
+
+  -- then that is all that was added
+  pub added_load : {a b : Made C} (e : Expr C) (c : C) → fold f e ≡ Some c → Adds a b (expr f e) → b ≡ followed a (Load c ∷ [])
+  added_load {a} {b} e c k s =
+      let t : Adds a b (one (Load c)) = adds_as (folded_code f e c k) s in
+      ap (λ l. record { code = l; filters = b.filters; tests = b.tests }) t.code
+      ∙ ap (λ h. record { code = a.code ++ Load c ∷ []; filters = h.filters; tests = h.tests }) t.past
 
 module _ {C F : Type 0} (f : Functions C F) (o : CompareOp) where
-  pub known_none : (k : Option C) → known f o k None ≡ None
+  known_none : (k : Option C) → known f o k None ≡ None
   unfolding if_some
   known_none None = refl
   known_none (Some a) = refl
 
-  pub known_without : (u : Option C) → known f o None u ≡ None
+  known_without : (u : Option C) → known f o None u ≡ None
   unfolding if_some
   known_without u = refl
 
-  pub known_some : (a b : C) → known f o (Some a) (Some b) ≡ unless_fault (compares f o a b)
+  known_some : (a b : C) → known f o (Some a) (Some b) ≡ unless_fault (compares f o a b)
   unfolding if_some
   known_some a b = refl
+
+  -- where a comparison has an answer both constants are known
+  pub known_first : (k u : Option C) (b : Bool) → Some b ≡ known f o k u → (x : C) × (k ≡ Some x)
+  unfolding if_some
+  known_first None u b h = absurd (cc)
+  known_first (Some x) u b h = (x, refl)
+
+  pub known_second : (k u : Option C) (b : Bool) → Some b ≡ known f o k u → (x : C) × (u ≡ Some x)
+  unfolding if_some
+  known_second k (Some x) b h = (x, refl)
+  known_second k None b h = absurd (cc (h, known_none k))
+
+  pub known_right : (value right : Option C) → None ≡ right → None ≡ known f o value right
+  known_right value right is = sym (ap (λ u. known f o value u) (sym is) ∙ known_none value)
+
+  module _ (code : List (Instr C)) (value right : Option C) {held : Option ℕ} where
+    -- both constants are known
+    pub known_both : {p : ℕ} {holds : Option Bool} (a b : C) → held ≡ Some p → (p + 1 ≤ length code → Some a ≡ alone (between p (p + 1) code)) → Some b ≡ right → holds ≡ unless_fault (compares f o a b) → Holds code held value → holds ≡ known f o value right
+    known_both {p} {holds} a b at left is h k =
+        let there : Holds code (Some p) value = subst (λ q. Holds code q value) at k in
+        let first : p < length code = held_within code p value there in
+        let same : value ≡ Some a = held_is code p value there ∙ sym (left (omega (arith, first))) in
+        h ∙ sym (ap (λ u. known f o u right) same ∙ ap (λ u. known f o (Some a) u) (sym is) ∙ known_some a b)
+
+    -- the constant that is held would be there
+    pub known_left : {p : ℕ} → held ≡ Some p → (p + 1 ≤ length code → None ≡ alone (between p (p + 1) code)) → Holds code held value → None ≡ known f o value right
+    known_left {p} at left k =
+        let there : Holds code (Some p) value = subst (λ q. Holds code q value) at k in
+        let first : p < length code = held_within code p value there in
+        let same : value ≡ None = held_is code p value there ∙ sym (left (omega (arith, first))) in
+        sym (ap (λ u. known f o u right) same ∙ known_without right)
+
+    pub known_nothing : held ≡ None → Holds code held value → None ≡ known f o value right
+    known_nothing at k = sym (ap (λ u. known f o u right) (no_constant code value (subst (λ q. Holds code q value) at k)) ∙ known_without right)
 
   module _ (e : Expr C) (cs : Comparisons C) where
     -- what a chain folds to from a constant on, if there is one
@@ -97,51 +179,3 @@ module _ {C F : Type 0} (f : Functions C F) (o : CompareOp) where
     chain_none None u h t = refl
     chain_none (Some a) None h t = chain-unknown f a o e cs h
     chain_none (Some a) (Some b) h t = chain-faults f a o e cs b h t
-
-  -- what a comparison with a constant at a place answered
-  pub known_held : {E : Type 0} (r : Result (Option Bool) E) (code : List (Instr C)) (p : ℕ) (held : Option ℕ) (x b : C) → held ≡ Some p → slice_get code p ≡ Some (Load x) → IfOk r (λ h. h ≡ unless_fault (compares f o x b)) → IfOk r (λ h. (value : Option C) → Holds code held value → h ≡ known f o value (Some b))
-  known_held (Ok h) code p held x b e at is = λ value holds.
-      let same : value ≡ Some x = known_at code p value x (subst (λ q. Holds code q value) e holds) at in
-      is ∙ sym (ap (λ k. known f o k (Some b)) same ∙ known_some x b)
-  known_held (Err d) code p held x b e at is = tt
-
-  pub unknown_held : (code : List (Instr C)) (held : Option ℕ) (value u : Option C) → held ≡ None → Holds code held value → None ≡ known f o value u
-  unknown_held code held value u e h = sym (ap (λ k. known f o k u) (no_constant code value (subst (λ q. Holds code q value) e h)) ∙ known_without u)
-
-pub leads_as : {C : Type 0} {a b : Made C} {ps qs : List ℕ} {r r' s s' : Failing C} → r ≡ r' → s ≡ s' → Leads a ps r b qs s → Leads a ps r' b qs s'
-leads_as {C} {a} {b} {ps} {qs} {r} {r'} {s} {s'} er es l = subst (λ t. Leads a ps r' b qs t) es (subst (λ t. Leads a ps t b qs s) er l)
-
-module _ {V C F : Type 0} (f : Functions C F) (c : V → C) where
-  -- an operand was added, or is kept as a constant
-  pub puts_part : {a n : Made C} (b : Made C) (e : Expr C) (r : Option V) → option_map c r ≡ fold f e → AddsUnless r a b (expr f e) → n ≡ loaded b (option_map c r) → Puts a n (expr f e)
-  puts_part {a} {n} b e None h s k = subst (λ m. Puts a m (expr f e)) (sym k) (puts_added s)
-  puts_part {a} {n} b e (Some v) h s k =
-      subst (λ p. Puts a n p) (sym (folded_code f e (c v) (sym h)))
-      (puts_kept (Load (c v)) (k ∙ ap (λ m. followed m (Load (c v) ∷ [])) s))
-
-module _ {V K C F : Type 0} (f : Functions C F) (c : V → C) where
-  -- the comparison at a place, where another follows
-  pub leads_before : {a b d : Made C} (xs : List (Comparison V K)) (j : ℕ) (x : Comparison V K) (ps qs : List ℕ) → j + 1 < length xs → b ≡ followed a (CompareAndPreserve (compare_op (get_or xs j x).op) ∷ []) → d ≡ followed b (JumpIfFalseOrPop 0 ∷ []) → qs ≡ ps ++ (length a.code + 1) ∷ [] → Leads a ps (ahead f c xs (j + 1)) d qs (behind_one f (comparisons_of c (drop (j + 1) xs)))
-  leads_before {a} {b} {d} xs j x ps qs within eb ed eq =
-      let o : CompareOp = compare_op (get_or xs j x).op in
-      let y : Comparison V K = get_or xs (j + 1) x in
-      let others : Failing C = comparisons f (compare_op y.op) (comparisons_of c (drop (j + 1 + 1) xs)) in
-      let was : ahead f c xs (j + 1) ≡ and_then o (expr f (expr_tree c y.expr)) others =
-      ap (ahead f c xs) (add-one j)
-      ∙ at_drop_more (λ ys. behind_two f (comparisons_of c ys)) xs j x (omega (arith, within))
-      ∙ at_drop_more (λ ys. comparisons f o (comparisons_of c ys)) xs (j + 1) x within in
-      let is : behind_one f (comparisons_of c (drop (j + 1) xs)) ≡ operand_then (expr f (expr_tree c y.expr)) others =
-      at_drop_more (λ ys. behind_one f (comparisons_of c ys)) xs (j + 1) x within in
-      leads_as (sym was) (sym is) (leads_comparison o ps qs (expr f (expr_tree c y.expr)) others eb ed eq)
-
-  -- what holds before each comparison
-  pub record Underway (a : Made C) (e : Expr C) (xs : List (Comparison V K)) (i : ℕ) (now : Made C) (ps : List ℕ) (held : Option ℕ) : Type 0 where
-    -- the code so far, and what is left
-    pub leads : Leads a [] (operand_then (expr f e) (behind_one f (comparisons_of c xs))) now ps (ahead f c xs i)
-    pub below : AreBelow ps (length now.code)
-    -- the constant before, where all holds so far
-    pub value : Option C
-    pub holds : Holds now.code held value
-    pub folds : fold f (compare e (comparisons_of c xs)) ≡ if_some value (λ v. fold_chain f v (comparisons_of c (drop i xs)))
-    -- then all the code so far can be taken back
-    pub back : (v : C) → value ≡ Some v → (more : List (Instr C)) × (now ≡ followed a more)

@@ -1,12 +1,14 @@
 //! The generator: it makes instructions of trees.
-ghost use Rattle.std.specs.Prelude.{◌≡◌, ◌+◌, ◌≤◌, ◌^◌, ◌++◌, [], length, map, min, IfOk, IfErr, OnOk, OnErr, IfNone, IfSome, Err, Some, None};
+ghost use Rattle.std.specs.Prelude.{◌≡◌, ◌+◌, ◌<◌, ◌≤◌, ◌^◌, ◌++◌, [], length, map, min, is_none, vec_len, IfOk, IfErr, OnOk, OnErr, IfNone, IfSome, Ok, Err, Some, None};
 ghost use Rattle.std.specs.BTreeMap.{IsEmpty};
 ghost use Rattle.minijinja_tree.specs.Erasure.{expr_tree, stmt_tree};
 ghost use Rattle.minijinja_tree.specs.Tree.{stmts_of};
 ghost use Rattle.minijinja_tree.specs.WellFormed.{IsTarget, IsWhole, IsInner, AreInner, IsWellFormed};
 ghost use Rattle.minijinja_code.specs.Instructions.{code_of};
 ghost use Rattle.minijinja_meaning.specs.Correct.{DoesExpr, DoesStmt};
-ghost use Rattle.minijinja_code.specs.Generator.{OnlyWhereTooLong};
+ghost use Rattle.minijinja_syntax.specs.Errors.{kind_of};
+ghost use Rattle.minijinja_syntax.specs.declared.error.ErrorKind.TheVariants.{TooManyInstructions};
+ghost use Rattle.minijinja_code.specs.Generator.{IsUnplaced, OnlyWhereTooLong};
 ghost use Rattle.minijinja_meaning.specs.Calls.{written};
 ghost use Rattle.minijinja_code.specs.Hint.{IsHint, data_bytes, all_data_bytes};
 ghost use Rattle.minijinja_code.specs.InstructionLists.{IsAddError, name_of, source_of};
@@ -14,25 +16,30 @@ ghost use Rattle.minijinja_meaning.specs.Layout.{expr_code, past_expr, target_co
 ghost use Rattle.minijinja_meaning.specs.Layout as layout;
 ghost use Rattle.minijinja_code.specs.private.Statements.{stmt_piece, stmts_piece};
 ghost use Rattle.minijinja_code.specs.private.AtGenerator.{generated, here_so_far, counted_bytes, blocks_of, file_of, text_of, refusal_of};
-ghost use Rattle.minijinja_code.specs.private.Making.{made_of, IsAdded};
+ghost use Rattle.minijinja_code.specs.private.Making.{made_of, Adds};
 ghost use Rattle.minijinja_meaning.specs.Pieces.{start};
 
 mod arguments;
+mod branches;
 mod chain;
-mod constants;
 mod emit;
 mod expr;
+mod leading;
+mod literals;
+mod memory;
 mod names;
+mod operators;
 mod output;
 
 use crate::codegen::emit::Emitter;
 use crate::codegen::expr::expression;
+use crate::codegen::memory::OutOfMemory;
 use crate::codegen::output::{Output, output_of};
-use crate::instructions::{Instruction, Instructions, listed};
+use crate::instructions::{Instruction, Instructions, LIMIT, listed, too_many};
 use minijinja_base::error::Error;
 use minijinja_base::value::{TemplateValue, Value};
 use minijinja_tree::ast::{Expr, Stmt};
-use std::alloc::Global;
+use std::alloc::{AllocError, Global};
 use std::collections::BTreeMap;
 
 /// Makes the instructions of trees. After a refusal it answers that refusal from then on.
@@ -83,8 +90,11 @@ impl<'s, V: TemplateValue> CodeGenerator<'s, V> {
         ensures counted { OnOk result (counted_bytes self.new
             ≡ min usize.MAX (counted_bytes self.old + data_bytes (stmt_tree V.contents stmt.now))) }
 
+        ensures few { OnOk result (length (generated V.contents self.new) < 2 ^ 32) }
+
         // Refused are memory, and a list that would have 2 ^ 32 instructions; a refusal comes again from then on.
         ensures causes { IfNone (refusal_of self.old) (IfErr result IsAddError) }
+        ensures unplaced { IfNone (refusal_of self.old) (IfErr result IsUnplaced) }
         ensures too_many { IfNone (refusal_of self.old) (IfErr result
             (λ e. OnlyWhereTooLong e (generated V.contents self.old ++ stmt_code V.functions
             (stmt_tree V.contents stmt.now) (here_so_far V.contents self.old)))) }
@@ -102,12 +112,9 @@ impl<'s, V: TemplateValue> CodeGenerator<'s, V> {
         match compile_stmt(&mut self.code, stmt) {
             Ok(data_bytes) => {
                 self.raw_template_bytes = self.raw_template_bytes.saturating_add(data_bytes);
-                Ok(())
+                self.ended(Ok(()))
             }
-            Err(error) => {
-                self.refusal = Some(error);
-                Err(error)
-            }
+            Err(refused) => self.ended(Err(refused)),
         }
     }
 
@@ -117,6 +124,7 @@ impl<'s, V: TemplateValue> CodeGenerator<'s, V> {
         ensures added { OnOk result (generated V.contents self.new ≡ generated V.contents self.old
             ++ expr_code V.functions (expr_tree V.contents expr.now)
             (here_so_far V.contents self.old)) }
+        ensures few { OnOk result (length (generated V.contents self.new) < 2 ^ 32) }
         ensures past { OnOk result (here_so_far V.contents self.new ≡ past_expr V.functions
             (expr_tree V.contents expr.now) (here_so_far V.contents self.old)) }
         // Entered where they begin, they leave the value that the expression means.
@@ -124,6 +132,7 @@ impl<'s, V: TemplateValue> CodeGenerator<'s, V> {
             (length (generated V.contents self.old)) (length (generated V.contents self.new))
             (expr_tree V.contents expr.now)) }
         ensures causes { IfNone (refusal_of self.old) (IfErr result IsAddError) }
+        ensures unplaced { IfNone (refusal_of self.old) (IfErr result IsUnplaced) }
         ensures too_many { IfNone (refusal_of self.old) (IfErr result
             (λ e. OnlyWhereTooLong e (generated V.contents self.old ++ expr_code V.functions
             (expr_tree V.contents expr.now) (here_so_far V.contents self.old)))) }
@@ -138,13 +147,8 @@ impl<'s, V: TemplateValue> CodeGenerator<'s, V> {
         if let Some(error) = self.refusal {
             return Err(error);
         }
-        match expression(&mut self.code, expr) {
-            Ok(()) => Ok(()),
-            Err(error) => {
-                self.refusal = Some(error);
-                Err(error)
-            }
-        }
+        let outcome = expression(&mut self.code, expr);
+        self.ended(outcome)
     }
 
     /// Adds the instructions that assign the value on top to a target. The refusals are those of `compile_stmt`.
@@ -153,9 +157,11 @@ impl<'s, V: TemplateValue> CodeGenerator<'s, V> {
         ensures added { OnOk result (generated V.contents self.new ≡ generated V.contents self.old
             ++ target_code (expr_tree V.contents target.now)
             (here_so_far V.contents self.old)) }
+        ensures few { OnOk result (length (generated V.contents self.new) < 2 ^ 32) }
         ensures past { OnOk result (here_so_far V.contents self.new ≡ past_target
             (expr_tree V.contents target.now) (here_so_far V.contents self.old)) }
         ensures causes { IfNone (refusal_of self.old) (IfErr result IsAddError) }
+        ensures unplaced { IfNone (refusal_of self.old) (IfErr result IsUnplaced) }
         ensures too_many { IfNone (refusal_of self.old) (IfErr result
             (λ e. OnlyWhereTooLong e (generated V.contents self.old ++ target_code
             (expr_tree V.contents target.now) (here_so_far V.contents self.old)))) }
@@ -170,13 +176,8 @@ impl<'s, V: TemplateValue> CodeGenerator<'s, V> {
         if let Some(error) = self.refusal {
             return Err(error);
         }
-        match assign(&mut self.code, target) {
-            Ok(()) => Ok(()),
-            Err(error) => {
-                self.refusal = Some(error);
-                Err(error)
-            }
-        }
+        let outcome = assign(&mut self.code, target);
+        self.ended(outcome)
     }
 
     /// How large a buffer the output may want, in bytes: the least power of two at or over twice the bytes of the data nodes so
@@ -187,8 +188,16 @@ impl<'s, V: TemplateValue> CodeGenerator<'s, V> {
         (self.raw_template_bytes.min(LARGEST_HINT / 2) * 2).next_power_of_two()
     }
 
-    /// The list, and the blocks' lists by their names. After a refusal the list is not whole.
+    /// Whether all that was asked for is made: nothing was refused, and nothing is open.
+    pub fn is_closed(&self) -> bool
+        ensures { result ≡ is_none (refusal_of self.now) }
+    {
+        self.refusal.is_none()
+    }
+
+    /// The list, and the blocks' lists by their names. Nothing is had of a generator that has refused.
     pub fn finish(self) -> (Instructions<'s, V>, BTreeMap<&'s str, Instructions<'s, V>>)
+        requires { refusal_of self ≡ None }
         ensures code { code_of V.contents result.0 ≡ generated V.contents self.entry }
         ensures blocks { result.1 ≡ blocks_of self.entry }
         ensures name { name_of result.0 ≡ file_of self.entry }
@@ -203,6 +212,34 @@ impl<'s, V: TemplateValue> CodeGenerator<'s, V> {
         } = self;
         (listed(code.into_list(), file, source), blocks)
     }
+
+    /// Ends a call that added instructions: a refusal is kept, and so is that of a list that has become too long.
+    fn ended(&mut self, outcome: Result<(), OutOfMemory>) -> Result<(), Error<'s>>
+        requires { refusal_of self.old ≡ None }
+        ensures outcome { OnOk result (outcome ≡ Ok tt) }
+        ensures few { OnOk result (length (generated V.contents self.old) < 2 ^ 32) }
+        ensures too_many { IfErr result (λ e. kind_of e ≡ TooManyInstructions →
+            (2 ^ 32 ≤ length (generated V.contents self.old)) × (outcome ≡ Ok tt)) }
+        ensures causes { IfErr result IsAddError }
+        ensures unplaced { IfErr result IsUnplaced }
+        ensures ready { OnOk result (refusal_of self.new ≡ None) }
+        ensures kept { IfErr result (λ e. refusal_of self.new ≡ Some e) }
+
+        ensures code { generated V.contents self.new ≡ generated V.contents self.old }
+        ensures here { here_so_far V.contents self.new ≡ here_so_far V.contents self.old }
+        ensures counted { counted_bytes self.new ≡ counted_bytes self.old }
+        ensures blocks { blocks_of self.new ≡ blocks_of self.old }
+        ensures name { file_of self.new ≡ file_of self.old }
+        ensures source { text_of self.new ≡ text_of self.old }
+    {
+        let error = match outcome {
+            Ok(()) if self.code.place() < LIMIT => return Ok(()),
+            Ok(()) => too_many(),
+            Err(OutOfMemory) => Error::from(AllocError),
+        };
+        self.refusal = Some(error);
+        Err(error)
+    }
 }
 
 const LARGEST_HINT: usize = 1 << 63;
@@ -211,11 +248,10 @@ const LARGEST_HINT: usize = 1 << 63;
 fn compile_stmt<'s, V: TemplateValue>(
     code: &mut Emitter<'s, V>,
     stmt: &Stmt<'s, V>,
-) -> Result<usize, Error<'static>>
+) -> Result<usize, OutOfMemory>
     requires { IsWellFormed (stmt_tree V.contents stmt.now) }
-    ensures added { IsAdded (made_of V.contents code.old)
-        (stmt_piece V.functions (stmt_tree V.contents stmt.now)) result
-        (made_of V.contents code.new) }
+    ensures added { OnOk result (Adds (made_of V.contents code.old) (made_of V.contents code.new)
+        (stmt_piece V.functions (stmt_tree V.contents stmt.now))) }
     ensures counted { IfOk result
         (λ n. n ≡ min usize.MAX (data_bytes (stmt_tree V.contents stmt.now))) }
 {
@@ -229,11 +265,10 @@ fn compile_stmt<'s, V: TemplateValue>(
 fn compile_all<'s, V: TemplateValue>(
     code: &mut Emitter<'s, V>,
     stmts: &[Stmt<'s, V>],
-) -> Result<usize, Error<'static>>
+) -> Result<usize, OutOfMemory>
     requires { AreInner (stmts_of (map (stmt_tree V.contents) stmts.now)) }
-    ensures added { IsAdded (made_of V.contents code.old)
-        (stmts_piece V.functions (stmts_of (map (stmt_tree V.contents) stmts.now))) result
-        (made_of V.contents code.new) }
+    ensures added { OnOk result (Adds (made_of V.contents code.old) (made_of V.contents code.new)
+        (stmts_piece V.functions (stmts_of (map (stmt_tree V.contents) stmts.now)))) }
     ensures counted { IfOk result (λ n. n ≡ min usize.MAX
         (all_data_bytes (stmts_of (map (stmt_tree V.contents) stmts.now)))) }
 {
@@ -248,11 +283,10 @@ fn compile_all<'s, V: TemplateValue>(
 fn compile_inner<'s, V: TemplateValue>(
     code: &mut Emitter<'s, V>,
     stmt: &Stmt<'s, V>,
-) -> Result<usize, Error<'static>>
+) -> Result<usize, OutOfMemory>
     requires { IsInner (stmt_tree V.contents stmt.now) }
-    ensures added { IsAdded (made_of V.contents code.old)
-        (stmt_piece V.functions (stmt_tree V.contents stmt.now)) result
-        (made_of V.contents code.new) }
+    ensures added { OnOk result (Adds (made_of V.contents code.old) (made_of V.contents code.new)
+        (stmt_piece V.functions (stmt_tree V.contents stmt.now))) }
     ensures counted { IfOk result (λ n. n ≡ data_bytes (stmt_tree V.contents stmt.now)) }
 {
     match stmt {
@@ -280,31 +314,23 @@ fn compile_inner<'s, V: TemplateValue>(
 fn emit_expr<'s, V: TemplateValue>(
     code: &mut Emitter<'s, V>,
     expr: &Expr<'s, V>,
-) -> Result<(), Error<'static>>
+) -> Result<(), OutOfMemory>
     requires { IsWhole (expr_tree V.contents expr.now) }
-    ensures { IsAdded (made_of V.contents code.old) (layout.write V.functions
+    ensures { OnOk result (Adds (made_of V.contents code.old) (made_of V.contents code.new)
+        (layout.write V.functions
         (written (expr_tree V.contents expr.now))
-        (layout.expr V.functions (expr_tree V.contents expr.now))) result
-        (made_of V.contents code.new) }
+        (layout.expr V.functions (expr_tree V.contents expr.now)))) }
 {
     match output_of(expr) {
-        Output::Super => {
-            code.add(Instruction::FastSuper)?;
-            Ok(())
-        }
+        Output::Super => code.add(Instruction::FastSuper),
         Output::Recursion(items) => {
             expression(code, items)?;
-            code.add(Instruction::FastRecurse)?;
-            Ok(())
+            code.add(Instruction::FastRecurse)
         }
-        Output::Block(name) => {
-            code.add(Instruction::CallBlock(name))?;
-            Ok(())
-        }
+        Output::Block(name) => code.add(Instruction::CallBlock(name)),
         Output::Plain => {
             expression(code, expr)?;
-            code.add(Instruction::Emit)?;
-            Ok(())
+            code.add(Instruction::Emit)
         }
     }
 }
@@ -312,16 +338,13 @@ fn emit_expr<'s, V: TemplateValue>(
 fn assign<'s, V: TemplateValue>(
     code: &mut Emitter<'s, V>,
     target: &Expr<'s, V>,
-) -> Result<(), Error<'static>>
+) -> Result<(), OutOfMemory>
     requires { IsTarget (expr_tree V.contents target.now) }
-    ensures { IsAdded (made_of V.contents code.old)
-        (layout.target (expr_tree V.contents target.now)) result (made_of V.contents code.new) }
+    ensures { OnOk result (Adds (made_of V.contents code.old) (made_of V.contents code.new)
+        (layout.target (expr_tree V.contents target.now))) }
 {
     match target {
-        Expr::Var(var) => {
-            code.add(Instruction::StoreLocal(var.node().id))?;
-            Ok(())
-        }
+        Expr::Var(var) => code.add(Instruction::StoreLocal(var.node().id)),
         #[tactic(auto, using(crate::proofs::Outputs::target_is_variable))]
         _ => unreachable!(),
     }

@@ -1,7 +1,8 @@
 //! Instructions, and lists of them.
 ghost use Rattle.std.specs.Prelude.{◌≡◌, ◌+◌, ◌≤◌, ◌<◌, ◌^◌, ◌==◌, ◌++◌, ◌∷◌, [], ◌↔◌, length, slice_get, IfOk, IfErr, OnOk, OnErr, IsErr, Option};
-ghost use Rattle.std.specs.Option.{option_copied};
-ghost use Rattle.minijinja_syntax.specs.Errors.{kind_of};
+ghost use Rattle.std.specs.Option.{option_copied, option_copied_mut};
+ghost use Rattle.minijinja_syntax.specs.Errors as Errors;
+ghost use Rattle.minijinja_syntax.specs.Errors.{kind_of, span_of};
 ghost use Rattle.minijinja_syntax.specs.declared.error.ErrorKind.TheVariants.{OutOfMemory, TooManyInstructions};
 ghost use Rattle.minijinja_code.specs.InstructionLists.{instructions_of, name_of, source_of, IsAddError};
 
@@ -143,7 +144,7 @@ pub enum Instruction<'s, V: TemplateValue = Value> {
 }
 
 /// How many instructions a list may not reach.
-const LIMIT: usize = 1 << 32;
+pub(crate) const LIMIT: usize = 1 << 32;
 
 /// A list of instructions, with the name and the text of the source that they come from. It has fewer than 2^32.
 #[derive(Drop)]
@@ -202,6 +203,13 @@ impl<'s, V: TemplateValue> Instructions<'s, V> {
         self.instructions.get(index as usize)
     }
 
+    /// The instruction at an index, from 0, to be changed, or none where the list has ended.
+    pub fn get_mut(&mut self, index: u32) -> Option<&mut Instruction<'s, V>>
+        ensures { option_copied_mut result ≡ slice_get (instructions_of self.old) index }
+    {
+        self.instructions.get_mut(index as usize)
+    }
+
     /// Adds an instruction and answers its index. Refused are memory, and the instruction with which the list would reach
     /// 2^32; the list is unchanged then.
     pub fn add(&mut self, instruction: Instruction<'s, V>) -> Result<u32, Error<'s>>
@@ -238,15 +246,24 @@ pub(crate) fn push_within<'s, V: TemplateValue>(
         (λ e. kind_of e ≡ TooManyInstructions) × IsErr result }
 {
     if list.len() + 1 >= LIMIT {
-        return Err(Error::new(
-            ErrorKind::TooManyInstructions,
-            Detail::TooManyInstructions,
-            None,
-            None,
-        ));
+        return Err(too_many());
     }
     list.push(instruction)?;
     Ok(())
+}
+
+/// The refusal of a list that would have 2^32 instructions or more.
+pub(crate) fn too_many() -> Error<'static>
+    ensures kind { kind_of result ≡ TooManyInstructions }
+    ensures name { Errors.name_of result ≡ None }
+    ensures span { span_of result ≡ None }
+{
+    Error::new(
+        ErrorKind::TooManyInstructions,
+        Detail::TooManyInstructions,
+        None,
+        None,
+    )
 }
 
 /// A list of these instructions, which are fewer than 2^32.

@@ -277,7 +277,7 @@ module _ {C F : Type 0} (f : Functions C F) (code : List (Instr C)) where
     keyword_leads (kwarg x e args) n = leads_then (one_exact _) (then_exact (expr_exact f e) (keyword_exact f args (suc n))) (leads_one _ refl) (leads_then (expr_exact f e) (keyword_exact f args (suc n)) (expr_leads e) (keyword_leads args (suc n)))
     keyword_leads (kwarg_splat e args) n = leads_then (batch_exact BuildKwargs n) (then_exact (expr_exact f e) (keyword_exact f args 0)) (leads_batch BuildKwargs n (λ m. refl)) (leads_then (expr_exact f e) (keyword_exact f args 0) (expr_leads e) (keyword_leads args 0))
 
-  target_leads : (e : Expr C) → Leads code (layout.target e)
+  pub target_leads : (e : Expr C) → Leads code (layout.target e)
   target_leads (variable x) = leads_one _ refl
   target_leads e = leads_nothing
 
@@ -288,7 +288,7 @@ module _ {C F : Type 0} (f : Functions C F) (code : List (Instr C)) where
   write_leads Plain e a = leads_then e (one_exact _) a (leads_one _ refl)
 
   mutual
-    stmt_leads : (s : Stmt C) (l : Bool) (os : List Open) → LeadsOut code l (stmt f os s)
+    pub stmt_leads : (s : Stmt C) (l : Bool) (os : List Open) → LeadsOut code l (stmt f os s)
     stmt_leads (template ss) l os = stmts_lead ss l os
     stmt_leads (data_text t) l os = leads_plain (leads_one _ refl)
     stmt_leads (output e) l os = leads_plain (write_leads (written e) (expr_exact f e) (expr_leads e))

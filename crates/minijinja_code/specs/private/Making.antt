@@ -1,20 +1,15 @@
 -- Code that is being made, and what is added to it.
-use Rattle.std.specs.Prelude.{◌≡◌, ℕ, ◌<◌, ◌≤◌, ◌^◌, List, [], ◌++◌, length, map, Option, Some, None, Result, IfOk, OnOk, IfErr, Bool, true, false}
-use Rattle.std.specs.Option.{option_map}
+use Rattle.std.specs.Prelude.{◌≡◌, ℕ, List, [], ◌∷◌, ◌++◌, length, map, take, drop, ◌-◌, min, Option, Some, None, Bool, true, false}
 use Rattle.minijinja_syntax.specs.Texts.{Text}
 use Rattle.minijinja_value.specs.Values.{Functions}
-use Rattle.minijinja_syntax.specs.Errors.{kind_of}
-use Rattle.minijinja_syntax.specs.declared.error.Error.{Error}
-use Rattle.minijinja_syntax.specs.declared.error.ErrorKind.TheVariants.{TooManyInstructions}
 use Rattle.minijinja_tree.specs.Operators.{Working, Makes, Divides, IfTrue, IfFalse}
 use Rattle.minijinja_meaning.specs.Events.{Div}
-use Rattle.minijinja_meaning.specs.Code.{Instr, Do, Operate, Swap, JumpIfFalseOrPop, JumpIfTrueOrPop}
+use Rattle.minijinja_meaning.specs.Code.{Instr, Do, Load, Operate, Swap, Jump, JumpIfFalse, JumpIfFalseOrPop, JumpIfTrueOrPop, Iterate}
 use Rattle.minijinja_code.specs.Instructions.{instr_of}
-use Rattle.minijinja_code.specs.InstructionLists.{IsAddError}
-use Rattle.minijinja_tree.specs.Folding.{fold, constant_keywords, fold_keywords}
-use Rattle.minijinja_tree.specs.Tree.{Expr, Args}
-use Rattle.minijinja_meaning.specs.Layout.{arguments, positional, keyword, expr, folded, merged, count_keyword}
-use Rattle.minijinja_meaning.specs.Pieces.{Here, Piece, ◌▸◌}
+use Rattle.minijinja_tree.specs.Folding.{constant_keywords, fold_keywords}
+use Rattle.minijinja_tree.specs.Tree.{Args}
+use Rattle.minijinja_meaning.specs.Layout.{arguments, positional, keyword, folded, merged, count_keyword}
+use Rattle.minijinja_meaning.specs.Pieces.{Here, Piece, one, ◌▸◌}
 use Rattle.minijinja_code.specs.declared.codegen.emit.Emitter.{Emitter}
 use Rattle.minijinja_code.specs.declared.codegen.names.Names.{Names}
 use Rattle.minijinja_meaning.specs.Layout as layout
@@ -42,30 +37,50 @@ here_of m = record { place = length m.code; filters = m.filters; tests = m.tests
 abbrev pub followed : {C : Type 0} → Made C → List (Instr C) → Made C
 followed m is = record m { code = m.code ++ is }
 
+-- the last place that an instruction may lead to
+abbrev pub last_target : ℕ
+last_target = 4294967295
+
+-- a place, as far as an instruction may lead
+abbrev pub reach : ℕ → ℕ
+reach = min last_target
+
+-- an instruction as it stands in a list, where it leads no further than that
+abbrev pub capped : {C : Type 0} → Instr C → Instr C
+capped (Jump n) = Jump (reach n)
+capped (JumpIfFalse n) = JumpIfFalse (reach n)
+capped (JumpIfFalseOrPop n) = JumpIfFalseOrPop (reach n)
+capped (JumpIfTrueOrPop n) = JumpIfTrueOrPop (reach n)
+capped (Iterate n) = Iterate (reach n)
+capped i = i
+
 -- an instruction that stands where another will
 abbrev pub hole : {C : Type 0} → Instr C
 hole = Swap
 
--- a piece was added; a list that it made longer has fewer than 2 ^ 32 instructions
+-- A piece was added. Jumps in a list of 2 ^ 32 instructions or more are capped; no such list is given away.
 pub record Adds {C : Type 0} (old new : Made C) (p : Piece C) : Type 0 where
-  pub code : new.code ≡ old.code ++ p.code (here_of old)
+  pub code : new.code ≡ old.code ++ map capped (p.code (here_of old))
   pub past : here_of new ≡ p.past (here_of old)
-  pub fits : length old.code < length new.code → length new.code < 2 ^ 32
 
--- a piece was added, unless there is a value in its place
-abbrev pub AddsUnless : {C X : Type 0} → Option X → Made C → Made C → Piece C → Type 0
-AddsUnless (Some x) old new p = new ≡ old
-AddsUnless None old new p = Adds old new p
+-- the constant that an instruction loads, if it does that
+abbrev pub loaded_by : {C : Type 0} → Instr C → Option C
+loaded_by (Load c) = Some c
+loaded_by _ = None
 
--- a refusal for want of memory, or for want of room for a list that ends here
-pub record Refuses (e : Error) (end : Here) : Type 0 where
-  pub cause : IsAddError e
-  pub too_many : kind_of e ≡ TooManyInstructions → 2 ^ 32 ≤ end.place
+-- the constant that code loads, if that is all it does
+abbrev pub alone : {C : Type 0} → List (Instr C) → Option C
+alone [] = None
+alone (i ∷ []) = loaded_by i
+alone (i ∷ j ∷ is) = None
 
--- the same, of a tree that may fold: for want of room only where it does not
-pub record RefusesUnfolded {C : Type 0} (e : Error) (folds : Option C) (end : Here) : Type 0 where
-  pub refuses : Refuses e end
-  pub unfolded : kind_of e ≡ TooManyInstructions → folds ≡ None
+-- the instructions from one place to another
+abbrev pub between : {C : Type 0} → ℕ → ℕ → List (Instr C) → List (Instr C)
+between from to code = take (to - from) (drop from code)
+
+-- the last instruction after those before a place
+abbrev pub with_last : {C : Type 0} → ℕ → List (Instr C) → List (Instr C)
+with_last place code = take place code ++ drop (length code - 1) code
 
 -- whether an operator takes its right side only where the left one does not decide
 abbrev pub is_lazy : Working → Bool
@@ -89,29 +104,6 @@ operator_of _ = hole
 abbrev pub given : {C F : Type 0} → Functions C F → Args C → (front : ℕ) → Piece C
 given f args front = arguments f args front (positional f args front) (keyword f args 0)
 
--- where a call went well, the piece was added
-pub record IsAdded {C X : Type 0} (old : Made C) (p : Piece C) (r : Result X Error) (new : Made C) : Type 0 where
-  pub ok : OnOk r (Adds old new p)
-  pub err : IfErr r (λ e. Refuses e (p.past (here_of old)))
-
--- the constant that a tree folds to, with nothing added; or none, with the piece added
-pub record Gives {C X : Type 0} (c : X → C) (folds : Option C) (old new : Made C) (p : Piece C) (r : Option X) : Type 0 where
-  pub value : option_map c r ≡ folds
-  pub state : AddsUnless r old new p
-
--- where a call went well, it answered so
-pub record IsPart {C X : Type 0} (c : X → C) (folds : Option C) (old : Made C) (p : Piece C) (r : Result (Option X) Error) (new : Made C) : Type 0 where
-  pub ok : IfOk r (λ v. Gives c folds old new p v)
-  pub err : IfErr r (λ e. RefusesUnfolded e folds (p.past (here_of old)))
-
--- the same, of an expression
-abbrev pub IsExpr : {C F X : Type 0} → Functions C F → Made C → Expr C → Result X Error → Made C → Type 0
-IsExpr f old e result new = IsAdded old (expr f e) result new
-
--- likewise
-abbrev pub IsExprPart : {C F X : Type 0} → Functions C F → (X → C) → Made C → Expr C → Result (Option X) Error → Made C → Type 0
-IsExprPart f c old e result new = IsPart c (fold f e) old (expr f e) result new
-
 -- the batches and the waiting arguments
 abbrev pub count_of : Count → layout.Count
 count_of c = record { batches = c.batches; waiting = c.waiting }
@@ -125,3 +117,8 @@ abbrev pub keyword_map : {C F : Type 0} → Functions C F → Args C → Piece C
 keyword_map f args =
     let k = count_keyword args (operands 0) in
     folded (fold_keywords f (constant_keywords f args)) (keyword f args 0 ▸ merged k.batches k.waiting)
+
+-- the constant that a tree folds to was loaded; or it folds to none, and nothing was added
+abbrev pub AddsIf : {C : Type 0} → (loaded : Bool) → Option C → (old new : Made C) → Type 0
+AddsIf {C} true folds old new = (c : C) × (folds ≡ Some c) × Adds old new (one (Load c))
+AddsIf false folds old new = (folds ≡ None) × (new ≡ old)

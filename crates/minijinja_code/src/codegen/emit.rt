@@ -1,18 +1,20 @@
 //! The instructions of a unit that is being made.
-ghost use Rattle.std.specs.Prelude.{◌≡◌, ◌+◌, ◌≤◌, ◌<◌, map, [], ◌∷◌, length, take, slice_get, slice_set, Some, IfOk, IfErr, OnOk};
-ghost use Rattle.minijinja_syntax.specs.Errors.{IsOutOfMemory};
+ghost use Rattle.std.specs.Prelude.{◌≡◌, ◌≤◌, ◌++◌, map, [], ◌∷◌, length, take, ◌<◌, slice_set, None, IfOk, OnOk};
+ghost use Rattle.std.specs.Option.{option_map};
 ghost use Rattle.minijinja_meaning.specs.Code.{Load};
+ghost use Rattle.minijinja_meaning.specs.Jumps.{target};
 ghost use Rattle.minijinja_code.specs.Instructions.{instr_of};
-ghost use Rattle.minijinja_code.specs.private.Making.{made_of, here_of, texts_of, followed, hole, Adds, Refuses};
-ghost use Rattle.minijinja_meaning.specs.Pieces.{start, behind, one, id_of, noted};
+ghost use Rattle.minijinja_code.specs.private.Making.{made_of, here_of, reach, hole, alone, between, loaded_by, with_last, Adds};
+ghost use Rattle.minijinja_meaning.specs.Pieces.{start, one, id_of, noted};
 
+use super::memory::OutOfMemory;
 use super::names::Names;
-use crate::instructions::{Instruction, LocalId, push_within};
-use minijinja_base::error::Error;
+use crate::instructions::{Instruction, LocalId};
 use minijinja_base::value::TemplateValue;
 use std::alloc::Global;
 
-/// The instructions of a unit that is being made, with the names of filters and tests in them.
+/// The instructions of a unit that is being made, with the names of filters and tests in them. Their number is looked at once
+/// the unit is whole.
 #[derive(Drop)]
 pub(super) struct Emitter<'s, V: TemplateValue> {
     list: Vec<Instruction<'s, V>>,
@@ -54,60 +56,66 @@ impl<'s, V: TemplateValue> Emitter<'s, V> {
         self.list.len()
     }
 
-    /// Adds an instruction.
-    pub(super) fn add(&mut self, instruction: Instruction<'s, V>) -> Result<(), Error<'static>>
-        ensures added { OnOk result (Adds (made_of V.contents self.old)
-            (made_of V.contents self.new) (one (instr_of V.contents instruction.entry))) }
-        ensures refused { IfErr result
-            (λ e. Refuses e (behind 1 (here_of (made_of V.contents self.old)))) }
+    /// The place after the instructions, as a jump names it.
+    pub(super) fn target(&self) -> u32
+        ensures { result ≡ reach (length (made_of V.contents self.now).code) }
     {
-        push_within(&mut self.list, instruction)
+        self.list.len().min(u32::MAX as usize) as u32
     }
 
-    /// Adds an instruction that may be taken back. It may stand past the limit: the next one that stays is refused then.
-    pub(super) fn keep(&mut self, instruction: Instruction<'s, V>) -> Result<(), Error<'static>>
-        ensures kept { OnOk result (made_of V.contents self.new ≡ followed
-            (made_of V.contents self.old) (instr_of V.contents instruction.entry ∷ [])) }
-        ensures memory { IfErr result IsOutOfMemory }
+    /// Adds an instruction that leads nowhere else.
+    pub(super) fn add(&mut self, instruction: Instruction<'s, V>) -> Result<(), OutOfMemory>
+        requires { target (instr_of V.contents instruction) ≡ None }
+        ensures { OnOk result (Adds (made_of V.contents self.old) (made_of V.contents self.new)
+            (one (instr_of V.contents instruction.entry))) }
     {
         self.list.push(instruction)?;
         Ok(())
     }
 
     /// Leaves a place for an instruction that is not known yet, and answers the place.
-    pub(super) fn reserve(&mut self) -> Result<usize, Error<'static>>
+    pub(super) fn reserve(&mut self) -> Result<usize, OutOfMemory>
         ensures place { IfOk result (λ place. place ≡ length (made_of V.contents self.old).code) }
-        ensures kept { OnOk result
-            (made_of V.contents self.new ≡ followed (made_of V.contents self.old) (hole ∷ [])) }
-        ensures memory { IfErr result IsOutOfMemory }
+        ensures added { OnOk result
+            (Adds (made_of V.contents self.old) (made_of V.contents self.new) (one hole)) }
     {
         let place = self.list.len();
-        self.keep(Instruction::Swap)?;
+        self.add(Instruction::Swap)?;
         Ok(place)
     }
 
-    /// Puts an instruction at a place.
+    /// Puts an instruction in the place of the one at an index.
     pub(super) fn fill(&mut self, place: usize, instruction: Instruction<'s, V>)
-        requires { place < length (made_of V.contents self.old).code }
         ensures { made_of V.contents self.new ≡ record (made_of V.contents self.old) {
           code = slice_set (made_of V.contents self.old).code place
               (instr_of V.contents instruction.entry);
         } }
     {
-        self.list[place] = instruction;
+        if let Some(held) = self.list.get_mut(place) {
+            *held = instruction;
+        }
     }
 
-    /// The constant that is loaded at a place.
-    pub(super) fn constant(&self, place: usize) -> &V
-        requires { (c : V.Contents) ×
-            (slice_get (made_of V.contents self.now).code place ≡ Some (Load c)) }
-        ensures { slice_get (made_of V.contents self.now).code place ≡ Some
-            (Load (V.contents result.now)) }
+    /// The constant that is loaded from one place up to another, if that is all that is done there.
+    pub(super) fn constant(&self, from: usize, to: usize) -> Option<&V>
+        ensures { to ≤ length (made_of V.contents self.now).code →
+            option_map (λ v. V.contents v.now) result
+            ≡ alone (between from to (made_of V.contents self.now).code) }
     {
-        match &self.list[place] {
-            Instruction::LoadConst(value) => value,
-            _ => unreachable!(),
+        match self.list.get(from) {
+            Some(instruction) if to == from + 1 => constant_of(instruction),
+            _ => None,
         }
+    }
+
+    /// Takes back what stands from a place on, and loads a constant there.
+    pub(super) fn replace(&mut self, place: usize, value: V) -> Result<(), OutOfMemory>
+        ensures { OnOk result (made_of V.contents self.new ≡ record (made_of V.contents self.old)
+            { code = take place (made_of V.contents self.old).code ++ Load (V.contents value) ∷ [] }) }
+    {
+        self.list.truncate(place);
+        self.list.push(Instruction::LoadConst(value))?;
+        Ok(())
     }
 
     /// Takes back what stands from a place on.
@@ -118,25 +126,47 @@ impl<'s, V: TemplateValue> Emitter<'s, V> {
         self.list.truncate(place);
     }
 
+    /// Takes back what stands from a place on but for the last instruction.
+    pub(super) fn keep_last(&mut self, place: usize) -> Result<(), OutOfMemory>
+        ensures { OnOk result (place < length (made_of V.contents self.old).code →
+            (made_of V.contents self.new ≡ record (made_of V.contents self.old)
+            { code = with_last place (made_of V.contents self.old).code })) }
+    {
+        if let Some(last) = self.list.pop() {
+            self.list.truncate(place);
+            self.list.push(last)?;
+        }
+        Ok(())
+    }
+
     /// The id of a filter's name, which is noted.
-    pub(super) fn filter_id(&mut self, name: &'s str) -> Result<LocalId, Error<'static>>
+    pub(super) fn filter_id(&mut self, name: &'s str) -> Result<LocalId, OutOfMemory>
         ensures id { IfOk result (λ id. id ≡ id_of name.now (made_of V.contents self.old).filters) }
         ensures noted { OnOk result (made_of V.contents self.new ≡ record
             (made_of V.contents self.old)
             { filters = noted name.now (made_of V.contents self.old).filters }) }
-        ensures memory { IfErr result IsOutOfMemory }
     {
         self.filters.id(name)
     }
 
     /// The id of a test's name, which is noted.
-    pub(super) fn test_id(&mut self, name: &'s str) -> Result<LocalId, Error<'static>>
+    pub(super) fn test_id(&mut self, name: &'s str) -> Result<LocalId, OutOfMemory>
         ensures id { IfOk result (λ id. id ≡ id_of name.now (made_of V.contents self.old).tests) }
         ensures noted { OnOk result (made_of V.contents self.new ≡ record
             (made_of V.contents self.old)
             { tests = noted name.now (made_of V.contents self.old).tests }) }
-        ensures memory { IfErr result IsOutOfMemory }
     {
         self.tests.id(name)
+    }
+}
+
+/// The constant that an instruction loads, if it does that.
+fn constant_of<'a, V: TemplateValue>(instruction: &'a Instruction<'_, V>) -> Option<&'a V>
+    ensures { option_map (λ v. V.contents v.now) result
+        ≡ loaded_by (instr_of V.contents instruction.now) }
+{
+    match instruction {
+        Instruction::LoadConst(value) => Some(value),
+        _ => None,
     }
 }

@@ -1,8 +1,8 @@
 //! Names that have an id.
 ghost use Rattle.std.specs.Prelude.{◌≡◌, ◌≤◌, vec_len, IfOk, OnOk};
 
+use super::memory::OutOfMemory;
 use crate::instructions::{LocalId, MAX_LOCALS};
-use minijinja_base::error::Error;
 use std::alloc::Global;
 
 /// The names of filters, or of tests, that have an id of their own, in the order of their first use.
@@ -16,8 +16,7 @@ pub(super) struct Names<'s> {
 const NO_ID: LocalId = 255;
 
 impl<'s> Names<'s> {
-    ghost use Rattle.std.specs.Prelude.{[], IfErr};
-    ghost use Rattle.minijinja_syntax.specs.Errors.{IsOutOfMemory};
+    ghost use Rattle.std.specs.Prelude.{[]};
     ghost use Rattle.minijinja_code.specs.private.Making.{texts_of};
     ghost use Rattle.minijinja_meaning.specs.Pieces.{id_of, noted};
 
@@ -31,10 +30,9 @@ impl<'s> Names<'s> {
     }
 
     /// The id of a name, which is noted if there is an id left.
-    pub(super) fn id(&mut self, name: &'s str) -> Result<LocalId, Error<'static>>
+    pub(super) fn id(&mut self, name: &'s str) -> Result<LocalId, OutOfMemory>
         ensures id { IfOk result (λ id. id ≡ id_of name.now (texts_of self.old)) }
         ensures noted { OnOk result (texts_of self.new ≡ noted name.now (texts_of self.old)) }
-        ensures memory { IfErr result IsOutOfMemory }
     {
         for (i, known) in self.names.iter().enumerate() {
             if name == *known {

@@ -1,7 +1,10 @@
-//! Texts of about 1 MiB, of the forms that a search that goes back would read in square time: a test has a minute.
+//! Texts of about 1 MiB, of the forms that a search that goes back would read in square time, and rows of what a parser or a
+//! generator that calls itself would end the process at: a test has a minute.
 use super::{Subject, hold, parted, repeated, syntax_of};
+use crate::compile::compile;
 use crate::lexer::Tokenizer;
 use crate::syntax::SyntaxConfig;
+use crate::value::Value;
 use std::alloc::Global;
 use std::test::Fail;
 
@@ -62,4 +65,64 @@ line_statement #, line_comment ## | 131072 * # x␊ | # x => 393219
 line_statement #, line_comment ## | 524288 * ␠ | # x => 3
 "#;
     hold::<Large>(&rt, rt.alloc(), rows)
+}
+
+/// A template in pieces: how many instructions it has. Its tree and its code are let go after that.
+enum Rows {}
+
+impl Subject for Rows {
+    fn words(alloc: Global, text: &str) -> Result<String, Fail> {
+        let source = repeated(alloc, text)?;
+        match compile::<Value>(alloc, source.as_str(), "page", &SyntaxConfig::default()) {
+            Ok(compiled) => Ok(compiled.instructions.len().to_string(alloc)?),
+            Err(_) => Ok(String::from_str(alloc, "refused")?),
+        }
+    }
+}
+
+#[test]
+fn rows_of_operators_are_compiled(rt: HostRuntime) -> Result<(), Fail> {
+    let rows = r#"
+{{␠a | 100000 * +a | ␠}} => 200002
+{{␠a | 100000 * ~a | ␠}} => 200002
+{{␠a | 100000 * **a | ␠}} => 200002
+{{␠a | 100000 * //a | ␠}} => 200002
+{{␠a | 100000 * ␠and␠a | ␠}} => 200002
+{{␠a | 100000 * ␠or␠a | ␠}} => 200002
+{{␠a | 100000 * <a | ␠}} => 300004
+{{␠a | 100000 * ␠in␠a | ␠}} => 300004
+{{␠ | 100000 * not␠ | a␠}} => 100002
+{{␠ | 100000 * - | a␠}} => 100002
+"#;
+    hold::<Rows>(&rt, rt.alloc(), rows)
+}
+
+#[test]
+fn rows_of_postfixes_are_compiled(rt: HostRuntime) -> Result<(), Fail> {
+    let rows = r#"
+{{␠a | 100000 * .b | ␠}} => 100002
+{{␠a | 100000 * [b] | ␠}} => 200002
+{{␠a | 100000 * [b:] | ␠}} => 400002
+{{␠f | 100000 * (a) | ␠}} => 200001
+{{␠a | 100000 * .m(b) | ␠}} => 200002
+{{␠a | 100000 * |f | ␠}} => 100002
+{{␠a | 100000 * |f(b) | ␠}} => 200002
+{{␠a | 100000 * ␠is␠t | ␠}} => 100002
+{{␠a | 100000 * ␠if␠b␠else␠c | ␠}} => 400002
+{{␠a | 100000 * ␠if␠b | ␠}} => 400002
+"#;
+    hold::<Rows>(&rt, rt.alloc(), rows)
+}
+
+#[test]
+fn rows_of_operators_on_constants_are_folded(rt: HostRuntime) -> Result<(), Fail> {
+    let rows = r#"
+{{␠1 | 100000 * +1 | ␠}} => 2
+{{␠1 | 100000 * ␠and␠1 | ␠}} => 2
+{{␠1 | 100000 * ==1 | ␠}} => 2
+{{␠'a' | 1000 * ~'' | ␠}} => 2
+{{␠ | 100000 * not␠ | 1␠}} => 2
+{{␠ | 100000 * - | 1␠}} => 2
+"#;
+    hold::<Rows>(&rt, rt.alloc(), rows)
 }

@@ -1,16 +1,23 @@
-use Rattle.std.proofs.Common.{◌<◌, ◌+◌, length, [], map, drop, sym, ap, ◌∙◌, arith}
-use Rattle.std.proofs.lemmas.List.{at_drop_more}
+use Rattle.std.proofs.Common.{◌≡◌, ◌<◌, ◌≤◌, ◌+◌, length, [], map, drop, refl, sym, ap, subst, ◌∙◌, arith}
+use Rattle.std.proofs.lemmas.List.{at_drop_more, at_drop_all}
 use Rattle.minijinja_tree.specs.Erasure.{stmt_tree}
 use Rattle.minijinja_tree.specs.Tree.{stmts_of, also}
-use Rattle.minijinja_meaning.specs.Pieces.{outside}
+use Rattle.minijinja_tree.specs.WellFormed.{AreInner}
+use Rattle.minijinja_code.specs.Hint.{all_data_bytes}
+use Rattle.minijinja_code.specs.private.Making.{made_of}
 use Rattle.minijinja_code.specs.private.Statements.{stmt_piece, stmts_piece}
-use Rattle.minijinja_code.proofs.Exits.{added_err}
-use Rattle.minijinja_meaning.proofs.Lengths.{exact_to, stmts_exact}
-use Rattle.minijinja_code.proofs.OneByOne.{going_refused}
+use Rattle.minijinja_code.proofs.InOrder.{leads_whole, leads_on, leads_end}
 use Rattle.minijinja_code.proofs.codegen.compile_all.Goals as goal
 
-pub returns-in_err-compile_inner-clause-added : goal.returns-in_err-compile_inner-clause-added
-returns-in_err-compile_inner-clause-added g c =
+pub loop-stmt-init : goal.loop-stmt-init
+loop-stmt-init g c =
+    let v = g.V.TemplateValue.contents in
+    let f = g.V.TemplateValue.functions in
+    let all = stmts_piece f (stmts_of (map (stmt_tree v) c.args.stmts.now)) in
+    record { leads = leads_whole (made_of v c.args.code.now) all all refl; inner = c.requires; counted = omega arith; fits = omega arith }
+
+pub loop-stmt-preserved : goal.loop-stmt-preserved
+loop-stmt-preserved g c =
     let v = g.V.TemplateValue.contents in
     let f = g.V.TemplateValue.functions in
     let xs = c.args.stmts.now in
@@ -18,6 +25,18 @@ returns-in_err-compile_inner-clause-added g c =
     let x = c.stmt-item.result in
     let rest = stmts_of (map (stmt_tree v) (drop (i + 1) xs)) in
     let within : i < length xs = omega arith in
-    let split = at_drop_more (λ ys. stmts_of (map (stmt_tree v) ys)) xs i x within ∙ ap (λ y. also (stmt_tree v y) rest) (sym c.stmt-item.is) in
-    added_err c.from_residual.result c.from_residual.ensures.1 (λ d h. cc)
-    (going_refused (stmt_piece f (stmt_tree v x)) (ap (stmts_piece f) split) (exact_to (stmts_exact f rest []) outside) c.loop-stmt.invariant.going c.in_err-compile_inner.ensures.added.err)
+    let split : stmts_of (map (stmt_tree v) (drop i xs)) ≡ also (stmt_tree v x) rest = at_drop_more (λ ys. stmts_of (map (stmt_tree v) ys)) xs i x within ∙ ap (λ y. also (stmt_tree v y) rest) (sym c.stmt-item.is) in
+    let inner = subst AreInner split c.loop-stmt.invariant.inner in
+    let bytes = ap all_data_bytes split in
+    record {
+      leads = leads_on (stmt_piece f (stmt_tree v x)) (stmts_piece f rest) (ap (stmts_piece f) split) c.in_ok-compile_inner.ensures.added c.loop-stmt.invariant.leads;
+      inner = inner.1;
+      counted = let now = c.in_ok-compile_inner.ensures.counted in omega (arith, bytes, now, c.saturating_add-data_bytes.ensures, c.loop-stmt.invariant.counted);
+      fits = omega (arith, c.saturating_add-data_bytes.ensures);
+    }
+
+pub returns-clause-added : goal.returns-clause-added
+returns-clause-added g c =
+    let v = g.V.TemplateValue.contents in
+    let f = g.V.TemplateValue.functions in
+    leads_end (at_drop_all (λ ys. stmts_piece f (stmts_of (map (stmt_tree v) ys))) c.args.stmts.now c.loop-stmt.stmt-index (omega arith)) c.loop-stmt.invariant.leads

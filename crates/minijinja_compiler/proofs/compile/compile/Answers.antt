@@ -1,10 +1,12 @@
-use Rattle.std.proofs.Common.{◌≡◌, ◌≤◌, ◌^◌, ◌∙◌, length, sym, ap, subst}
+use Rattle.std.proofs.Common.{◌≡◌, ◌<◌, ◌≤◌, ◌^◌, ◌∙◌, length, sym, ap, subst}
 use Rattle.std.proofs.lemmas.Result.{err_from_is_err_and}
 use Rattle.minijinja_tree.specs.Erasure.{stmt_tree}
 use Rattle.minijinja_tree.specs.SpannedTrees.{bare_stmt}
 use Rattle.minijinja_tree.specs.SpannedErasure.{stmt_node}
 use Rattle.minijinja_tree.proofs.Bare.{stmt_is}
+use Rattle.minijinja_meaning.specs.Jumps.{LeadsWell}
 use Rattle.minijinja_meaning.specs.Pieces.{start}
+use Rattle.minijinja_meaning.proofs.Leads.{layout_leads_well}
 use Rattle.minijinja_code.specs.Instructions.{code_of}
 use Rattle.minijinja_meaning.specs.Layout.{stmt_code}
 use Rattle.minijinja_meaning.specs.Correct.{DoesStmt}
@@ -33,6 +35,8 @@ returns-clause-compiled g c =
       only = λ t d. sym (parsed.only t d);
       code = whole_code before after code (here_so_far v made) (stmt_code f tree) empty c.new-generator.ensures.here done.added finished ∙ ap (λ t. stmt_code f t start) (sym bare);
       does = subst (λ t. DoesStmt f code 0 (length code) t) (sym bare) (whole_does (λ is from to. DoesStmt f is from to tree) before after code empty done.does finished);
+      few = subst (λ is. length is < 2 ^ 32) (sym finished) done.few;
+      leads = subst LeadsWell (sym (whole_code before after code (here_so_far v made) (stmt_code f tree) empty c.new-generator.ensures.here done.added finished)) (layout_leads_well f tree c.in_ok-template.ensures.well_formed);
       hint = subst (λ t. IsHint (data_bytes t) c.buffer_size_hint-buffer_size_hint.result) (sym bare) (hint_of_all (data_bytes tree) _ _ c.buffer_size_hint-buffer_size_hint.result c.new-generator.ensures.bytes done.counted c.buffer_size_hint-buffer_size_hint.ensures);
       no_blocks = rw (c.finish-instructions.ensures.blocks, done.blocks) c.new-generator.ensures.blocks;
       name = c.finish-instructions.ensures.name ∙ done.name ∙ c.new-generator.ensures.name;

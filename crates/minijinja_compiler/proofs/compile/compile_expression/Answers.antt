@@ -1,10 +1,12 @@
-use Rattle.std.proofs.Common.{◌≡◌, ◌≤◌, ◌^◌, ◌∙◌, length, sym, ap, subst}
+use Rattle.std.proofs.Common.{◌≡◌, ◌<◌, ◌≤◌, ◌^◌, ◌∙◌, length, sym, ap, subst}
 use Rattle.std.proofs.lemmas.Result.{err_from_is_err_and}
 use Rattle.minijinja_tree.specs.Erasure.{expr_tree}
 use Rattle.minijinja_tree.specs.SpannedTrees.{bare_expr}
 use Rattle.minijinja_tree.specs.SpannedErasure.{expr_node}
 use Rattle.minijinja_tree.proofs.Bare.{expr_is}
+use Rattle.minijinja_meaning.specs.Jumps.{LeadsWell}
 use Rattle.minijinja_meaning.specs.Pieces.{start}
+use Rattle.minijinja_meaning.proofs.Leads.{expression_leads_well}
 use Rattle.minijinja_code.specs.Instructions.{code_of}
 use Rattle.minijinja_meaning.specs.Layout.{expr_code}
 use Rattle.minijinja_meaning.specs.Correct.{DoesExpr}
@@ -32,6 +34,8 @@ returns-clause-compiled g c =
       only = λ t d. sym (parsed.only t d);
       code = whole_code before after code (here_so_far v made) (expr_code f tree) empty c.new-generator.ensures.here done.added finished ∙ ap (λ t. expr_code f t start) (sym bare);
       does = subst (λ t. DoesExpr f code 0 (length code) t) (sym bare) (whole_does (λ is from to. DoesExpr f is from to tree) before after code empty done.does finished);
+      few = subst (λ is. length is < 2 ^ 32) (sym finished) done.few;
+      leads = subst LeadsWell (sym (whole_code before after code (here_so_far v made) (expr_code f tree) empty c.new-generator.ensures.here done.added finished)) (expression_leads_well f tree);
       name = c.finish-instructions.ensures.name ∙ done.name ∙ c.new-generator.ensures.name;
       text = c.finish-instructions.ensures.source ∙ done.source ∙ c.new-generator.ensures.source;
     }

@@ -1,12 +1,44 @@
+use Rattle.std.proofs.Common.{◌≡◌, ◌∙◌, ◌++◌, ◌<◌, ◌^◌, List, Ok, length, refl, sym, ap, subst}
 use Rattle.minijinja_tree.specs.Erasure.{expr_tree}
+use Rattle.minijinja_meaning.specs.Code.{Instr}
 use Rattle.minijinja_meaning.specs.Layout as layout
-use Rattle.minijinja_code.specs.private.Making.{made_of}
-use Rattle.minijinja_code.proofs.Generators.{if_none, too_long}
-use Rattle.minijinja_meaning.proofs.Lengths.{target_exact}
+use Rattle.minijinja_code.specs.private.AtGenerator.{generated}
+use Rattle.minijinja_code.specs.private.Making.{made_of, here_of}
+use Rattle.minijinja_code.proofs.Ending.{outcome_ok, both_ok, if_none, too_long}
+use Rattle.minijinja_code.proofs.Uncapped.{target_uncapped}
+use Rattle.minijinja_code.proofs.Results.{ok_gives}
 use Rattle.minijinja_code.proofs.codegen.CodeGenerator.compile_assignment.Goals as goal
 
-pub returns-in-Err-clause-too_many : goal.returns-in-Err-clause-too_many
-returns-in-Err-clause-too_many g c =
+pub returns-clause-added : goal.returns-clause-added
+returns-clause-added g c =
     let v = g.V.TemplateValue.contents in
+    let f = g.V.TemplateValue.functions in
+    let m = made_of v c.args.self.now.code in
     let e = expr_tree v c.args.target.now in
-    if_none c.args.self.now.refusal (too_long (made_of v c.args.self.now.code) (layout.target e) (target_exact g.V.TemplateValue.functions e) c.in-Err.ensures.err)
+    let r = c.ended.result in
+    let adds = outcome_ok _ r c.assign-outcome.result tt c.ended.ensures.outcome c.assign-outcome.ensures in
+    both_ok r adds c.ended.ensures.few (λ s small. c.ended.ensures.code ∙ target_uncapped f e s small)
+
+pub returns-clause-past : goal.returns-clause-past
+returns-clause-past g c =
+    let v = g.V.TemplateValue.contents in
+    let f = g.V.TemplateValue.functions in
+    let m = made_of v c.args.self.now.code in
+    let e = expr_tree v c.args.target.now in
+    let r = c.ended.result in
+    let adds = outcome_ok _ r c.assign-outcome.result tt c.ended.ensures.outcome c.assign-outcome.ensures in
+    ok_gives r (λ s. c.ended.ensures.here ∙ s.past) adds
+
+pub returns-clause-few : goal.returns-clause-few
+returns-clause-few g c =
+    ok_gives c.ended.result (subst (λ is. length is < 2 ^ 32) (sym c.ended.ensures.code)) c.ended.ensures.few
+
+pub returns-clause-too_many : goal.returns-clause-too_many
+returns-clause-too_many g c =
+    let v = g.V.TemplateValue.contents in
+    let f = g.V.TemplateValue.functions in
+    let m = made_of v c.args.self.now.code in
+    let e = expr_tree v c.args.target.now in
+    let r = c.ended.result in
+    let adds = outcome_ok _ r c.assign-outcome.result tt c.ended.ensures.outcome c.assign-outcome.ensures in
+    if_none c.args.self.now.refusal (too_long r c.assign-outcome.result tt m (made_of v c.assign-outcome.new.code) (layout.target e) c.ended.ensures.too_many c.assign-outcome.ensures)

@@ -1,15 +1,41 @@
-use Rattle.std.proofs.Common.{List, [], length, refl, sym, subst}
+use Rattle.std.proofs.Common.{◌≡◌, ◌∙◌, ◌++◌, ◌<◌, ◌^◌, List, Result, Ok, length, refl, sym, ap, subst}
 use Rattle.minijinja_tree.specs.Erasure.{stmt_tree}
 use Rattle.minijinja_meaning.specs.Code.{Instr}
 use Rattle.minijinja_meaning.specs.Correct.{DoesStmt}
 use Rattle.minijinja_meaning.specs.Laws.{Laws}
-use Rattle.minijinja_meaning.specs.Pieces.{outside}
-use Rattle.minijinja_code.specs.private.Statements.{stmt_piece}
-use Rattle.minijinja_code.specs.private.Making.{made_of, here_of}
-use Rattle.minijinja_code.proofs.Generators.{if_none, too_long}
-use Rattle.minijinja_meaning.proofs.Lengths.{exact_to, stmt_exact}
 use Rattle.minijinja_meaning.proofs.Whole.{statement_does}
+use Rattle.minijinja_code.specs.private.AtGenerator.{generated}
+use Rattle.minijinja_code.specs.private.Making.{made_of, here_of}
+use Rattle.minijinja_code.specs.private.Statements.{stmt_piece}
+use Rattle.minijinja_code.specs.declared.codegen.memory.OutOfMemory.{OutOfMemory}
+use Rattle.minijinja_code.proofs.Ending.{if_none, too_long, never_ok, never_long}
+use Rattle.minijinja_code.proofs.Uncapped.{stmt_uncapped}
+use Rattle.minijinja_code.proofs.Results.{ok_gives}
 use Rattle.minijinja_code.proofs.codegen.CodeGenerator.compile_stmt.Goals as goal
+
+pub returns-in-Ok-clause-added : goal.returns-in-Ok-clause-added
+returns-in-Ok-clause-added g c =
+    let v = g.V.TemplateValue.contents in
+    let f = g.V.TemplateValue.functions in
+    let m = made_of v c.args.self.now.code in
+    let e = stmt_tree v c.args.stmt.now in
+    let r = c.ended.result in
+    let s = c.in-Ok.ensures.added in
+    ok_gives r (λ small. c.ended.ensures.code ∙ stmt_uncapped f e s small) c.ended.ensures.few
+
+pub returns-in-Ok-clause-past : goal.returns-in-Ok-clause-past
+returns-in-Ok-clause-past g c =
+    let v = g.V.TemplateValue.contents in
+    let f = g.V.TemplateValue.functions in
+    let m = made_of v c.args.self.now.code in
+    let e = stmt_tree v c.args.stmt.now in
+    let r = c.ended.result in
+    let s = c.in-Ok.ensures.added in
+    ok_gives r (λ small. c.ended.ensures.here ∙ s.past) c.ended.ensures.few
+
+pub returns-in-Ok-clause-few : goal.returns-in-Ok-clause-few
+returns-in-Ok-clause-few g c =
+    ok_gives c.ended.result (subst (λ is. length is < 2 ^ 32) (sym c.ended.ensures.code)) c.ended.ensures.few
 
 pub returns-in-Ok-clause-does : goal.returns-in-Ok-clause-does
 returns-in-Ok-clause-does g c =
@@ -17,13 +43,38 @@ returns-in-Ok-clause-does g c =
     let f = g.V.TemplateValue.functions in
     let m = made_of v c.args.self.now.code in
     let e = stmt_tree v c.args.stmt.now in
+    let r = c.ended.result in
+    let s = c.in-Ok.ensures.added in
     let laws : Laws f = record { truth = g.met.V.TemplateValue.is_true_of_bool; count = g.met.V.TemplateValue.as_count_of_u64; one_more = g.met.V.TemplateValue.add_one } in
-    subst (λ (code : List (Instr g.V.TemplateValue.Contents)). DoesStmt f code (length m.code) (length code) e) (sym c.in-Ok.ensures.added.ok.code)
-    (statement_does f laws m.code (here_of m) e refl c.requires)
+    ok_gives r (λ small.
+    subst (λ (code : List (Instr g.V.TemplateValue.Contents)). DoesStmt f code (length m.code) (length code) e) (sym (c.ended.ensures.code ∙ stmt_uncapped f e s small))
+    (statement_does f laws m.code (here_of m) e refl c.requires)) c.ended.ensures.few
 
-pub returns-in-Err-clause-too_many : goal.returns-in-Err-clause-too_many
-returns-in-Err-clause-too_many g c =
+pub returns-in-Ok-clause-too_many : goal.returns-in-Ok-clause-too_many
+returns-in-Ok-clause-too_many g c =
     let v = g.V.TemplateValue.contents in
     let f = g.V.TemplateValue.functions in
+    let m = made_of v c.args.self.now.code in
     let e = stmt_tree v c.args.stmt.now in
-    if_none c.args.self.now.refusal (too_long (made_of v c.args.self.now.code) (stmt_piece f e) (exact_to (stmt_exact f e []) outside) c.in-Err.ensures.added.err)
+    let r = c.ended.result in
+    let s = c.in-Ok.ensures.added in
+    let o : Result (Unit {0}) OutOfMemory = Ok tt in
+    if_none c.args.self.now.refusal (too_long r o tt m (made_of v c.compile_stmt.new.code) (stmt_piece f e) c.ended.ensures.too_many s)
+
+pub returns-in-Err-clause-added : goal.returns-in-Err-clause-added
+returns-in-Err-clause-added g c = never_ok _ c.ended-in-Err.result c.in-Err.refused tt c.ended-in-Err.ensures.outcome
+
+pub returns-in-Err-clause-past : goal.returns-in-Err-clause-past
+returns-in-Err-clause-past g c = never_ok _ c.ended-in-Err.result c.in-Err.refused tt c.ended-in-Err.ensures.outcome
+
+pub returns-in-Err-clause-few : goal.returns-in-Err-clause-few
+returns-in-Err-clause-few g c = never_ok _ c.ended-in-Err.result c.in-Err.refused tt c.ended-in-Err.ensures.outcome
+
+pub returns-in-Err-clause-does : goal.returns-in-Err-clause-does
+returns-in-Err-clause-does g c = never_ok _ c.ended-in-Err.result c.in-Err.refused tt c.ended-in-Err.ensures.outcome
+
+pub returns-in-Err-clause-counted : goal.returns-in-Err-clause-counted
+returns-in-Err-clause-counted g c = never_ok _ c.ended-in-Err.result c.in-Err.refused tt c.ended-in-Err.ensures.outcome
+
+pub returns-in-Err-clause-too_many : goal.returns-in-Err-clause-too_many
+returns-in-Err-clause-too_many g c = if_none c.args.self.now.refusal (never_long _ _ c.ended-in-Err.result c.in-Err.refused tt c.ended-in-Err.ensures.too_many)

@@ -1,4 +1,4 @@
-use Rattle.std.proofs.Common.{◌≡◌, length, drop}
+use Rattle.std.proofs.Common.{◌≡◌, drop}
 use Rattle.minijinja_code.specs.private.Making.{made_of}
 use Rattle.minijinja_code.specs.private.Comparing.{jumping}
 use Rattle.minijinja_code.proofs.codegen.chain.fill_jumps.Given as goal
@@ -6,7 +6,4 @@ use Rattle.minijinja_code.proofs.codegen.chain.fill_jumps.Given as goal
 abbrev pub invariant-loop-place : goal.invariant-loop-place
 invariant-loop-place g l =
     let made = made_of g.V.TemplateValue.contents in
-    record {
-      same : length (made l.code).code ≡ length (made l.initial.code).code;
-      jumps : jumping (drop l.place-index l.places) l.target (made l.code) ≡ jumping l.places l.target (made l.initial.code);
-    }
+    jumping (drop l.place-index l.places) l.target (made l.code) ≡ jumping l.places l.target (made l.initial.code)

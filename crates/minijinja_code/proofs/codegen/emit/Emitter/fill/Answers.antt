@@ -5,8 +5,8 @@ use Rattle.minijinja_code.specs.Instructions.{instr_of}
 use Rattle.minijinja_code.specs.private.Making.{Made, texts_of}
 use Rattle.minijinja_code.proofs.codegen.emit.Emitter.fill.Goals as goal
 
-pub returns : goal.returns
-returns g c =
+pub returns-in-Some : goal.returns-in-Some
+returns-in-Some g c =
     let i = instr_of g.V.TemplateValue.contents in
     let old = c.args.self.now in
     let with : List (Instr g.V.TemplateValue.Contents) → Made g.V.TemplateValue.Contents = λ code. record { code = code; filters = texts_of old.filters; tests = texts_of old.tests } in
