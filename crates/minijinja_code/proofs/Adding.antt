@@ -1,11 +1,11 @@
 -- How what is added to code is put together of pieces.
-use Rattle.std.proofs.Common.{◌≡◌, ℕ, ◌+◌, ◌-◌, List, [], ◌∷◌, ◌++◌, length, map, take, drop, Option, Some, None, refl, sym, ap, ◌∙◌, subst, arith, append_assoc, length-append}
+use Rattle.std.proofs.Common.{◌≡◌, ℕ, ◌+◌, ◌-◌, List, [], ◌∷◌, ◌++◌, length, map, take, drop, None, refl, sym, ap, ◌∙◌, subst, arith, append_assoc, length-append}
 use Rattle.std.specs.Prelude.{slice_set}
-use Rattle.std.proofs.lemmas.List.{length-set, length-map, map-append}
-use Rattle.std.proofs.Math.Seq.{take-append_seam, drop-append_seam, take-append-add, drop-append-add}
+use Rattle.std.proofs.lemmas.List.{length-set, map-append}
+use Rattle.std.proofs.Math.Seq.{take-append_seam, drop-append_seam}
 use Rattle.minijinja_meaning.specs.Code.{Instr, Jump, JumpIfFalse, JumpIfFalseOrPop, JumpIfTrueOrPop, Iterate}
 use Rattle.minijinja_meaning.specs.Jumps.{target}
-use Rattle.minijinja_meaning.specs.Pieces.{Here, behind, Piece, nothing, one, ◌▸◌, skipping, branches}
+use Rattle.minijinja_meaning.specs.Pieces.{Here, behind, Piece, nothing, one, ◌▸◌, skipping}
 use Rattle.minijinja_code.specs.private.Making.{Made, here_of, followed, hole, capped, Adds, between}
 use Rattle.minijinja_meaning.proofs.Runs.{append_nil}
 

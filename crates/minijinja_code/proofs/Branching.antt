@@ -8,7 +8,7 @@ use Rattle.minijinja_meaning.specs.Code.{Instr, Jump, JumpIfFalse}
 use Rattle.minijinja_meaning.specs.Layout.{expr, optional}
 use Rattle.minijinja_meaning.specs.Pieces.{Here, behind, Piece, one, ◌▸◌, branches}
 use Rattle.minijinja_code.specs.private.Branching.{with_ends, leading_on}
-use Rattle.minijinja_code.specs.private.Leading.{Tested, Begins, Finishes}
+use Rattle.minijinja_code.specs.private.Leading.{Tested, Finishes}
 use Rattle.minijinja_code.specs.private.Making.{Made, here_of, hole, capped, reach, Adds}
 use Rattle.minijinja_code.proofs.Adding.{adds_as, adds_then, adds_filled}
 

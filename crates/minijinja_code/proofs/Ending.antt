@@ -1,5 +1,5 @@
 -- What a public call of a generator answers, by what it added.
-use Rattle.std.proofs.Common.{◌≡◌, ℕ, ◌<◌, ◌≤◌, ◌^◌, ◌++◌, List, Option, Some, None, Result, Ok, Err, length, sym, ap, ◌∙◌, subst}
+use Rattle.std.proofs.Common.{◌≡◌, ◌≤◌, ◌^◌, ◌++◌, Option, Some, None, Result, Ok, Err, length, subst}
 use Rattle.std.specs.Prelude.{IfErr, IfNone, OnOk}
 use Rattle.minijinja_syntax.specs.Errors.{kind_of}
 use Rattle.minijinja_syntax.specs.declared.error.Error.{Error}
@@ -7,7 +7,6 @@ use Rattle.minijinja_syntax.specs.declared.error.ErrorKind.TheVariants.{TooManyI
 use Rattle.minijinja_code.specs.Generator.{OnlyWhereTooLong}
 use Rattle.minijinja_code.specs.private.Making.{Made, here_of, Adds}
 use Rattle.minijinja_code.proofs.Uncapped.{added_length}
-use Rattle.minijinja_meaning.specs.Code.{Instr}
 use Rattle.minijinja_meaning.specs.Pieces.{Piece}
 
 -- what holds of the outcome of making holds where the call went well

@@ -1,6 +1,6 @@
 -- What is added after the leading operand of a node makes the node's code.
-use Rattle.std.proofs.Common.{◌≡◌, ◌≤◌, ℕ, [], ◌∷◌, ◌++◌, true, false, Option, Some, None, length, Result, Ok, Err, refl, sym, ap, ◌∙◌, subst}
-use Rattle.std.specs.Prelude.{OnOk, Bool, if◌then◌else◌, codes, bytes_eq}
+use Rattle.std.proofs.Common.{◌≡◌, ◌≤◌, ℕ, [], ◌∷◌, ◌++◌, true, false, Option, Some, None, length, refl, sym, ap, ◌∙◌, subst}
+use Rattle.std.specs.Prelude.{Bool, if◌then◌else◌, codes, bytes_eq}
 use Rattle.minijinja_syntax.specs.Texts.{Text}
 use Rattle.minijinja_value.specs.Values.{Functions}
 use Rattle.minijinja_tree.specs.Callees.{Callee, function, method, block, object, callee, callee_of_attribute}
@@ -12,9 +12,9 @@ use Rattle.minijinja_tree.specs.WellFormed.{IsWhole, AreArguments, arg_count, mo
 use Rattle.minijinja_meaning.specs.Code.{Load, Do, Call, Apply, BuildList, BuildTuple, BuildMap}
 use Rattle.minijinja_meaning.specs.Events.{ApplyFilter, PerformTest, Lookup, GetAttr, GetItem, Slice, CallFunction, CallMethod, CallObject}
 use Rattle.minijinja_meaning.specs.Layout.{expr, base, operand, optional, items, each, paired, argument_count, call_of, apply_filter, perform_test}
-use Rattle.minijinja_meaning.specs.Pieces.{Here, Piece, nothing, one, ◌▸◌, noted, id_of}
+use Rattle.minijinja_meaning.specs.Pieces.{Piece, nothing, one, ◌▸◌, noted, id_of}
 use Rattle.minijinja_code.specs.private.Calling.{captured}
-use Rattle.minijinja_code.specs.private.Making.{Made, here_of, given, Adds, AddsIf}
+use Rattle.minijinja_code.specs.private.Making.{Made, given, Adds, AddsIf}
 use Rattle.minijinja_code.specs.private.Leading.{After, called_on, leading, test_in, piece_of, Finishes, before_right}
 use Rattle.minijinja_code.specs.private.Operating.{EndsBinary}
 use Rattle.minijinja_code.proofs.Adding.{adds_then, adds_as}

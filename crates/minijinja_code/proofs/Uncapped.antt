@@ -1,18 +1,18 @@
 -- In a list of fewer than 2 ^ 32 instructions nothing is capped.
-use Rattle.std.proofs.Common.{◌≡◌, ℕ, ◌+◌, ◌<◌, ◌≤◌, ◌^◌, List, [], ◌∷◌, ◌++◌, length, map, min, Some, None, refl, sym, ap, ◌∙◌, arith, length-append}
+use Rattle.std.proofs.Common.{◌≡◌, ℕ, ◌+◌, ◌<◌, ◌≤◌, ◌^◌, List, [], ◌∷◌, ◌++◌, length, map, Some, refl, sym, ap, ◌∙◌, arith, length-append}
 use Rattle.std.proofs.lemmas.List.{length-map}
 use Rattle.minijinja_value.specs.Values.{Functions}
 use Rattle.minijinja_tree.specs.Tree.{Expr, Stmt}
 use Rattle.minijinja_meaning.specs.Code.{Instr, Jump, JumpIfFalse, JumpIfFalseOrPop, JumpIfTrueOrPop, Iterate}
 use Rattle.minijinja_meaning.specs.Jumps.{target}
 use Rattle.minijinja_meaning.specs.Layout as layout
-use Rattle.minijinja_meaning.specs.Pieces.{Here, Piece, outside, leading_to}
+use Rattle.minijinja_meaning.specs.Pieces.{Piece, outside}
 use Rattle.minijinja_code.specs.private.Making.{Made, here_of, capped, last_target, reach, Adds}
 use Rattle.minijinja_code.specs.private.Statements.{stmt_piece}
 use Rattle.minijinja_meaning.proofs.Leads.{AllLead, Leads, expr_leads, stmt_leads, target_leads}
 use Rattle.minijinja_meaning.proofs.Lengths.{Exact, exact_to, expr_exact, stmt_exact, target_exact}
 use Rattle.minijinja_meaning.proofs.Runs.{stands_behind}
-use Rattle.std.specs.Prelude.{false, IsTrue}
+use Rattle.std.specs.Prelude.{false}
 
 reach_within : (n : ℕ) → n ≤ last_target → reach n ≡ n
 reach_within n le = omega arith

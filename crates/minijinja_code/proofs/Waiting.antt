@@ -1,16 +1,15 @@
 -- Nodes that wait for their leading operand, while the code of an expression is being made.
-use Rattle.std.proofs.Common.{◌≡◌, ℕ, ◌≤◌, List, [], ◌∷◌, ◌++◌, length, Option, Some, None, true, false, refl, sym, ap, ◌∙◌, subst}
+use Rattle.std.proofs.Common.{◌≡◌, ℕ, ◌≤◌, List, [], ◌∷◌, ◌++◌, length, Option, Some, None, false, sym, subst}
 use Rattle.std.specs.Prelude.{is_some, reverse}
 use Rattle.std.proofs.lemmas.List.{reverse-append}
 use Rattle.minijinja_value.specs.Values.{Functions}
 use Rattle.minijinja_tree.specs.Erasure.{expr_tree}
-use Rattle.minijinja_tree.specs.Tree.{Expr, variable, constant, slice, unary, binary, compare, if_expr, filter, test, attribute, item, call, list, tuple, map}
+use Rattle.minijinja_tree.specs.Tree.{Expr, if_expr}
 use Rattle.minijinja_tree.specs.WellFormed.{IsWhole}
 use Rattle.minijinja_tree.specs.declared.ast.Expr.{size-Expr}
 use Rattle.minijinja_meaning.specs.Layout.{expr}
-use Rattle.minijinja_meaning.specs.Pieces.{nothing, one}
-use Rattle.minijinja_code.specs.private.Making.{Made, Adds, hole}
-use Rattle.minijinja_code.specs.private.Leading.{leading, test_in, piece_of, Ready, Begins, Finishes}
+use Rattle.minijinja_code.specs.private.Making.{Made, Adds}
+use Rattle.minijinja_code.specs.private.Leading.{leading, piece_of, Ready, Begins, Finishes}
 use Rattle.minijinja_code.specs.declared.codegen.expr.Begun.{Begun}
 use Rattle.minijinja_code.proofs.Adding.{adds_nothing}
 

@@ -1,14 +1,14 @@
-use Rattle.std.proofs.Common.{rules, arith, ◌≡◌, ◌+◌, ◌<◌, ◌≤◌, ◌∷◌, [], ◌∙◌, Some, None, length, drop, refl, sym, ap, subst}
+use Rattle.std.proofs.Common.{rules, arith, ◌≡◌, ◌<◌, ◌≤◌, [], ◌∙◌, Some, length, refl, sym, ap, subst}
 use Rattle.std.specs.Prelude.{reverse, IfOk}
-use Rattle.minijinja_tree.specs.Erasure.{unary_op, bin_op, expr_tree, exprs_of, args_of, optional_of}
-use Rattle.minijinja_tree.specs.WellFormed.{IsWhole, AreWhole, AreArguments, arg_count, most_arguments}
+use Rattle.minijinja_tree.specs.Erasure.{bin_op, expr_tree, exprs_of, args_of, optional_of}
+use Rattle.minijinja_tree.specs.WellFormed.{IsWhole, AreArguments, arg_count, most_arguments}
 use Rattle.minijinja_tree.specs.declared.ast.Expr.{size-Expr, the_lemmas}
 use Rattle.minijinja_meaning.specs.Layout.{argument_count, Count, map_count}
 use Rattle.minijinja_meaning.specs.Pieces.{one}
 use Rattle.minijinja_code.specs.private.Leading.{test_in}
-use Rattle.minijinja_code.specs.private.Making.{made_of, Adds, count_of}
+use Rattle.minijinja_code.specs.private.Making.{made_of, count_of}
 use Rattle.minijinja_code.proofs.Adding.{adds_as}
-use Rattle.minijinja_code.proofs.Arms.{slice_arm, unary_arm, binary_arm, if_arm, filter_arm, test_arm, call_arm, list_arm, tuple_arm, map_arm, whole_slice_start, whole_slice_stop, whole_slice_step, whole_filter, whole_test_args, whole_test_few, whole_call_args, whole_call_few, whole_list, whole_tuple, whole_pairs, whole_keys, whole_values}
+use Rattle.minijinja_code.proofs.Arms.{slice_arm, unary_arm, binary_arm, if_arm, filter_arm, test_arm, call_arm, list_arm, tuple_arm, map_arm, whole_slice_stop, whole_slice_step, whole_filter, whole_test_args, whole_test_few, whole_call_args, whole_call_few, whole_list, whole_tuple, whole_pairs, whole_keys, whole_values}
 use Rattle.minijinja_code.proofs.Finishing.{finishes_as, slice_finishes, binary_finishes, filter_finishes, filter_arguments, filter_applied, test_finishes, test_performed, function_finishes, method_finishes, object_finishes, list_loaded, list_finishes, tuple_loaded, tuple_finishes, map_loaded, map_finishes, leading_whole, test_whole}
 use Rattle.minijinja_code.proofs.InOrder.{count_length, leads_whole, leads_on, leads_end, whole_here, whole_after, items_next, items_end, pairs, pairs_next, pairs_end}
 use Rattle.minijinja_code.proofs.Waiting.{Rest, rest_more, rest_less, rest_whole, rest_size, rest_leaf}

@@ -1,9 +1,7 @@
-use Rattle.std.proofs.Common.{◌≡◌, ◌∙◌, ◌++◌, ◌<◌, ◌^◌, List, Ok, length, refl, sym, ap, subst}
+use Rattle.std.proofs.Common.{◌∙◌, ◌<◌, ◌^◌, length, sym, subst}
 use Rattle.minijinja_tree.specs.Erasure.{expr_tree}
-use Rattle.minijinja_meaning.specs.Code.{Instr}
 use Rattle.minijinja_meaning.specs.Layout as layout
-use Rattle.minijinja_code.specs.private.AtGenerator.{generated}
-use Rattle.minijinja_code.specs.private.Making.{made_of, here_of}
+use Rattle.minijinja_code.specs.private.Making.{made_of}
 use Rattle.minijinja_code.proofs.Ending.{outcome_ok, both_ok, if_none, too_long}
 use Rattle.minijinja_code.proofs.Uncapped.{target_uncapped}
 use Rattle.minijinja_code.proofs.Results.{ok_gives}

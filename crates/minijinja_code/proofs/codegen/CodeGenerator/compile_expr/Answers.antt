@@ -1,11 +1,10 @@
-use Rattle.std.proofs.Common.{◌≡◌, ◌∙◌, ◌++◌, ◌<◌, ◌^◌, List, Ok, length, refl, sym, ap, subst}
+use Rattle.std.proofs.Common.{◌∙◌, ◌<◌, ◌^◌, List, length, refl, sym, subst}
 use Rattle.minijinja_tree.specs.Erasure.{expr_tree}
 use Rattle.minijinja_meaning.specs.Code.{Instr}
 use Rattle.minijinja_meaning.specs.Correct.{DoesExpr}
 use Rattle.minijinja_meaning.specs.Laws.{Laws}
 use Rattle.minijinja_meaning.proofs.Whole.{expression_does}
 use Rattle.minijinja_meaning.specs.Layout as layout
-use Rattle.minijinja_code.specs.private.AtGenerator.{generated}
 use Rattle.minijinja_code.specs.private.Making.{made_of, here_of}
 use Rattle.minijinja_code.proofs.Ending.{outcome_ok, both_ok, if_none, too_long}
 use Rattle.minijinja_code.proofs.Uncapped.{expr_uncapped}

@@ -1,10 +1,9 @@
-use Rattle.std.proofs.Common.{◌≡◌, ◌∙◌, ◌++◌, ◌<◌, ◌^◌, List, Result, Ok, length, refl, sym, ap, subst}
+use Rattle.std.proofs.Common.{◌∙◌, ◌<◌, ◌^◌, List, Result, Ok, length, refl, sym, subst}
 use Rattle.minijinja_tree.specs.Erasure.{stmt_tree}
 use Rattle.minijinja_meaning.specs.Code.{Instr}
 use Rattle.minijinja_meaning.specs.Correct.{DoesStmt}
 use Rattle.minijinja_meaning.specs.Laws.{Laws}
 use Rattle.minijinja_meaning.proofs.Whole.{statement_does}
-use Rattle.minijinja_code.specs.private.AtGenerator.{generated}
 use Rattle.minijinja_code.specs.private.Making.{made_of, here_of}
 use Rattle.minijinja_code.specs.private.Statements.{stmt_piece}
 use Rattle.minijinja_code.specs.declared.codegen.memory.OutOfMemory.{OutOfMemory}
