@@ -1,5 +1,3 @@
-pub mod InstructionLists
-pub mod Instructions
 pub mod Hint
 pub mod Generator
 pub mod private

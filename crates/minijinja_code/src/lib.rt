@@ -2,4 +2,5 @@
 #![tactic(auto)]
 
 pub mod codegen;
-pub mod instructions;
+
+pub use minijinja_instructions::instructions;

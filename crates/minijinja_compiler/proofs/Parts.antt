@@ -9,7 +9,7 @@ use Rattle.minijinja_parser.specs.Causes.{IsRefusal}
 use Rattle.minijinja_compiler.specs.Headline.{IsLimit}
 use Rattle.minijinja_code.specs.Generator.{OnlyWhereTooLong}
 use Rattle.minijinja_meaning.specs.Code.{Instr}
-use Rattle.minijinja_code.specs.InstructionLists.{IsAddError}
+use Rattle.minijinja_instructions.specs.InstructionLists.{IsAddError}
 use Rattle.minijinja_meaning.specs.Pieces.{Here, start}
 use Rattle.minijinja_code.specs.Hint.{IsHint}
 

@@ -11,14 +11,14 @@ use Rattle.minijinja_lexer.specs.Stream.{IsNamed}
 use Rattle.minijinja_tree.specs.SpannedTrees.{Expr, Stmt, bare_expr, bare_stmt}
 use Rattle.minijinja_parser.specs.Causes.{IsRefusal}
 use Rattle.minijinja_parser.specs.Derived.{IsDerived, IsExprDerived}
-use Rattle.minijinja_code.specs.Instructions.{code_of}
+use Rattle.minijinja_instructions.specs.Instructions.{code_of}
 use Rattle.minijinja_meaning.specs.Pieces.{start}
 use Rattle.minijinja_meaning.specs.Layout.{expr_code, stmt_code}
 use Rattle.minijinja_meaning.specs.Correct.{DoesExpr, DoesStmt}
 use Rattle.minijinja_meaning.specs.Jumps.{LeadsWell}
 use Rattle.minijinja_code.specs.Hint.{IsHint, data_bytes}
-use Rattle.minijinja_code.specs.InstructionLists.{name_of, source_of}
-use Rattle.minijinja_code.specs.declared.instructions.Instructions.{Instructions}
+use Rattle.minijinja_instructions.specs.InstructionLists.{name_of, source_of}
+use Rattle.minijinja_instructions.specs.declared.instructions.Instructions.{Instructions}
 use Rattle.minijinja_compiler.specs.declared.compile.Compiled.{Compiled}
 
 -- There is one tree that the grammar derives of the text. The code is its layout, whatever the spans of its nodes. Entered at

@@ -5,7 +5,7 @@ use Rattle.minijinja_value.specs.Values.{Functions}
 use Rattle.minijinja_tree.specs.Operators.{Working, Makes, Divides, IfTrue, IfFalse}
 use Rattle.minijinja_meaning.specs.Events.{Div}
 use Rattle.minijinja_meaning.specs.Code.{Instr, Do, Load, Operate, Swap, Jump, JumpIfFalse, JumpIfFalseOrPop, JumpIfTrueOrPop, Iterate}
-use Rattle.minijinja_code.specs.Instructions.{instr_of}
+use Rattle.minijinja_instructions.specs.Instructions.{instr_of}
 use Rattle.minijinja_tree.specs.Folding.{constant_keywords, fold_keywords}
 use Rattle.minijinja_tree.specs.Tree.{Args}
 use Rattle.minijinja_meaning.specs.Layout.{arguments, positional, keyword, folded, merged, count_keyword}

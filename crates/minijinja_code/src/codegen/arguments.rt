@@ -13,8 +13,8 @@ use super::emit::Emitter;
 use super::expr::expression;
 use super::literals::load;
 use super::memory::OutOfMemory;
-use crate::instructions::Instruction;
 use minijinja_base::value::TemplateValue;
+use minijinja_instructions::instructions::Instruction;
 use minijinja_tree::ast::CallArg;
 use minijinja_tree::constants::constant_kwargs;
 

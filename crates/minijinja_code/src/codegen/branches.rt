@@ -12,8 +12,8 @@ use super::emit::Emitter;
 use super::expr::expression;
 use super::literals::load_undefined;
 use super::memory::OutOfMemory;
-use crate::instructions::Instruction;
 use minijinja_base::value::TemplateValue;
+use minijinja_instructions::instructions::Instruction;
 use minijinja_tree::ast::{Expr, IfExpr};
 
 /// Adds what comes after the true part of an if expression, whose test jumps from a place. An else part that is an if expression

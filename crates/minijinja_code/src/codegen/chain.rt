@@ -5,7 +5,7 @@ ghost use Rattle.minijinja_tree.specs.WellFormed.{IsWhole};
 ghost use Rattle.minijinja_meaning.specs.Code.{Instr, Load, CompareAndPreserve};
 ghost use Rattle.minijinja_meaning.specs.Layout.{comparison};
 ghost use Rattle.minijinja_meaning.specs.Pieces.{one, ◌▸◌, leading_to};
-ghost use Rattle.minijinja_code.specs.Instructions.{compared_by};
+ghost use Rattle.minijinja_instructions.specs.Instructions.{compared_by};
 ghost use Rattle.minijinja_code.specs.private.Comparing.{ahead, after_one, known, jumping, leaving, places_of, Closes, Holds, Leads};
 ghost use Rattle.minijinja_code.specs.private.Leading.{Finishes};
 ghost use Rattle.minijinja_code.specs.private.Making.{made_of, followed, alone, between, hole, reach, Adds};
@@ -13,8 +13,8 @@ ghost use Rattle.minijinja_code.specs.private.Making.{made_of, followed, alone, 
 use super::emit::Emitter;
 use super::expr::expression;
 use super::memory::OutOfMemory;
-use crate::instructions::{CompareOp as Operator, Instruction};
 use minijinja_base::value::TemplateValue;
+use minijinja_instructions::instructions::{CompareOp as Operator, Instruction};
 use minijinja_tree::ast::{Compare, CompareOp, CompareOpKind};
 use std::alloc::Global;
 

@@ -3,14 +3,14 @@ ghost use Rattle.std.specs.Prelude.{◌≡◌, ◌≤◌, ◌++◌, map, [], ◌
 ghost use Rattle.std.specs.Option.{option_map};
 ghost use Rattle.minijinja_meaning.specs.Code.{Load};
 ghost use Rattle.minijinja_meaning.specs.Jumps.{target};
-ghost use Rattle.minijinja_code.specs.Instructions.{instr_of};
+ghost use Rattle.minijinja_instructions.specs.Instructions.{instr_of};
 ghost use Rattle.minijinja_code.specs.private.Making.{made_of, here_of, reach, hole, alone, between, loaded_by, with_last, Adds};
 ghost use Rattle.minijinja_meaning.specs.Pieces.{start, one, id_of, noted};
 
 use super::memory::OutOfMemory;
 use super::names::Names;
-use crate::instructions::{Instruction, LocalId};
 use minijinja_base::value::TemplateValue;
+use minijinja_instructions::instructions::{Instruction, LocalId};
 use std::alloc::Global;
 
 /// The instructions of a unit that is being made, with the names of filters and tests in them. Their number is looked at once

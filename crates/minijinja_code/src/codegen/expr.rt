@@ -15,8 +15,8 @@ use super::leading::{has_leading_operand, leading_operand, test_of};
 use super::literals::{load_constant, load_list, load_map, load_none, load_tuple};
 use super::memory::OutOfMemory;
 use super::operators::{begin_right, end_binary, end_unary};
-use crate::instructions::{CaptureMode, Instruction};
 use minijinja_base::value::TemplateValue;
+use minijinja_instructions::instructions::{CaptureMode, Instruction};
 use minijinja_tree::ast::{CallType, Expr};
 
 /// A node whose code has begun, and the place where its code, or the jump of its test, stands.

@@ -9,8 +9,8 @@ ghost use Rattle.minijinja_code.specs.private.Making.{made_of, Adds, AddsIf};
 
 use super::emit::Emitter;
 use super::memory::OutOfMemory;
-use crate::instructions::Instruction;
 use minijinja_base::value::TemplateValue;
+use minijinja_instructions::instructions::Instruction;
 use minijinja_tree::ast::{Const, List, Map, Tuple};
 
 /// Loads a copy of a constant.

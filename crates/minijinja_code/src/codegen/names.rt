@@ -2,7 +2,7 @@
 ghost use Rattle.std.specs.Prelude.{◌≡◌, ◌≤◌, vec_len, IfOk, OnOk};
 
 use super::memory::OutOfMemory;
-use crate::instructions::{LocalId, MAX_LOCALS};
+use minijinja_instructions::instructions::{LocalId, MAX_LOCALS};
 use std::alloc::Global;
 
 /// The names of filters, or of tests, that have an id of their own, in the order of their first use.

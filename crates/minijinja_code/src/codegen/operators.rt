@@ -9,7 +9,7 @@ ghost use Rattle.minijinja_tree.specs.Tree.{Expr};
 ghost use Rattle.minijinja_tree.specs.WellFormed.{IsWhole};
 ghost use Rattle.minijinja_meaning.specs.Jumps as Jumps;
 ghost use Rattle.minijinja_meaning.specs.Layout.{unary_instr};
-ghost use Rattle.minijinja_code.specs.Instructions.{instr_of};
+ghost use Rattle.minijinja_instructions.specs.Instructions.{instr_of};
 ghost use Rattle.minijinja_code.specs.private.Leading.{Finishes, before_right};
 ghost use Rattle.minijinja_code.specs.private.Making as spec;
 ghost use Rattle.minijinja_code.specs.private.Making.{made_of, jump_of, operator_of, Adds};
@@ -17,8 +17,8 @@ ghost use Rattle.minijinja_code.specs.private.Operating.{EndsBinary, known_betwe
 
 use super::emit::Emitter;
 use super::memory::OutOfMemory;
-use crate::instructions::Instruction;
 use minijinja_base::value::TemplateValue;
+use minijinja_instructions::instructions::Instruction;
 use minijinja_tree::ast::{BinOpKind, UnaryOpKind};
 
 /// Adds an operator of one side after its operand, which stands from a place on; what it makes of a constant stands in place of

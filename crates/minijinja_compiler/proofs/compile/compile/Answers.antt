@@ -7,7 +7,7 @@ use Rattle.minijinja_tree.proofs.Bare.{stmt_is}
 use Rattle.minijinja_meaning.specs.Jumps.{LeadsWell}
 use Rattle.minijinja_meaning.specs.Pieces.{start}
 use Rattle.minijinja_meaning.proofs.Leads.{layout_leads_well}
-use Rattle.minijinja_code.specs.Instructions.{code_of}
+use Rattle.minijinja_instructions.specs.Instructions.{code_of}
 use Rattle.minijinja_meaning.specs.Layout.{stmt_code}
 use Rattle.minijinja_meaning.specs.Correct.{DoesStmt}
 use Rattle.minijinja_code.specs.private.AtGenerator.{generated, here_so_far}

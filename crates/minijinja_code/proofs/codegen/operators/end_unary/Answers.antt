@@ -2,7 +2,7 @@ use Rattle.std.proofs.Common.{sym, ap, ◌∙◌}
 use Rattle.std.specs.Option.{option_map}
 use Rattle.minijinja_tree.specs.Erasure.{unary_op}
 use Rattle.minijinja_meaning.specs.Pieces.{one}
-use Rattle.minijinja_code.specs.Instructions.{instr_of}
+use Rattle.minijinja_instructions.specs.Instructions.{instr_of}
 use Rattle.minijinja_code.specs.private.Making.{made_of, Adds}
 use Rattle.minijinja_code.proofs.Adding.{adds_as}
 use Rattle.minijinja_code.proofs.Operators.{unary_given, unary_faults, unary_unknown}

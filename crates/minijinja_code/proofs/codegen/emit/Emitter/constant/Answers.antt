@@ -1,6 +1,6 @@
 use Rattle.std.proofs.Common.{length, map, sym, ap, ◌∙◌, arith}
 use Rattle.std.proofs.lemmas.List.{length-map}
-use Rattle.minijinja_code.specs.Instructions.{instr_of}
+use Rattle.minijinja_instructions.specs.Instructions.{instr_of}
 use Rattle.minijinja_code.specs.private.Making.{alone, between}
 use Rattle.minijinja_code.proofs.Constants.{apart_not_alone, next_alone}
 use Rattle.minijinja_code.proofs.codegen.emit.Emitter.constant.Goals as goal

@@ -1,7 +1,7 @@
 use Rattle.std.proofs.Common.{List, map, ap, sym, ◌∙◌}
 use Rattle.std.proofs.lemmas.List.{take-map}
 use Rattle.minijinja_meaning.specs.Code.{Instr}
-use Rattle.minijinja_code.specs.Instructions.{instr_of}
+use Rattle.minijinja_instructions.specs.Instructions.{instr_of}
 use Rattle.minijinja_code.specs.private.Making.{Made, made_of}
 use Rattle.minijinja_code.proofs.codegen.emit.Emitter.cut.Goals as goal
 

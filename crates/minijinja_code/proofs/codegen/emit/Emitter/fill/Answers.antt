@@ -1,7 +1,7 @@
 use Rattle.std.proofs.Common.{List, ap}
 use Rattle.std.proofs.lemmas.List.{map-set}
 use Rattle.minijinja_meaning.specs.Code.{Instr}
-use Rattle.minijinja_code.specs.Instructions.{instr_of}
+use Rattle.minijinja_instructions.specs.Instructions.{instr_of}
 use Rattle.minijinja_code.specs.private.Making.{Made, texts_of}
 use Rattle.minijinja_code.proofs.codegen.emit.Emitter.fill.Goals as goal
 

@@ -1,6 +1,6 @@
 use Rattle.std.proofs.Common.{List, ap}
 use Rattle.minijinja_meaning.specs.Code.{Instr}
-use Rattle.minijinja_code.specs.Instructions.{instr_of}
+use Rattle.minijinja_instructions.specs.Instructions.{instr_of}
 use Rattle.minijinja_code.specs.private.Making.{Made, made_of}
 use Rattle.minijinja_code.proofs.Operators.{last_kept}
 use Rattle.minijinja_code.proofs.codegen.emit.Emitter.keep_last.Goals as goal

@@ -1,8 +1,8 @@
 use Rattle.std.proofs.Common.{List, [], ◌∷◌, ◌++◌, ap, sym, ◌∙◌, map, take}
 use Rattle.std.proofs.lemmas.List.{map-append, take-map}
 use Rattle.minijinja_meaning.specs.Code.{Instr}
-use Rattle.minijinja_code.specs.Instructions.{instr_of}
-use Rattle.minijinja_code.specs.declared.instructions.Instruction.TheVariants.{LoadConst}
+use Rattle.minijinja_instructions.specs.Instructions.{instr_of}
+use Rattle.minijinja_instructions.specs.declared.instructions.Instruction.TheVariants.{LoadConst}
 use Rattle.minijinja_code.specs.private.Making.{Made, texts_of}
 use Rattle.minijinja_code.proofs.codegen.emit.Emitter.replace.Goals as goal
 

@@ -4,8 +4,8 @@ use Rattle.minijinja_syntax.specs.Texts.{Text}
 use Rattle.minijinja_syntax.specs.Errors.{kind_of}
 use Rattle.minijinja_syntax.specs.declared.error.Error.{Error}
 use Rattle.minijinja_syntax.specs.declared.error.ErrorKind.TheVariants.{OutOfMemory, TooManyInstructions}
-use Rattle.minijinja_code.specs.declared.instructions.Instruction.{Instruction}
-use Rattle.minijinja_code.specs.declared.instructions.Instructions.{Instructions}
+use Rattle.minijinja_instructions.specs.declared.instructions.Instruction.{Instruction}
+use Rattle.minijinja_instructions.specs.declared.instructions.Instructions.{Instructions}
 
 abbrev pub instructions_of : {V F : Type 0} → Instructions V F → List (Instruction V F)
 instructions_of code = code.instructions.items

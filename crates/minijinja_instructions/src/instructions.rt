@@ -1,12 +1,12 @@
 //! Instructions, and lists of them.
 ghost use Rattle.std.specs.Prelude.{◌≡◌, ◌+◌, ◌≤◌, ◌<◌, ◌^◌, ◌==◌, ◌++◌, ◌∷◌, [], ◌↔◌, length, slice_get, IfOk, IfErr, OnOk, OnErr, IsErr, Option};
 ghost use Rattle.std.specs.Option.{option_copied, option_copied_mut};
-ghost use Rattle.minijinja_syntax.specs.Errors as Errors;
-ghost use Rattle.minijinja_syntax.specs.Errors.{kind_of, span_of};
+ghost use Rattle.minijinja_syntax.specs.Errors.{kind_of};
 ghost use Rattle.minijinja_syntax.specs.declared.error.ErrorKind.TheVariants.{OutOfMemory, TooManyInstructions};
-ghost use Rattle.minijinja_code.specs.InstructionLists.{instructions_of, name_of, source_of, IsAddError};
+ghost use Rattle.minijinja_instructions.specs.InstructionLists.{instructions_of, name_of, source_of, IsAddError};
 
-use minijinja_base::error::{Detail, Error, ErrorKind};
+use crate::lists::{LIMIT, too_many};
+use minijinja_base::error::Error;
 use minijinja_base::value::{TemplateValue, Value};
 use std::alloc::Global;
 
@@ -143,15 +143,12 @@ pub enum Instruction<'s, V: TemplateValue = Value> {
     CallBlock(&'s str),
 }
 
-/// How many instructions a list may not reach.
-pub(crate) const LIMIT: usize = 1 << 32;
-
 /// A list of instructions, with the name and the text of the source that they come from. It has fewer than 2^32.
 #[derive(Drop)]
 pub struct Instructions<'s, V: TemplateValue = Value> {
-    instructions: Vec<Instruction<'s, V>>,
-    name: &'s str,
-    source: &'s str,
+    pub(crate) instructions: Vec<Instruction<'s, V>>,
+    pub(crate) name: &'s str,
+    pub(crate) source: &'s str,
 }
 
 impl<'s, V: TemplateValue> Instructions<'s, V> {
@@ -232,7 +229,7 @@ impl<'s, V: TemplateValue> Instructions<'s, V> {
 }
 
 /// Adds an instruction to a list, with the same refusals.
-pub(crate) fn push_within<'s, V: TemplateValue>(
+fn push_within<'s, V: TemplateValue>(
     list: &mut Vec<Instruction<'s, V>>,
     instruction: Instruction<'s, V>,
 ) -> Result<(), Error<'static>>
@@ -250,35 +247,4 @@ pub(crate) fn push_within<'s, V: TemplateValue>(
     }
     list.push(instruction)?;
     Ok(())
-}
-
-/// The refusal of a list that would have 2^32 instructions or more.
-pub(crate) fn too_many() -> Error<'static>
-    ensures kind { kind_of result ≡ TooManyInstructions }
-    ensures name { Errors.name_of result ≡ None }
-    ensures span { span_of result ≡ None }
-{
-    Error::new(
-        ErrorKind::TooManyInstructions,
-        Detail::TooManyInstructions,
-        None,
-        None,
-    )
-}
-
-/// A list of these instructions, which are fewer than 2^32.
-pub(crate) fn listed<'s, V: TemplateValue>(
-    instructions: Vec<Instruction<'s, V>>,
-    name: &'s str,
-    source: &'s str,
-) -> Instructions<'s, V>
-    ensures instructions { instructions_of result ≡ instructions.entry.items }
-    ensures name { name_of result ≡ name.now }
-    ensures source { source_of result ≡ source.now }
-{
-    Instructions {
-        instructions,
-        name,
-        source,
-    }
 }

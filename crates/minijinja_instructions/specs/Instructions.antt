@@ -5,14 +5,14 @@ use Rattle.minijinja_meaning.specs.Events as event
 use Rattle.minijinja_tree.specs.Operators as operator
 use Rattle.minijinja_meaning.specs.Code as code
 use Rattle.minijinja_meaning.specs.Code.{Instr}
-use Rattle.minijinja_code.specs.InstructionLists.{instructions_of}
-use Rattle.minijinja_code.specs.declared.instructions.CaptureMode.{CaptureMode}
-use Rattle.minijinja_code.specs.declared.instructions.CaptureMode.TheVariants as capture_mode
-use Rattle.minijinja_code.specs.declared.instructions.CompareOp.{CompareOp}
-use Rattle.minijinja_code.specs.declared.instructions.CompareOp.TheVariants as compare_op
-use Rattle.minijinja_code.specs.declared.instructions.Instruction.{Instruction}
-use Rattle.minijinja_code.specs.declared.instructions.Instruction.TheVariants.{EmitRaw, StoreLocal, Lookup, GetAttr, GetItem, Slice, LoadConst, BuildMap, BuildKwargs, MergeKwargs, BuildList, BuildTuple, UnpackLists, Add, Sub, Mul, Div, IntDiv, Rem, Pow, Neg, Eq, Ne, Gt, Gte, Lt, Lte, Not, StringConcat, In, CompareAndPreserve, ApplyFilter, PerformTest, Emit, Jump, JumpIfFalse, JumpIfFalseOrPop, JumpIfTrueOrPop, BeginCapture, EndCapture, CallFunction, CallMethod, CallObject, DupTop, DiscardTop, FastSuper, FastRecurse, Swap, CallBlock}
-use Rattle.minijinja_code.specs.declared.instructions.Instructions.{Instructions}
+use Rattle.minijinja_instructions.specs.InstructionLists.{instructions_of}
+use Rattle.minijinja_instructions.specs.declared.instructions.CaptureMode.{CaptureMode}
+use Rattle.minijinja_instructions.specs.declared.instructions.CaptureMode.TheVariants as capture_mode
+use Rattle.minijinja_instructions.specs.declared.instructions.CompareOp.{CompareOp}
+use Rattle.minijinja_instructions.specs.declared.instructions.CompareOp.TheVariants as compare_op
+use Rattle.minijinja_instructions.specs.declared.instructions.Instruction.{Instruction}
+use Rattle.minijinja_instructions.specs.declared.instructions.Instruction.TheVariants.{EmitRaw, StoreLocal, Lookup, GetAttr, GetItem, Slice, LoadConst, BuildMap, BuildKwargs, MergeKwargs, BuildList, BuildTuple, UnpackLists, Add, Sub, Mul, Div, IntDiv, Rem, Pow, Neg, Eq, Ne, Gt, Gte, Lt, Lte, Not, StringConcat, In, CompareAndPreserve, ApplyFilter, PerformTest, Emit, Jump, JumpIfFalse, JumpIfFalseOrPop, JumpIfTrueOrPop, BeginCapture, EndCapture, CallFunction, CallMethod, CallObject, DupTop, DiscardTop, FastSuper, FastRecurse, Swap, CallBlock}
+use Rattle.minijinja_instructions.specs.declared.instructions.Instructions.{Instructions}
 
 -- a comparison of a chain
 abbrev pub compared_by : CompareOp → cmp.CompareOp

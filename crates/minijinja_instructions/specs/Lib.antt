@@ -1,0 +1,2 @@
+pub mod InstructionLists
+pub mod Instructions

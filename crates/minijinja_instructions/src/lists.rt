@@ -1,0 +1,44 @@
+//! What makes lists of instructions, for the crates that make code.
+ghost use Rattle.std.specs.Prelude.{◌≡◌, None};
+ghost use Rattle.minijinja_syntax.specs.Errors as Errors;
+ghost use Rattle.minijinja_syntax.specs.Errors.{kind_of, span_of};
+ghost use Rattle.minijinja_syntax.specs.declared.error.ErrorKind.TheVariants.{TooManyInstructions};
+ghost use Rattle.minijinja_instructions.specs.InstructionLists.{instructions_of, name_of, source_of};
+
+use crate::instructions::{Instruction, Instructions};
+use minijinja_base::error::{Detail, Error, ErrorKind};
+use minijinja_base::value::TemplateValue;
+
+/// How many instructions a list may not reach.
+pub const LIMIT: usize = 1 << 32;
+
+/// The refusal of a list that would have 2^32 instructions or more.
+pub fn too_many() -> Error<'static>
+    ensures kind { kind_of result ≡ TooManyInstructions }
+    ensures name { Errors.name_of result ≡ None }
+    ensures span { span_of result ≡ None }
+{
+    Error::new(
+        ErrorKind::TooManyInstructions,
+        Detail::TooManyInstructions,
+        None,
+        None,
+    )
+}
+
+/// A list of these instructions, which are fewer than 2^32.
+pub fn listed<'s, V: TemplateValue>(
+    instructions: Vec<Instruction<'s, V>>,
+    name: &'s str,
+    source: &'s str,
+) -> Instructions<'s, V>
+    ensures instructions { instructions_of result ≡ instructions.entry.items }
+    ensures name { name_of result ≡ name.now }
+    ensures source { source_of result ≡ source.now }
+{
+    Instructions {
+        instructions,
+        name,
+        source,
+    }
+}
