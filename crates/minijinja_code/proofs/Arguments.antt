@@ -20,6 +20,7 @@ use Rattle.minijinja_meaning.proofs.Arguments.{AllCounted, all_counted, one_map,
 use Rattle.minijinja_meaning.proofs.FoldedCode.{folded_some, folded_none}
 use Rattle.minijinja_meaning.proofs.Runs.{append_nil}
 use Rattle.minijinja_code.proofs.Adding.{adds_then, adds_as, adds_nothing}
+use Rattle.minijinja_code.proofs.InOrder.{Leads}
 
 -- The batches: how they are closed, merged and spread.
 
@@ -118,10 +119,6 @@ pub element_size : {X : Type 0} (measure : X → ℕ) (xs : List X) (i : ℕ) (x
 element_size measure xs i x within e = subst (λ y. measure y ≤ most measure xs) (sym e) (at_most measure xs i x within)
 
 module _ {C : Type 0} where
-  -- what is left to add to this leads to the whole, added to that
-  pub record Leads (a now : Made C) (rest whole : Piece C) : Type 0 where
-    pub adds : (c : Made C) → Adds now c rest → Adds a c whole
-
   -- one piece, and what stands after it
   adds_one : {a b c : Made C} (p r : Piece C) → Adds a b (p ▸ nothing) → Adds b c r → Adds a c (p ▸ r)
   adds_one {a} {b} p r s t =
