@@ -148,6 +148,7 @@ impl<'s, 'c> Tokens for TokenStream<'s, 'c> {
 
     /// Refuses at once where memory was refused for the token after the one taken.
     #[tactic(auto, unfolding(minijinja_grammar::specs::Forms::reads))]
+    #[inline(always)]
     fn take(&mut self, wanted: Wanted) -> Result<(Token<'s>, Span), Refusal>
         ensures read { Reads spanned_tok (reads (one Some) self.old) result self.new }
         ensures between { IfOk result (λ t. IsBetweenChars self.old.source t.1) }
@@ -167,6 +168,7 @@ impl<'s, 'c> Tokens for TokenStream<'s, 'c> {
     }
 
     #[tactic(auto, using(crate::proofs::Taking::next_is))]
+    #[inline(always)]
     fn expect(&mut self, mark: Mark) -> Result<Span, Refusal> {
         let (token, span) = self.take(Wanted::Mark(mark))?;
         if !is_mark(&token, mark) {
