@@ -64,6 +64,7 @@ impl<'s, V: TemplateValue> Emitter<'s, V> {
     }
 
     /// Adds an instruction that leads nowhere else.
+    #[inline(always)]
     pub(super) fn add(&mut self, instruction: Instruction<'s, V>) -> Result<(), OutOfMemory>
         requires { target (instr_of V.contents instruction) ≡ None }
         ensures { OnOk result (Adds (made_of V.contents self.old) (made_of V.contents self.new)

@@ -10,6 +10,7 @@ use minijinja_base::value::TemplateValue;
 use minijinja_tree::ast::{Call, CallType, Expr};
 
 /// Whether a node's code begins with that of an operand, or of an if expression with its test and then that of its true part.
+#[inline(always)]
 pub(super) fn has_leading_operand<V: TemplateValue>(node: &Expr<'_, V>) -> bool
     ensures { result ≡ is_some (leading (expr_tree V.contents node.now)) }
 {
@@ -45,6 +46,7 @@ fn is_called_on<V: TemplateValue>(call: &Call<'_, V>) -> bool
 }
 
 /// That operand, or the true part of an if expression.
+#[inline(always)]
 pub(super) fn leading_operand<'a, 's, V: TemplateValue>(node: &'a Expr<'s, V>) -> &'a Expr<'s, V>
     requires { is_some (leading (expr_tree V.contents node.now)) ≡ true }
     ensures operand { leading (expr_tree V.contents node.now) ≡ Some
