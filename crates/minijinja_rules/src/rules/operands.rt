@@ -23,6 +23,7 @@ impl<
 > Rules<N, F> {
     /// A primary and what follows it, after any number of `-`.
     #[tactic(auto, using(crate::proofs::Postfixes::operand_is))]
+    #[inline(always)]
     pub(crate) fn operand(&self, tokens: &mut N::Input) -> Result<N::Expr, Refusal>
         requires { Nests N.Input.place N.tree N.functions self.now.depth F.pre F.post self.now.expr }
         ensures { Parses N.Input.place N.tree (form.operand N.functions (expr_at N.functions
