@@ -26,7 +26,8 @@ pub fn too_many() -> Error<'static>
     )
 }
 
-/// A list of these instructions, which are fewer than 2^32.
+/// A list of these instructions. How many they are is not asked here: who makes code sees to it that they are fewer than
+/// [`LIMIT`].
 pub fn listed<'s, V: TemplateValue>(
     instructions: Vec<Instruction<'s, V>>,
     name: &'s str,
