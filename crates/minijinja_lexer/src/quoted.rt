@@ -46,7 +46,7 @@ fn quoted_inside(inside: &[u8], len: usize) -> Result<(Sort, usize), (Fault, usi
 }
 
 /// The string at the front and its length, or why it is refused and how many bytes on.
-#[inline(never)]
+#[inline]
 pub(crate) fn quoted(text: &str) -> Result<(Sort, usize), (Fault, usize)>
     requires { IsTrue (spec.is_quote (slice_index text.now 0)) }
     ensures value { scan_view result ≡ spec.quoted text.now }

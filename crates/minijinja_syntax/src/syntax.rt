@@ -523,6 +523,7 @@ impl SyntaxConfig {
 
     /// The next start marker at or after the byte `offset`: how many bytes after it, the marker, and its length in
     /// bytes without control. The leftmost eligible one; at one place the longest. It takes no memory.
+    #[inline(always)]
     pub fn find_marker(&self, source: &str, offset: usize) -> Option<(usize, StartMarker, usize)>
         requires { offset ≤ length source.now }
         ensures value { result ≡ found_marker self.now source.now offset }
