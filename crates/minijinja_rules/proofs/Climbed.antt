@@ -13,7 +13,7 @@ use Rattle.minijinja_tree.specs.declared.ast.BinOpKind.{BinOpKind}
 use Rattle.minijinja_grammar.specs.Grammar.{expanded}
 use Rattle.minijinja_tree.specs.declared.ast.BinOpKind.TheVariants as op
 use Rattle.minijinja_grammar.specs.Words.{is, not_word, begins_comparison}
-use Rattle.minijinja_grammar.specs.Forms.{Place, Form, one, comes, start_at, got, read_then, reads}
+use Rattle.minijinja_grammar.specs.Forms.{Place, Form, Read, comes, start_at, got, read_then, read_one, reads}
 use Rattle.minijinja_grammar.specs.private.Climbing.{Row, binaries, comparing, Infix, binary_of, comparing_of, or_else, infix_in, next_infix, first_of, rest_of, level_of, operation, comparisons}
 use Rattle.minijinja_grammar.proofs.Climbing.{level_first, rest_over, rest_next}
 use Rattle.minijinja_stream.specs.private.Levels.{rows, tighter, has_not, operator_of, if_as_tight, infix_of, next_operator}
@@ -21,6 +21,7 @@ use Rattle.minijinja_stream.specs.declared.operators.Level.{Level}
 use Rattle.minijinja_stream.specs.declared.operators.Level.TheVariants.{Or, And, Not, Sum, Cat, Term, Pow, Operand}
 use Rattle.minijinja_stream.specs.declared.operators.Operator.{Operator}
 use Rattle.minijinja_stream.specs.declared.operators.Operator.TheVariants.{Binary, Comparison}
+use Rattle.minijinja_stream.specs.private.Reads.{skipped}
 use Rattle.minijinja_stream.proofs.Turned.{read_no_longer}
 
 -- ---- the operator that comes, as the grammar has it
@@ -135,9 +136,16 @@ module _ {C : Type 0} (operand : Form (Expr C)) where
   -- ---- an operation
 
   pub binary_is : (b : BinOpKind) (k : Level) (from before : Span) (x : Expr C) (p : Place) → operation operand (infix_of (Binary b k)) from before x p ≡
-      read_then (reads (one Some) p) (λ t q. read_then (reads (level_of operand (rows (tighter k))) q) (λ r s. got (binary (bin_op b) x r (expanded from s.last)) s))
-  unfolding operation
-  binary_is b k from before x p = refl
+      read_then (skipped p) (λ t q. read_then (reads (level_of operand (rows (tighter k))) q) (λ r s. got (binary (bin_op b) x r (expanded from s.last)) s))
+  unfolding operation reads
+  binary_is b k from before x p = go p.tokens
+    where
+      right : Place → Read (Expr C)
+      right q = read_then (reads (level_of operand (rows (tighter k))) q) (λ r s. got (binary (bin_op b) x r (expanded from s.last)) s)
+
+      go : (ts : List SpannedTok) → read_then (read_one Some p ts) (λ t q. right q) ≡ read_then (read_one (λ t. Some t.1) p ts) (λ s q. right q)
+      go [] = refl
+      go (t ∷ ts) = refl
 
   pub comparing_is : (from before : Span) (x : Expr C) (p : Place) → operation operand (infix_of Comparison) from before x p ≡ reads (comparisons (level_of operand (rows Sum)) before x) p
   unfolding operation

@@ -1,13 +1,13 @@
 -- What follows an operand, a step at a time.
-use Rattle.std.proofs.Common.{◌≡◌, ◌∙◌, false, [], ◌∷◌, if◌then◌else◌, Option, None, Err, refl, ap}
+use Rattle.std.proofs.Common.{◌≡◌, ◌∙◌, false, [], ◌∷◌, if◌then◌else◌, Option, Some, None, Err, refl, ap}
 use Rattle.minijinja_value.specs.Values.{Functions}
-use Rattle.minijinja_syntax.specs.Tokens.{Tok, bracket_close, bracket_open, colon, dot, paren_open}
+use Rattle.minijinja_syntax.specs.Tokens.{Tok, brace_close, bracket_close, bracket_open, colon, comma, dot, paren_close, paren_open}
 use Rattle.minijinja_syntax.specs.declared.tokens.Span.{Span}
 use Rattle.minijinja_tree.specs.Tree.{logical_not}
 use Rattle.minijinja_tree.specs.SpannedTrees as tree
-use Rattle.minijinja_tree.specs.SpannedTrees.{Expr, Arg, positional, present, args_of, optional_of}
+use Rattle.minijinja_tree.specs.SpannedTrees.{Expr, Arg, positional, present, args_of, exprs_of, optional_of}
 use Rattle.minijinja_grammar.specs.Words.{begins_bare, is, not_word}
-use Rattle.minijinja_grammar.specs.Forms.{Place, Form, pure, nothing, start, either, comes, start_at, got, read_then, reads, ◌>>=◌}
+use Rattle.minijinja_grammar.specs.Forms.{Place, Form, pure, nothing, start, either, comes, start_at, got, read_then, reads, ◌>>=◌, ◌>>◌}
 use Rattle.minijinja_grammar.specs.Grammar as form
 use Rattle.minijinja_grammar.specs.Grammar.{next, behind, expanded}
 use Rattle.minijinja_stream.specs.declared.refusal.Refusal.{Refusal}
@@ -39,6 +39,46 @@ module _ {C : Type 0} (expr : Form (Expr C)) where
       ap (λ o. read_then o (λ t q. read_then (reads (form.step expr) q) (λ b r. read_then (reads (next bracket_close) r)
       (λ _ u. got (tree.slice e (optional_of s) (optional_of t) (optional_of b) (expanded from u.last)) u)))) h ∙
       ap (λ o. read_then o (λ b r. read_then (reads (next bracket_close) r) (λ _ u. got (tree.slice e (optional_of s) (optional_of t) (optional_of b) (expanded from u.last)) u))) i) j
+
+  pub rest_of_subscript_is : (e : Expr C) (from : Span) (i : Expr C) (p : Place) → reads (form.rest_of_subscript expr e from i) p ≡
+      read_then (eaten colon p) (λ b q. if b then reads (form.range expr e from (Some i)) q
+      else read_then (reads (next bracket_close) q) (λ _ r. got (tree.item e i (expanded from r.last)) r))
+  unfolding reads form.rest_of_subscript
+  rest_of_subscript_is e from i p = behind_is colon (form.range expr e from (Some i)) (next bracket_close >> form.spanned from (tree.item e i)) p
+
+  pub subscript_is : (e : Expr C) (from : Span) (p : Place) → reads (form.subscript expr e from) p ≡
+      read_then (eaten colon p) (λ b q. if b then reads (form.range expr e from None) q
+      else read_then (reads expr q) (λ i r. reads (form.rest_of_subscript expr e from i) r))
+  unfolding reads form.subscript
+  subscript_is e from p = behind_is colon (form.range expr e from None) (expr >>= form.rest_of_subscript expr e from) p
+
+  pub maybe_args_is : (p : Place) → reads (form.maybe_args expr) p ≡ read_then (eaten paren_open p) (λ b q. if b then reads (form.args expr) q else got [] q)
+  maybe_args_is p = behind_pure paren_open (form.args expr) [] p
+
+  -- ---- what stands in parentheses or braces
+
+  pub rest_of_group_is : (from : Span) (e : Expr C) (p : Place) → reads (form.rest_of_group expr from e) p ≡
+      read_then (eaten comma p) (λ b q. if b
+      then read_then (reads (form.exprs expr (e ∷ [])) q) (λ es r. read_then (reads (next paren_close) r) (λ _ s. got (tree.tuple (exprs_of es) (expanded from s.last)) s))
+      else read_then (reads (next paren_close) q) (λ _ r. got e r))
+  unfolding reads form.rest_of_group
+  rest_of_group_is from e p = behind_is comma (form.exprs expr (e ∷ []) >>= (λ es. next paren_close >> form.spanned from (tree.tuple (exprs_of es)))) (next paren_close >> pure e) p
+
+  pub group_is : (from : Span) (p : Place) → reads (form.group expr from) p ≡
+      read_then (eaten paren_close p) (λ b q. if b then got (tree.tuple (exprs_of []) (expanded from q.last)) q
+      else read_then (reads expr q) (λ e r. reads (form.rest_of_group expr from e) r))
+  unfolding reads form.group
+  group_is from p = behind_is paren_close (form.spanned from (tree.tuple (exprs_of []))) (expr >>= form.rest_of_group expr from) p
+
+  pub in_brackets_is : (from : Span) (p : Place) → reads (form.in_brackets expr from) p ≡
+      read_then (reads (form.exprs expr []) p) (λ es q. read_then (reads (next bracket_close) q) (λ _ r. got (tree.list (exprs_of es) (expanded from r.last)) r))
+  unfolding reads form.in_brackets
+  in_brackets_is from p = refl
+
+  pub in_braces_is : (from : Span) (p : Place) → reads (form.in_braces expr from) p ≡
+      read_then (reads (form.entries expr ([], [])) p) (λ kvs q. read_then (reads (next brace_close) q) (λ _ r. got (tree.map (exprs_of kvs.0) (exprs_of kvs.1) (expanded from r.last)) r))
+  unfolding reads form.in_braces
+  in_braces_is from p = refl
 
   module _ {F : Type 0} (f : Functions C F) where
     -- what the expressions are does not matter to an attribute

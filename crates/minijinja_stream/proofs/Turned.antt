@@ -6,7 +6,7 @@ use Rattle.minijinja_grammar.specs.Words.{is}
 use Rattle.minijinja_syntax.specs.Streams.{SpannedTok}
 use Rattle.minijinja_grammar.specs.Forms.{Place, Turn, go_on, over, Form, pure, one, either, many, comes, Read, got, short, wrong, read_then, after, held_or_wrong, read_one, read_turn, if_held, read_any, reads, ◌>>=◌}
 use Rattle.minijinja_grammar.specs.Grammar.{next, items, behind, span_of_mark}
-use Rattle.minijinja_stream.specs.private.Reads.{eaten}
+use Rattle.minijinja_stream.specs.private.Reads.{eaten, skipped}
 use Rattle.minijinja_grammar.proofs.Unrolled.{many_is}
 use Rattle.minijinja_grammar.proofs.Forms.{left, sound, no_longer, takes_shorter, same_read}
 
@@ -77,6 +77,9 @@ read_no_longer f p q x e = no_longer f p q x (sound f p q x e)
 
 pub take_shorter : (p q : Place) (t : SpannedTok) → reads (one Some) p ≡ got t q → length q.tokens < length p.tokens
 take_shorter p q t e = takes_shorter Some p q t (sound (one Some) p q t e)
+
+pub skip_shorter : (p q : Place) (s : Span) → skipped p ≡ got s q → length q.tokens < length p.tokens
+skip_shorter p q s e = takes_shorter (λ t. Some t.1) p q s (sound (one (λ t. Some t.1)) p q s e)
 
 pub next_shorter : (m : Tok) (p q : Place) (s : Span) → reads (next m) p ≡ got s q → length q.tokens < length p.tokens
 next_shorter m p q s e = takes_shorter (span_of_mark m) p q s (sound (next m) p q s e)

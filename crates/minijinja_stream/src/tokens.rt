@@ -1,16 +1,20 @@
 //! What rules ask of the tokens to come. Looking at them does not fail: a refusal of the tokenizer leaves none in view, and
 //! taking one answers that none is left.
-ghost use Rattle.std.specs.Prelude.{◌≡◌, IfOk, Some};
+ghost use Rattle.std.specs.Prelude.{◌≡◌, ◌≢◌, IfOk, Some};
+ghost use Rattle.std.specs.Bool.{OnTrue};
+ghost use Rattle.std.specs.Option.{option_map};
 ghost use Rattle.minijinja_syntax.specs.Streams.{spanned_tok};
 ghost use Rattle.minijinja_syntax.specs.Tokens.{Tok, tok_of};
 ghost use Rattle.minijinja_lexer.specs.Slices.{IsBetweenChars};
+ghost use Rattle.minijinja_lexer.specs.Stream.{out_of_memory};
 ghost use Rattle.minijinja_tree.specs.Erasure.{compare_op};
 ghost use Rattle.minijinja_grammar.specs.Forms.{Place, comes, one, reads, start_at};
 ghost use Rattle.minijinja_grammar.specs.Grammar.{expanded, ident_and_span, next};
 ghost use Rattle.minijinja_grammar.specs.Words.{is};
-ghost use Rattle.minijinja_stream.specs.private.Levels.{compare_op_at, next_operator};
+ghost use Rattle.minijinja_stream.specs.private.Levels.{compare_op_at, next_compare, next_operator};
 ghost use Rattle.minijinja_stream.specs.private.Marks.{begins, mark_tok};
-ghost use Rattle.minijinja_stream.specs.private.Reads.{Misfits, Ready, Reads, eaten};
+ghost use Rattle.minijinja_stream.specs.private.Reads.{Misfits, Reads, eaten, next_ident, skipped};
+ghost use Rattle.minijinja_stream.specs.TokenStreams.{stream_at};
 
 use crate::marks::{Mark, Part, begins_part, compare_operator, is_mark};
 use crate::operators::{Level, Operator, operator_of};
@@ -64,6 +68,10 @@ pub trait Tokens {
         ensures { Reads (λ t. (tok t.0, t.1)) (reads (one Some) (place self.old)) result
             (place self.new) };
 
+    /// Takes the next token, which a refusal calls `wanted`, and gives where it stands alone.
+    fn skip(&mut self, wanted: Wanted) -> Result<Span, Refusal>
+        ensures { Reads (λ s. s) (skipped (place self.old)) result (place self.new) };
+
     /// Takes that token.
     fn expect(&mut self, mark: Mark) -> Result<Span, Refusal>
         ensures { Reads (λ s. s) (reads (next (mark_tok mark)) (place self.old)) result
@@ -83,13 +91,33 @@ pub trait Tokens {
 }
 
 impl<'s, 'c> TokenStream<'s, 'c> {
-    /// Refuses where memory was refused for the next token.
-    fn ready(&self) -> Result<(), Refusal>
-        ensures { Ready self.now result }
+    /// Whether memory was not refused for the next token.
+    fn is_ready(&self) -> bool
+        ensures { OnTrue result (stream_at self.now ≢ out_of_memory) }
     {
         match &self.current {
-            Err(error) if error.kind() == ErrorKind::OutOfMemory => Err(Refusal::OutOfMemory),
-            _ => Ok(()),
+            Err(error) => error.kind() != ErrorKind::OutOfMemory,
+            _ => true,
+        }
+    }
+
+    /// The comparison of one token that comes next.
+    fn comparison_in_view(&self) -> Option<CompareOpKind>
+        ensures { option_map compare_op result ≡ next_compare self.now.tokens }
+    {
+        match &self.current {
+            Ok(Some((token, _))) => compare_operator(token),
+            _ => None,
+        }
+    }
+
+    /// The identifier that comes next.
+    fn ident_in_view(&self) -> Option<&'s str>
+        ensures { option_map (λ x. x.now) result ≡ next_ident self.now.tokens }
+    {
+        match &self.current {
+            Ok(Some((Token::Ident(name), _))) => Some(name),
+            _ => None,
         }
     }
 }
@@ -153,45 +181,65 @@ impl<'s, 'c> Tokens for TokenStream<'s, 'c> {
         ensures read { Reads spanned_tok (reads (one Some) self.old) result self.new }
         ensures between { IfOk result (λ t. IsBetweenChars self.old.source t.1) }
     {
-        let Ok(Some(_)) = &self.current else {
+        let Ok(Some((_, span))) = &self.current else {
             return Err(Refusal::Ended(wanted));
         };
+        self.last_span = *span;
         let following = self.tokenizer.next_token();
         match mem::replace(&mut self.current, following) {
-            Ok(Some((token, span))) => {
-                self.last_span = span;
-                self.ready()?;
-                Ok((token, span))
-            }
+            Ok(Some(taken)) if self.is_ready() => Ok(taken),
+            Ok(Some(_)) => Err(Refusal::OutOfMemory),
             _ => Err(Refusal::Ended(wanted)),
         }
+    }
+
+    /// Refuses as [`Tokens::take`] does.
+    #[tactic(auto, unfolding(minijinja_grammar::specs::Forms::reads))]
+    #[inline(always)]
+    fn skip(&mut self, wanted: Wanted) -> Result<Span, Refusal>
+        ensures read { Reads (λ s. s) (skipped self.old) result self.new }
+        ensures between { IfOk result (λ s. IsBetweenChars self.old.source s) }
+    {
+        let Ok(Some((_, span))) = &self.current else {
+            return Err(Refusal::Ended(wanted));
+        };
+        self.last_span = *span;
+        self.current = self.tokenizer.next_token();
+        if !self.is_ready() {
+            return Err(Refusal::OutOfMemory);
+        }
+        Ok(self.last_span)
     }
 
     #[tactic(auto, using(crate::proofs::Taking::next_is))]
     #[inline(always)]
     fn expect(&mut self, mark: Mark) -> Result<Span, Refusal> {
-        let (token, span) = self.take(Wanted::Mark(mark))?;
-        if !is_mark(&token, mark) {
+        let fits = self.at(mark);
+        let span = self.skip(Wanted::Mark(mark))?;
+        if !fits {
             return Err(Refusal::Wrong(Wanted::Mark(mark)));
         }
         Ok(span)
     }
 
+    #[tactic(auto, using(crate::proofs::Taking::eaten_is))]
     fn eat(&mut self, mark: Mark) -> Result<bool, Refusal> {
         if !self.at(mark) {
             return Ok(false);
         }
-        self.expect(mark)?;
+        self.skip(Wanted::Mark(mark))?;
         Ok(true)
     }
 
     #[tactic(auto, using(crate::proofs::Comparisons::compare_op_is))]
     fn compare_operator(&mut self) -> Result<CompareOpKind, Refusal> {
-        let (token, _) = self.take(Wanted::Mark(Mark::In))?;
-        if let Some(op) = compare_operator(&token) {
+        let comparison = self.comparison_in_view();
+        let negated = self.at(Mark::Not);
+        self.skip(Wanted::Mark(Mark::In))?;
+        if let Some(op) = comparison {
             return Ok(op);
         }
-        if !is_mark(&token, Mark::Not) {
+        if !negated {
             return Err(Refusal::Wrong(Wanted::Mark(Mark::In)));
         }
         self.expect(Mark::In)?;
@@ -215,8 +263,10 @@ pub fn ident<'s>(
         tokens.new }
     ensures between { IfOk result (λ t. IsBetweenChars tokens.old.source t.1) }
 {
-    match tokens.take(wanted)? {
-        (Token::Ident(name), span) => Ok((name, span)),
-        _ => Err(Refusal::Wrong(wanted)),
+    let name = tokens.ident_in_view();
+    let span = tokens.skip(wanted)?;
+    match name {
+        Some(name) => Ok((name, span)),
+        None => Err(Refusal::Wrong(wanted)),
     }
 }

@@ -3,6 +3,9 @@ use Rattle.std.specs.Prelude.{map}
 use Rattle.std.specs.Option.{option_map}
 use Rattle.minijinja_syntax.specs.Texts.{Text}
 use Rattle.minijinja_syntax.specs.declared.tokens.Span.{Span}
+use Rattle.minijinja_tree.specs.BinOps as bin
+use Rattle.minijinja_tree.specs.BinOps.{BinOp}
+use Rattle.minijinja_tree.specs.CompareOps as cmp
 use Rattle.minijinja_tree.specs.CompareOps.{CompareOp}
 use Rattle.minijinja_tree.specs.Erasure.{bin_op, unary_op}
 use Rattle.minijinja_tree.specs.SpannedTrees as tree
@@ -32,3 +35,14 @@ node_tree text of arg compared (node.Call e xs) s = tree.call (of e) (args_of (m
 node_tree text of arg compared (node.List es) s = tree.list (exprs_of (map of es.items)) s
 node_tree text of arg compared (node.Tuple es) s = tree.tuple (exprs_of (map of es.items)) s
 node_tree text of arg compared (node.Map ks vs) s = tree.map (exprs_of (map of ks.items)) (exprs_of (map of vs.items)) s
+
+-- the operator of two sides that the comparison is, or is the negation of
+abbrev pub operator_of : CompareOp → BinOp
+operator_of cmp.eq = bin.eq
+operator_of cmp.ne = bin.ne
+operator_of cmp.lt = bin.lt
+operator_of cmp.lte = bin.lte
+operator_of cmp.gt = bin.gt
+operator_of cmp.gte = bin.gte
+operator_of cmp.is_in = bin.is_in
+operator_of cmp.not_in = bin.is_in

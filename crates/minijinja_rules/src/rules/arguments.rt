@@ -85,7 +85,6 @@ impl<
     }
 
     /// An argument.
-    #[tactic(auto, using(crate::proofs::CallArgs::arg_is))]
     fn arg(&self, tokens: &mut N::Input) -> Result<Argument<N::Name, N::Expr>, Refusal>
         requires { Nests N.Input.place N.tree N.functions self.now.depth F.pre F.post self.now.expr }
         ensures { Parses N.Input.place (argument_of N.text N.tree) (form.arg (expr_at N.functions
@@ -102,7 +101,6 @@ impl<
     }
 
     /// An argument, whose first expression is read.
-    #[tactic(auto, using(crate::proofs::CallArgs::rest_of_arg_is))]
     fn rest_of_arg(
         &self,
         tokens: &mut N::Input,
@@ -122,7 +120,7 @@ impl<
     }
 
     /// The arguments of a filter, if there are any.
-    #[tactic(auto, using(minijinja_stream::proofs::Turned::behind_is), unfolding(minijinja_grammar::specs::Forms::reads))]
+    #[tactic(auto, using(crate::proofs::Following::maybe_args_is))]
     pub(crate) fn maybe_args(&self, tokens: &mut N::Input) -> Result<Vec<N::Arg>, Refusal>
         requires { Nests N.Input.place N.tree N.functions self.now.depth F.pre F.post self.now.expr }
         ensures { Parses N.Input.place (λ v. map N.arg v.items) (form.maybe_args (expr_at

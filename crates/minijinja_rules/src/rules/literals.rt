@@ -66,7 +66,7 @@ impl<
     }
 
     /// What stands in parentheses, after the opening one.
-    #[tactic(auto, using(minijinja_stream::proofs::Turned::behind_is), unfolding(minijinja_grammar::specs::Forms::reads, minijinja_grammar::specs::Grammar::group))]
+    #[tactic(auto, using(crate::proofs::Following::group_is))]
     fn group(&self, tokens: &mut N::Input, from: Span) -> Result<N::Expr, Refusal>
         requires { Nests N.Input.place N.tree N.functions self.now.depth F.pre F.post self.now.expr }
         ensures { Parses N.Input.place N.tree (form.group (expr_at N.functions self.now.depth) from)
@@ -74,15 +74,14 @@ impl<
     {
         if tokens.eat(Mark::ParenClose)? {
             let items = Vec::new(self.nodes.alloc());
-            let span = tokens.expand_span(from);
-            return Ok(self.nodes.node(Node::Tuple(items), span)?);
+            return self.spanned(tokens, from, Node::Tuple(items));
         }
         let expr = self.nested(tokens)?;
         self.rest_of_group(tokens, from, expr)
     }
 
     /// What follows the first expression in parentheses: the expression itself, or a tuple where a comma follows.
-    #[tactic(auto, using(minijinja_stream::proofs::Turned::behind_is), unfolding(minijinja_grammar::specs::Forms::reads, minijinja_grammar::specs::Grammar::rest_of_group))]
+    #[tactic(auto, using(crate::proofs::Following::rest_of_group_is))]
     fn rest_of_group(
         &self,
         tokens: &mut N::Input,
@@ -101,12 +100,11 @@ impl<
         items.push(expr)?;
         let items = self.exprs(tokens, items)?;
         tokens.expect(Mark::ParenClose)?;
-        let span = tokens.expand_span(from);
-        Ok(self.nodes.node(Node::Tuple(items), span)?)
+        self.spanned(tokens, from, Node::Tuple(items))
     }
 
     /// A list, after its bracket.
-    #[tactic(auto, unfolding(minijinja_grammar::specs::Forms::reads, minijinja_grammar::specs::Grammar::in_brackets))]
+    #[tactic(auto, using(crate::proofs::Following::in_brackets_is))]
     fn list(&self, tokens: &mut N::Input, from: Span) -> Result<N::Expr, Refusal>
         requires { Nests N.Input.place N.tree N.functions self.now.depth F.pre F.post self.now.expr }
         ensures { Parses N.Input.place N.tree (form.in_brackets (expr_at N.functions self.now.depth)
@@ -114,8 +112,7 @@ impl<
     {
         let items = self.exprs(tokens, Vec::new(self.nodes.alloc()))?;
         tokens.expect(Mark::BracketClose)?;
-        let span = tokens.expand_span(from);
-        Ok(self.nodes.node(Node::List(items), span)?)
+        self.spanned(tokens, from, Node::List(items))
     }
 
     /// Expressions between commas, after those so far.
@@ -136,7 +133,7 @@ impl<
     }
 
     /// A map, after its brace.
-    #[tactic(auto, unfolding(minijinja_grammar::specs::Forms::reads, minijinja_grammar::specs::Grammar::in_braces))]
+    #[tactic(auto, using(crate::proofs::Following::in_braces_is))]
     fn map(&self, tokens: &mut N::Input, from: Span) -> Result<N::Expr, Refusal>
         requires { Nests N.Input.place N.tree N.functions self.now.depth F.pre F.post self.now.expr }
         ensures { Parses N.Input.place N.tree (form.in_braces (expr_at N.functions self.now.depth)
@@ -144,8 +141,7 @@ impl<
     {
         let (keys, values) = self.entries(tokens)?;
         tokens.expect(Mark::BraceClose)?;
-        let span = tokens.expand_span(from);
-        Ok(self.nodes.node(Node::Map(keys, values), span)?)
+        self.spanned(tokens, from, Node::Map(keys, values))
     }
 
     /// The keys of a map and its values.

@@ -88,12 +88,11 @@ impl<
             return self.subscript(tokens, expr, from);
         }
         let args = self.args(tokens)?;
-        let span = tokens.expand_span(from);
-        Ok(self.nodes.node(Node::Call(expr, args), span)?)
+        self.spanned(tokens, from, Node::Call(expr, args))
     }
 
     /// An item or a slice, after its bracket.
-    #[tactic(auto, using(minijinja_stream::proofs::Turned::behind_is), unfolding(minijinja_grammar::specs::Forms::reads, minijinja_grammar::specs::Grammar::subscript))]
+    #[tactic(auto, using(crate::proofs::Following::subscript_is))]
     fn subscript(
         &self,
         tokens: &mut N::Input,
@@ -112,7 +111,7 @@ impl<
     }
 
     /// An item or a slice, after its first expression.
-    #[tactic(auto, using(minijinja_stream::proofs::Turned::behind_is), unfolding(minijinja_grammar::specs::Forms::reads, minijinja_grammar::specs::Grammar::rest_of_subscript))]
+    #[tactic(auto, using(crate::proofs::Following::rest_of_subscript_is))]
     fn rest_of_subscript(
         &self,
         tokens: &mut N::Input,
@@ -128,8 +127,7 @@ impl<
             return self.range(tokens, expr, from, Some(index));
         }
         tokens.expect(Mark::BracketClose)?;
-        let span = tokens.expand_span(from);
-        Ok(self.nodes.node(Node::Item(expr, index), span)?)
+        self.spanned(tokens, from, Node::Item(expr, index))
     }
 
     /// A slice, after its first `:`.
@@ -148,8 +146,7 @@ impl<
         let stop = self.maybe_expr(tokens)?;
         let step = self.step(tokens)?;
         tokens.expect(Mark::BracketClose)?;
-        let span = tokens.expand_span(from);
-        Ok(self.nodes.node(Node::Slice(expr, start, stop, step), span)?)
+        self.spanned(tokens, from, Node::Slice(expr, start, stop, step))
     }
 
     /// The step of a slice, if there is one.

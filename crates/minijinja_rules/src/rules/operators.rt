@@ -104,10 +104,9 @@ impl<
         let Operator::Binary(op, level) = operator else {
             return self.comparisons(tokens, before, left);
         };
-        tokens.take(Wanted::Part(Expected::Expression))?;
+        tokens.skip(Wanted::Part(Expected::Expression))?;
         let right = self.level(tokens, level.tighter())?;
-        let span = tokens.expand_span(from);
-        Ok(self.nodes.node(Node::BinOp(op, left, right), span)?)
+        self.spanned(tokens, from, Node::BinOp(op, left, right))
     }
 
     /// The comparisons that come, one at least.
@@ -131,8 +130,7 @@ impl<
             return Ok(comparison(&self.nodes, op, expr, right, span)?);
         }
         let ops = self.chain(tokens, op, right)?;
-        let span = tokens.expand_span(before);
-        Ok(self.nodes.node(Node::Compare(expr, ops), span)?)
+        self.spanned(tokens, before, Node::Compare(expr, ops))
     }
 
     /// The comparisons after the first, and the first, where one more comes.

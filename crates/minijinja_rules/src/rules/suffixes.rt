@@ -52,7 +52,6 @@ impl<
     }
 
     /// A filter, after its `|`.
-    #[tactic(auto, using(crate::proofs::Following::filter_is))]
     fn filter(&self, tokens: &mut N::Input, expr: N::Expr) -> Result<N::Expr, Refusal>
         requires { Nests N.Input.place N.tree N.functions self.now.depth F.pre F.post self.now.expr }
         ensures { Parses N.Input.place N.tree (form.filtered N.functions (expr_at N.functions
@@ -62,8 +61,7 @@ impl<
         let from = tokens.current_span();
         let name = self.nodes.name(tokens)?;
         let args = self.maybe_args(tokens)?;
-        let span = tokens.expand_span(from);
-        Ok(self.nodes.node(Node::Filter(name, expr, args), span)?)
+        self.spanned(tokens, from, Node::Filter(name, expr, args))
     }
 
     /// A test, after the word `is`.
@@ -79,15 +77,10 @@ impl<
         }
         let from = tokens.current_span();
         let test = self.named_test(tokens, expr)?;
-        let span = tokens.expand_span(from);
-        Ok(
-            self.nodes
-                .node(Node::UnaryOp(UnaryOpKind::Not, test), span)?,
-        )
+        self.spanned(tokens, from, Node::UnaryOp(UnaryOpKind::Not, test))
     }
 
     /// The name of a test and its arguments.
-    #[tactic(auto, using(crate::proofs::Following::named_test_is))]
     fn named_test(&self, tokens: &mut N::Input, expr: N::Expr) -> Result<N::Expr, Refusal>
         requires { Nests N.Input.place N.tree N.functions self.now.depth F.pre F.post self.now.expr }
         ensures { Parses N.Input.place N.tree (form.named_test N.functions (expr_at N.functions
@@ -97,8 +90,7 @@ impl<
         let from = tokens.current_span();
         let name = self.nodes.name(tokens)?;
         let args = self.test_args(tokens)?;
-        let span = tokens.expand_span(from);
-        Ok(self.nodes.node(Node::Test(name, expr, args), span)?)
+        self.spanned(tokens, from, Node::Test(name, expr, args))
     }
 
     /// The arguments of a test: in parentheses, or one without them.

@@ -1,11 +1,9 @@
 //! Operators of one side round an expression, and comparisons of two.
 ghost use Rattle.std.specs.Prelude.{◌≡◌, reverse, IfOk};
-ghost use Rattle.minijinja_tree.specs.BinOps as bin;
-ghost use Rattle.minijinja_tree.specs.Erasure.{compare_op, unary_op};
-ghost use Rattle.minijinja_tree.specs.SpannedTrees as tree;
-ghost use Rattle.minijinja_tree.specs.Tree.{logical_not};
+ghost use Rattle.minijinja_tree.specs.Erasure.{bin_op, compare_op, unary_op};
 ghost use Rattle.minijinja_grammar.specs.Grammar as form;
 ghost use Rattle.minijinja_grammar.specs.Grammar.{compare_two};
+ghost use Rattle.minijinja_rules.specs.private.Made.{operator_of};
 
 use crate::nodes::{Node, Nodes};
 use minijinja_base::tokens::Span;
@@ -37,18 +35,19 @@ pub fn wrapped<N: Nodes>(
     Ok(expr)
 }
 
-/// `not in`: a negation of `in`.
-fn not_in<N: Nodes>(
-    nodes: &N,
-    left: N::Expr,
-    right: N::Expr,
-    span: Span,
-) -> Result<N::Expr, AllocError>
-    ensures tree { IfOk result (λ e. N.tree e ≡ tree.unary logical_not
-        (tree.binary bin.is_in (N.tree left) (N.tree right) span) span) }
+/// The operator of two sides that a comparison is, or is the negation of.
+fn compared(op: CompareOpKind) -> BinOpKind
+    ensures { bin_op result ≡ operator_of (compare_op op) }
 {
-    let inner = nodes.node(Node::BinOp(BinOpKind::In, left, right), span)?;
-    nodes.node(Node::UnaryOp(UnaryOpKind::Not, inner), span)
+    match op {
+        CompareOpKind::Eq => BinOpKind::Eq,
+        CompareOpKind::Ne => BinOpKind::Ne,
+        CompareOpKind::Lt => BinOpKind::Lt,
+        CompareOpKind::Lte => BinOpKind::Lte,
+        CompareOpKind::Gt => BinOpKind::Gt,
+        CompareOpKind::Gte => BinOpKind::Gte,
+        CompareOpKind::In | CompareOpKind::NotIn => BinOpKind::In,
+    }
 }
 
 /// One comparison.
@@ -62,14 +61,9 @@ pub fn comparison<N: Nodes>(
     ensures tree { IfOk result (λ e. N.tree e ≡ compare_two span (compare_op op)
         (N.tree left) (N.tree right)) }
 {
-    match op {
-        CompareOpKind::Eq => nodes.node(Node::BinOp(BinOpKind::Eq, left, right), span),
-        CompareOpKind::Ne => nodes.node(Node::BinOp(BinOpKind::Ne, left, right), span),
-        CompareOpKind::Lt => nodes.node(Node::BinOp(BinOpKind::Lt, left, right), span),
-        CompareOpKind::Lte => nodes.node(Node::BinOp(BinOpKind::Lte, left, right), span),
-        CompareOpKind::Gt => nodes.node(Node::BinOp(BinOpKind::Gt, left, right), span),
-        CompareOpKind::Gte => nodes.node(Node::BinOp(BinOpKind::Gte, left, right), span),
-        CompareOpKind::In => nodes.node(Node::BinOp(BinOpKind::In, left, right), span),
-        CompareOpKind::NotIn => not_in(nodes, left, right, span),
+    let node = nodes.node(Node::BinOp(compared(op), left, right), span)?;
+    if !matches!(op, CompareOpKind::NotIn) {
+        return Ok(node);
     }
+    nodes.node(Node::UnaryOp(UnaryOpKind::Not, node), span)
 }

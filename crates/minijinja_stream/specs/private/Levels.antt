@@ -92,6 +92,11 @@ next_operator l (t ∷ ts) = if_as_tight l (operator_of t.0)
 
 -- ---- one comparison
 
+-- that of the next token
+abbrev pub next_compare : List SpannedTok → Option CompareOp
+next_compare [] = None
+next_compare (t ∷ ts) = compare_op t.0
+
 -- its operator
 abbrev pub compare_op_at : Place → Read CompareOp
 compare_op_at p = read_then (reads (one (of_kind begins_comparison)) p) (λ t q. reads (compare_operator (compare_op t.0)) q)

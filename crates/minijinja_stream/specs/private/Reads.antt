@@ -1,12 +1,13 @@
 -- What a function of the parser gives: what reading a form comes to, unless memory is refused.
-use Rattle.std.specs.Prelude.{◌≡◌, ◌≢◌, List, [], ◌∷◌, Bool, true, false, if◌then◌else◌, Result, Ok, Err}
+use Rattle.std.specs.Prelude.{◌≡◌, List, [], ◌∷◌, Bool, true, false, if◌then◌else◌, Option, Some, None, Result, Ok, Err}
+use Rattle.std.specs.Option.{option_map}
+use Rattle.minijinja_syntax.specs.Texts.{Text}
+use Rattle.minijinja_syntax.specs.declared.tokens.Span.{Span}
 use Rattle.minijinja_syntax.specs.Tokens.{Tok}
 use Rattle.minijinja_syntax.specs.Streams.{SpannedTok}
-use Rattle.minijinja_lexer.specs.Stream.{out_of_memory}
 use Rattle.minijinja_grammar.specs.Words.{is}
-use Rattle.minijinja_grammar.specs.Grammar.{next}
-use Rattle.minijinja_grammar.specs.Forms.{Place, Read, got, short, wrong, comes, read_then, reads}
-use Rattle.minijinja_stream.specs.TokenStreams.{stream_at}
+use Rattle.minijinja_grammar.specs.Grammar.{ident_and_span, next}
+use Rattle.minijinja_grammar.specs.Forms.{Place, Read, got, short, wrong, comes, one, read_then, reads}
 use Rattle.minijinja_stream.specs.declared.refusal.Refusal.{Refusal}
 use Rattle.minijinja_stream.specs.declared.refusal.Refusal.TheVariants.{OutOfMemory, Ended, Wrong}
 
@@ -26,7 +27,11 @@ Misfits p OutOfMemory = ⊥
 Misfits p (Ended w) = p.tokens ≡ []
 Misfits p (Wrong w) = (t : SpannedTok) × (ts : List SpannedTok) × (p.tokens ≡ t ∷ ts)
 
--- memory was not refused for the next token
-abbrev pub Ready : Place → Result (Unit {0}) Refusal → Type 0
-Ready p (Ok x) = stream_at p ≢ out_of_memory
-Ready p (Err r) = r ≡ OutOfMemory
+-- where the next token stands, which is taken
+abbrev pub skipped : Place → Read Span
+skipped p = reads (one (λ t. Some t.1)) p
+
+-- the identifier that comes next
+abbrev pub next_ident : List SpannedTok → Option Text
+next_ident [] = None
+next_ident (t ∷ ts) = option_map (λ x. x.0) (ident_and_span t)

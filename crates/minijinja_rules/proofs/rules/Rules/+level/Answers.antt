@@ -2,7 +2,7 @@ use Rattle.std.proofs.Common.{rules, ◌≡◌, ◌∷◌, [], ◌++◌, true, f
 use Rattle.std.proofs.lemmas.List.{map-append, reverse-append}
 use Rattle.minijinja_grammar.specs.Forms.{Form, got, reads, comes, many, read_then}
 use Rattle.minijinja_grammar.specs.Grammar as form
-use Rattle.minijinja_grammar.specs.Grammar.{expr_at, of_kind, primary_at, unary_level}
+use Rattle.minijinja_grammar.specs.Grammar.{expanded, expr_at, of_kind, primary_at, unary_level}
 use Rattle.minijinja_grammar.specs.private.Climbing.{level_of, operation}
 use Rattle.minijinja_grammar.specs.Words.{begins_comparison, not_word, is}
 use Rattle.minijinja_stream.specs.private.Levels.{comparison_at, has_not, infix_of, rows}
@@ -12,7 +12,7 @@ use Rattle.minijinja_tree.specs.SpannedTrees.{Expr}
 use Rattle.minijinja_tree.specs.Tree.{logical_not}
 use Rattle.minijinja_value.specs.Values.{Functions}
 use Rattle.minijinja_stream.proofs.Turned.{read_no_longer, next_shorter}
-use Rattle.minijinja_stream.proofs.Turned.{take_shorter}
+use Rattle.minijinja_stream.proofs.Turned.{skip_shorter}
 use Rattle.minijinja_rules.proofs.Repeated.{spans_done, spans_more}
 use Rattle.minijinja_rules.proofs.Climbed.{binary_is, comparing_is, level_is, first_is, rest_ends, rest_goes_on, first_no_longer, heights}
 use Rattle.minijinja_rules.proofs.Compared.{op_shorter, comparison_shorter, chain_is, chain_done, chain_more, chain_longer, comparisons_are, negation_is, operation_shorter}
@@ -100,7 +100,9 @@ comparisons-returns g t c =
     let h : comparison_at s (g.N.Input.Tokens.place c.args.tokens.now) ≡ got (compare_op c.in_ok-op.op, v c.in_ok-op.right) (g.N.Input.Tokens.place c.comparison.new.tokens) = c.in_ok-op.ensures in
     let k : comes begins_comparison (g.N.Input.Tokens.place c.comparison.new.tokens).tokens ≡ true = sym c.begins.ensures ∙ c.if-not-begins.false in
     let m : reads (many (of_kind begins_comparison) (form.comparison s) ((compare_op c.in_ok-op.op, v c.in_ok-op.right) ∷ [])) (g.N.Input.Tokens.place c.comparison.new.tokens) ≡ got (map g.N.Nodes.compared c.in_ok-ops.ops.items) (g.N.Input.Tokens.place c.chain.new.tokens) = c.in_ok-ops.ensures in
-    rw (e, h, k, m, c.in_ok-node.ensures ∙ chain_is _ _ _ (chain_longer s _ _ _ _ k m), c.expand_span-span-2.ensures) refl
+    let q = g.N.Input.Tokens.place c.chain.new.tokens in
+    let whole = sym (chain_is (v c.args.expr) (map g.N.Nodes.compared c.in_ok-ops.ops.items) (expanded c.args.before q.last) (chain_longer s _ _ _ _ k m)) in
+    rw (e, h, k, m, whole) c.spanned.ensures
 
 pub first-returns : goal.first-returns
 first-returns g t c =
@@ -241,8 +243,8 @@ operation-returns-in_default g t c =
     comparing_is o c.args.from c.args.before (v c.args.left) (g.N.Input.Tokens.place c.args.tokens.now) in
     rw e c.comparisons.ensures
 
-pub operation-returns-in_err-take : goal.operation-returns-in_err-take
-operation-returns-in_err-take g t c =
+pub operation-returns-in_err-skip : goal.operation-returns-in_err-skip
+operation-returns-in_err-skip g t c =
     let v = g.N.Nodes.tree in
     let o = operand g.N.Nodes.functions c.args.self.now.depth in
     let e = ap (λ i. operation o (infix_of i) c.args.from c.args.before (v c.args.left) (g.N.Input.Tokens.place c.args.tokens.now)) c.in-Binary.is ∙
@@ -251,7 +253,7 @@ operation-returns-in_err-take g t c =
 
 pub operation-level-requires : goal.operation-level-requires
 operation-level-requires g t c κs within =
-    let less : length (g.N.Input.Tokens.place c.take.new.self).tokens < length (g.N.Input.Tokens.place c.args.tokens.now).tokens = take_shorter (g.N.Input.Tokens.place c.args.tokens.now) (g.N.Input.Tokens.place c.take.new.self) _ c.in_ok-take.ensures in
+    let less : length (g.N.Input.Tokens.place c.skip.new.self).tokens < length (g.N.Input.Tokens.place c.args.tokens.now).tokens = skip_shorter (g.N.Input.Tokens.place c.args.tokens.now) (g.N.Input.Tokens.place c.skip.new.self) _ c.in_ok-skip.ensures in
     (omega (arith, less, (heights c.tighter.result).1, c.decreases), (search rules, search rules))
 
 pub operation-returns-in_err-right : goal.operation-returns-in_err-right
@@ -260,7 +262,7 @@ operation-returns-in_err-right g t c =
     let o = operand g.N.Nodes.functions c.args.self.now.depth in
     let e = ap (λ i. operation o (infix_of i) c.args.from c.args.before (v c.args.left) (g.N.Input.Tokens.place c.args.tokens.now)) c.in-Binary.is ∙
     binary_is o c.in-Binary.op c.in-Binary.level c.args.from c.args.before (v c.args.left) (g.N.Input.Tokens.place c.args.tokens.now) in
-    rw (e, c.in_ok-take.ensures, ← c.tighter.ensures) (search rules)
+    rw (e, c.in_ok-skip.ensures, ← c.tighter.ensures) (search rules)
 
 pub operation-returns : goal.operation-returns
 operation-returns g t c =
@@ -268,4 +270,4 @@ operation-returns g t c =
     let o = operand g.N.Nodes.functions c.args.self.now.depth in
     let e = ap (λ i. operation o (infix_of i) c.args.from c.args.before (v c.args.left) (g.N.Input.Tokens.place c.args.tokens.now)) c.in-Binary.is ∙
     binary_is o c.in-Binary.op c.in-Binary.level c.args.from c.args.before (v c.args.left) (g.N.Input.Tokens.place c.args.tokens.now) in
-    rw (e, c.in_ok-take.ensures, ← c.tighter.ensures, c.in_ok-right.ensures, c.in_ok-node.ensures, c.expand_span-span.ensures) refl
+    rw (e, c.in_ok-skip.ensures, ← c.tighter.ensures, c.in_ok-right.ensures) c.spanned.ensures

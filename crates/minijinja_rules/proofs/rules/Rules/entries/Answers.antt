@@ -1,7 +1,7 @@
-use Rattle.std.proofs.Common.{◌∙◌, map}
+use Rattle.std.proofs.Common.{rules, ◌∙◌, sym, map}
 use Rattle.minijinja_syntax.specs.Tokens.{comma}
 use Rattle.minijinja_grammar.specs.Grammar.{expr_at}
-use Rattle.minijinja_rules.proofs.Entries.{entries_also, entries_last, entry_shorter, map_pushed}
+use Rattle.minijinja_rules.proofs.Entries.{entries_also, entries_last, entries_more, entry_shorter, map_pushed}
 use Rattle.minijinja_rules.proofs.rules.Rules.entries.Goals as goal
 
 pub returns-then-not-branch : goal.returns-then-not-branch
@@ -39,3 +39,27 @@ loop-keys-preserved g c =
     c.in_ok-nested.ensures c.in_ok-expect.ensures c.in_ok-nested-2.ensures c.in_ok-eat.ensures c.if-not-branch.false
     (map_pushed v c.loop-keys.keys.items c.push.new.self.items key c.in_ok-push.ensures.items)
     (map_pushed v c.loop-keys.values.items c.push-in-loop-keys.new.self.items value c.in_ok-push-2.ensures.items)
+
+pub returns-in_err-nested : goal.returns-in_err-nested
+returns-in_err-nested g c =
+    let v = g.N.Nodes.tree in
+    let e = c.loop-keys.invariant ∙ entries_more (expr_at g.N.Nodes.functions c.args.self.now.depth) (map v c.loop-keys.keys.items) (map v c.loop-keys.values.items) (g.N.Input.Tokens.place c.loop-keys.tokens) (sym c.loop-keys-test.ensures) in
+    rw e (search rules)
+
+pub returns-in_err-expect : goal.returns-in_err-expect
+returns-in_err-expect g c =
+    let v = g.N.Nodes.tree in
+    let e = c.loop-keys.invariant ∙ entries_more (expr_at g.N.Nodes.functions c.args.self.now.depth) (map v c.loop-keys.keys.items) (map v c.loop-keys.values.items) (g.N.Input.Tokens.place c.loop-keys.tokens) (sym c.loop-keys-test.ensures) in
+    rw (e, c.in_ok-nested.ensures) (search rules)
+
+pub returns-in_err-nested-2 : goal.returns-in_err-nested-2
+returns-in_err-nested-2 g c =
+    let v = g.N.Nodes.tree in
+    let e = c.loop-keys.invariant ∙ entries_more (expr_at g.N.Nodes.functions c.args.self.now.depth) (map v c.loop-keys.keys.items) (map v c.loop-keys.values.items) (g.N.Input.Tokens.place c.loop-keys.tokens) (sym c.loop-keys-test.ensures) in
+    rw (e, c.in_ok-nested.ensures, c.in_ok-expect.ensures) (search rules)
+
+pub returns-in_err-eat : goal.returns-in_err-eat
+returns-in_err-eat g c =
+    let v = g.N.Nodes.tree in
+    let e = c.loop-keys.invariant ∙ entries_more (expr_at g.N.Nodes.functions c.args.self.now.depth) (map v c.loop-keys.keys.items) (map v c.loop-keys.values.items) (g.N.Input.Tokens.place c.loop-keys.tokens) (sym c.loop-keys-test.ensures) in
+    rw (e, c.in_ok-nested.ensures, c.in_ok-expect.ensures, c.in_ok-nested-2.ensures) (search rules)

@@ -1,4 +1,4 @@
-use Rattle.std.proofs.Common.{rules, refl, sym, ◌∙◌}
+use Rattle.std.proofs.Common.{rules, sym, ◌∙◌}
 use Rattle.minijinja_grammar.specs.Grammar.{expr_at}
 use Rattle.minijinja_rules.proofs.Following.{postfix_call}
 use Rattle.minijinja_rules.proofs.rules.Rules.postfix.Goals as goal
@@ -15,4 +15,4 @@ returns g c =
     let f = g.N.Nodes.functions in
     let e = postfix_call (expr_at f c.args.self.now.depth) f (g.N.Input.Tokens.tok c.args.token.now) (g.N.Nodes.tree c.args.expr) c.args.from
     (g.N.Input.Tokens.place c.args.tokens.now) (sym c.is.ensures ∙ c.if-is.false) (sym c.is-2.ensures ∙ c.if-is-2.false) in
-    rw (e, c.in_ok-args.ensures, c.in_ok-node.ensures, c.expand_span-span.ensures) refl
+    rw (e, c.in_ok-args.ensures) c.spanned.ensures
