@@ -1,0 +1,9 @@
+-- What may be assigned to.
+use Rattle.std.specs.Prelude.{Bool, ◌||◌, codes}
+use Rattle.std.specs.Str.{bytes_eq}
+use Rattle.minijinja_syntax.specs.Texts.{Text}
+use Rattle.minijinja_grammar.specs.Words.{is_reserved}
+
+-- the words that cannot be assigned to
+abbrev pub is_no_target : Text → Bool
+is_no_target x = bytes_eq x (codes "in") || is_reserved x
