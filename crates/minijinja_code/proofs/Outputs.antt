@@ -4,7 +4,8 @@ use Rattle.std.specs.Prelude.{false, codes, bytes_eq}
 use Rattle.minijinja_syntax.specs.Texts.{Text}
 use Rattle.minijinja_tree.specs.Erasure.{expr_tree, compare_tree, arg_tree, args_of}
 use Rattle.minijinja_tree.specs.Tree as tree
-use Rattle.minijinja_tree.specs.WellFormed.{IsWhole, IsTarget}
+use Rattle.minijinja_tree.specs.WellFormed.{IsWhole}
+use Rattle.minijinja_tree.specs.Simple.{IsName}
 use Rattle.minijinja_tree.specs.declared.ast.CallArg.TheBlock as block
 use Rattle.minijinja_tree.specs.declared.ast.Expr.{Expr}
 use Rattle.minijinja_tree.specs.declared.ast.Expr.TheVariants as expr
@@ -18,11 +19,11 @@ compare_plain c (block.struct-Compare e k ops) = refl
 pub comparison_plain : {V F C : Type 0} (c : V → C) (e : Expr V F) (s : _) → e ≡ expr.Compare s → written (expr_tree c e) ≡ Plain
 comparison_plain {V} {F} c e s is = ap (λ (x : Expr V F). written (expr_tree c x)) is ∙ compare_plain {F = F} c s.place.value.node
 
-compare_no_target : {V F C : Type 0} (c : V → C) (q : block.the_data-4 V F) → IsTarget (compare_tree c q) → ⊥
+compare_no_target : {V F C : Type 0} (c : V → C) (q : block.the_data-4 V F) → IsName (compare_tree c q) → ⊥
 compare_no_target c (block.struct-Compare e k ops) is = is
 
 -- what is no variable is no target
-pub target_is_variable : {V F C : Type 0} (c : V → C) (e : Expr V F) → ((s : _) → e ≡ expr.Var s → ⊥) → IsTarget (expr_tree c e) → ⊥
+pub target_is_variable : {V F C : Type 0} (c : V → C) (e : Expr V F) → ((s : _) → e ≡ expr.Var s → ⊥) → IsName (expr_tree c e) → ⊥
 target_is_variable c (Var s) n is = n s refl
 target_is_variable c (Compare' p q s) n is = compare_no_target c q is
 target_is_variable c _ n is = is

@@ -3,16 +3,16 @@ use Rattle.std.proofs.Common.{◌≡◌, ℕ, ◌+◌, ◌<◌, ◌≤◌, ◌^�
 use Rattle.std.proofs.lemmas.List.{length-map}
 use Rattle.minijinja_value.specs.Values.{Functions}
 use Rattle.minijinja_tree.specs.Tree.{Expr, Stmt}
+use Rattle.minijinja_tree.specs.WellFormed.{IsWellFormed}
 use Rattle.minijinja_meaning.specs.Code.{Instr, Jump, JumpIfFalse, JumpIfFalseOrPop, JumpIfTrueOrPop, Iterate}
 use Rattle.minijinja_meaning.specs.Jumps.{target}
 use Rattle.minijinja_meaning.specs.Layout as layout
 use Rattle.minijinja_meaning.specs.Pieces.{Piece, outside}
 use Rattle.minijinja_code.specs.private.Making.{Made, here_of, capped, last_target, reach, Adds}
 use Rattle.minijinja_code.specs.private.Statements.{stmt_piece}
-use Rattle.minijinja_meaning.proofs.Leads.{AllLead, Leads, expr_leads, stmt_leads, target_leads}
+use Rattle.minijinja_meaning.proofs.Leads.{AllLead, Leads, expr_leads, root_leads, target_leads}
 use Rattle.minijinja_meaning.proofs.Lengths.{Exact, exact_to, expr_exact, stmt_exact, target_exact}
 use Rattle.minijinja_meaning.proofs.Runs.{stands_behind}
-use Rattle.std.specs.Prelude.{false}
 
 reach_within : (n : ℕ) → n ≤ last_target → reach n ≡ n
 reach_within n le = omega arith
@@ -50,8 +50,8 @@ module _ {C F : Type 0} (f : Functions C F) {a b : Made C} where
   pub expr_uncapped : (e : Expr C) → Adds a b (layout.expr f e) → length b.code < 2 ^ 32 → b.code ≡ a.code ++ (layout.expr f e).code (here_of a)
   expr_uncapped e s small = uncapped (layout.expr f e) (expr_exact f e) (λ code. expr_leads f code e) s small
 
-  pub target_uncapped : (e : Expr C) → Adds a b (layout.target e) → length b.code < 2 ^ 32 → b.code ≡ a.code ++ (layout.target e).code (here_of a)
-  target_uncapped e s small = uncapped (layout.target e) (target_exact f e) (λ code. target_leads f code e) s small
+  pub target_uncapped : (e : Expr C) → Adds a b (layout.target f e) → length b.code < 2 ^ 32 → b.code ≡ a.code ++ (layout.target f e).code (here_of a)
+  target_uncapped e s small = uncapped (layout.target f e) (target_exact f e) (λ code. target_leads f code e) s small
 
-  pub stmt_uncapped : (s : Stmt C) → Adds a b (stmt_piece f s) → length b.code < 2 ^ 32 → b.code ≡ a.code ++ (stmt_piece f s).code (here_of a)
-  stmt_uncapped s k small = uncapped (stmt_piece f s) (exact_to (stmt_exact f s []) outside) (λ code. record { leads = λ h le stand. (stmt_leads f code s false []).leads outside h (λ is. absurd (cc)) le stand }) k small
+  pub stmt_uncapped : {L : Type 0} (s : Stmt C L) → IsWellFormed s → Adds a b (stmt_piece f s) → length b.code < 2 ^ 32 → b.code ≡ a.code ++ (stmt_piece f s).code (here_of a)
+  stmt_uncapped s well k small = uncapped (stmt_piece f s) (exact_to (stmt_exact f s []) outside) (λ code. record { leads = λ h le stand. (root_leads f code s well).leads outside h (λ is. absurd (cc)) le stand }) k small

@@ -1,16 +1,25 @@
 -- How large a buffer the output of a template may want.
 use Rattle.std.specs.Prelude.{◌≡◌, ℕ, ◌+◌, ◌*◌, ◌^◌, ◌≤◌, ◌⊎◌, length}
-use Rattle.minijinja_tree.specs.Tree.{Stmt, template, data_text, output, assignment, Stmts, done, also}
+use Rattle.minijinja_tree.specs.Tree.{Stmt, template, data_text, output, assignment, for_loop, if_cond, with_block, set_block, auto_escape, filter_block, do_call, break_loop, continue_loop, Stmts, done, also}
 
 -- the bytes outside of tags
 abbrev mutual
-  pub data_bytes : {C : Type 0} → Stmt C → ℕ
+  pub data_bytes : {C L : Type 0} → Stmt C L → ℕ
   data_bytes (template ss) = all_data_bytes ss
   data_bytes (data_text t) = length t
   data_bytes (output e) = 0
   data_bytes (assignment target e) = 0
+  data_bytes (for_loop n target e only recursive body else_body) = all_data_bytes body + all_data_bytes else_body
+  data_bytes (if_cond e true_body false_body) = all_data_bytes true_body + all_data_bytes false_body
+  data_bytes (with_block assignments body) = all_data_bytes body
+  data_bytes (set_block target chain body) = all_data_bytes body
+  data_bytes (auto_escape e body) = all_data_bytes body
+  data_bytes (filter_block chain body) = all_data_bytes body
+  data_bytes (do_call e args) = 0
+  data_bytes break_loop = 0
+  data_bytes continue_loop = 0
 
-  pub all_data_bytes : {C : Type 0} → Stmts C → ℕ
+  pub all_data_bytes : {C L : Type 0} → Stmts C L → ℕ
   all_data_bytes done = 0
   all_data_bytes (also s rest) = data_bytes s + all_data_bytes rest
 

@@ -3,7 +3,8 @@ ghost use Rattle.std.specs.Prelude.{◌≡◌, ◌+◌, ◌<◌, ◌≤◌, ◌^
 ghost use Rattle.std.specs.BTreeMap.{IsEmpty};
 ghost use Rattle.minijinja_tree.specs.Erasure.{expr_tree, stmt_tree};
 ghost use Rattle.minijinja_tree.specs.Tree.{stmts_of};
-ghost use Rattle.minijinja_tree.specs.WellFormed.{IsTarget, IsWhole, IsInner, AreInner, IsWellFormed};
+ghost use Rattle.minijinja_tree.specs.Simple.{IsName, IsSimple, AreSimple, IsSimpleTree};
+ghost use Rattle.minijinja_tree.specs.WellFormed.{IsWhole};
 ghost use Rattle.minijinja_instructions.specs.Instructions.{code_of};
 ghost use Rattle.minijinja_meaning.specs.Correct.{DoesExpr, DoesStmt};
 ghost use Rattle.minijinja_syntax.specs.Errors.{kind_of};
@@ -12,6 +13,7 @@ ghost use Rattle.minijinja_code.specs.Generator.{IsUnplaced, OnlyWhereTooLong};
 ghost use Rattle.minijinja_meaning.specs.Calls.{written};
 ghost use Rattle.minijinja_code.specs.Hint.{IsHint, data_bytes, all_data_bytes};
 ghost use Rattle.minijinja_instructions.specs.InstructionLists.{IsAddError, name_of, source_of};
+ghost use Rattle.minijinja_meaning.specs.Places.{placed_stmt};
 ghost use Rattle.minijinja_meaning.specs.Layout.{expr_code, past_expr, target_code, past_target, stmt_code, past_stmt};
 ghost use Rattle.minijinja_meaning.specs.Layout as layout;
 ghost use Rattle.minijinja_code.specs.private.Statements.{stmt_piece, stmts_piece};
@@ -78,7 +80,7 @@ impl<'s, V: TemplateValue> CodeGenerator<'s, V> {
     /// Adds the instructions of a statement. Refused are memory, and a list that would have 2^32 instructions or more; that refusal
     /// comes again from then on.
     pub fn compile_stmt(&mut self, stmt: &Stmt<'s, V>) -> Result<(), Error<'s>>
-        requires { IsWellFormed (stmt_tree V.contents stmt.now) }
+        requires { IsSimpleTree (stmt_tree V.contents stmt.now) }
         ensures added { OnOk result (generated V.contents self.new ≡ generated V.contents self.old
             ++ stmt_code V.functions (stmt_tree V.contents stmt.now)
             (here_so_far V.contents self.old)) }
@@ -87,7 +89,8 @@ impl<'s, V: TemplateValue> CodeGenerator<'s, V> {
         // Entered where they begin, they do what the statement means.
         ensures does { OnOk result (DoesStmt V.functions (generated V.contents self.new)
             (length (generated V.contents self.old)) (length (generated V.contents self.new))
-            (stmt_tree V.contents stmt.now)) }
+            (placed_stmt V.functions (stmt_tree V.contents stmt.now)
+            (here_so_far V.contents self.old))) }
         ensures counted { OnOk result (counted_bytes self.new
             ≡ min usize.MAX (counted_bytes self.old + data_bytes (stmt_tree V.contents stmt.now))) }
 
@@ -154,18 +157,18 @@ impl<'s, V: TemplateValue> CodeGenerator<'s, V> {
 
     /// Adds the instructions that assign the value on top to a target. The refusals are those of `compile_stmt`.
     pub fn compile_assignment(&mut self, target: &Expr<'s, V>) -> Result<(), Error<'s>>
-        requires { IsTarget (expr_tree V.contents target.now) }
+        requires { IsName (expr_tree V.contents target.now) }
         ensures added { OnOk result (generated V.contents self.new ≡ generated V.contents self.old
-            ++ target_code (expr_tree V.contents target.now)
+            ++ target_code V.functions (expr_tree V.contents target.now)
             (here_so_far V.contents self.old)) }
         ensures few { OnOk result (length (generated V.contents self.new) < 2 ^ 32) }
         ensures past { OnOk result (here_so_far V.contents self.new ≡ past_target
-            (expr_tree V.contents target.now) (here_so_far V.contents self.old)) }
+            V.functions (expr_tree V.contents target.now) (here_so_far V.contents self.old)) }
         ensures causes { IfNone (refusal_of self.old) (IfErr result IsAddError) }
         ensures unplaced { IfNone (refusal_of self.old) (IfErr result IsUnplaced) }
         ensures too_many { IfNone (refusal_of self.old) (IfErr result
             (λ e. OnlyWhereTooLong e (generated V.contents self.old ++ target_code
-            (expr_tree V.contents target.now) (here_so_far V.contents self.old)))) }
+            V.functions (expr_tree V.contents target.now) (here_so_far V.contents self.old)))) }
         ensures kept { IfErr result (λ e. refusal_of self.new ≡ Some e) }
         ensures again { IfSome (refusal_of self.old) (λ e. result ≡ Err e) }
         ensures ready { OnOk result (refusal_of self.new ≡ None) }
@@ -250,14 +253,19 @@ fn compile_stmt<'s, V: TemplateValue>(
     code: &mut Emitter<'s, V>,
     stmt: &Stmt<'s, V>,
 ) -> Result<usize, OutOfMemory>
-    requires { IsWellFormed (stmt_tree V.contents stmt.now) }
+    requires { IsSimpleTree (stmt_tree V.contents stmt.now) }
     ensures added { OnOk result (Adds (made_of V.contents code.old) (made_of V.contents code.new)
         (stmt_piece V.functions (stmt_tree V.contents stmt.now))) }
     ensures counted { IfOk result
         (λ n. n ≡ min usize.MAX (data_bytes (stmt_tree V.contents stmt.now))) }
 {
     match stmt {
-        Stmt::Template(template) => compile_all(code, &template.node().children),
+        Stmt::Template(template) => {
+            let children = &template.node().children;
+            // Most statements make two instructions or more.
+            code.make_room(children.len().saturating_mul(2))?;
+            compile_all(code, children)
+        }
         _ => compile_inner(code, stmt),
     }
 }
@@ -267,7 +275,7 @@ fn compile_all<'s, V: TemplateValue>(
     code: &mut Emitter<'s, V>,
     stmts: &[Stmt<'s, V>],
 ) -> Result<usize, OutOfMemory>
-    requires { AreInner (stmts_of (map (stmt_tree V.contents) stmts.now)) }
+    requires { AreSimple (stmts_of (map (stmt_tree V.contents) stmts.now)) }
     ensures added { OnOk result (Adds (made_of V.contents code.old) (made_of V.contents code.new)
         (stmts_piece V.functions (stmts_of (map (stmt_tree V.contents) stmts.now)))) }
     ensures counted { IfOk result (λ n. n ≡ min usize.MAX
@@ -285,7 +293,7 @@ fn compile_inner<'s, V: TemplateValue>(
     code: &mut Emitter<'s, V>,
     stmt: &Stmt<'s, V>,
 ) -> Result<usize, OutOfMemory>
-    requires { IsInner (stmt_tree V.contents stmt.now) }
+    requires { IsSimple (stmt_tree V.contents stmt.now) }
     ensures added { OnOk result (Adds (made_of V.contents code.old) (made_of V.contents code.new)
         (stmt_piece V.functions (stmt_tree V.contents stmt.now))) }
     ensures counted { IfOk result (λ n. n ≡ data_bytes (stmt_tree V.contents stmt.now)) }
@@ -340,9 +348,9 @@ fn assign<'s, V: TemplateValue>(
     code: &mut Emitter<'s, V>,
     target: &Expr<'s, V>,
 ) -> Result<(), OutOfMemory>
-    requires { IsTarget (expr_tree V.contents target.now) }
+    requires { IsName (expr_tree V.contents target.now) }
     ensures { OnOk result (Adds (made_of V.contents code.old) (made_of V.contents code.new)
-        (layout.target (expr_tree V.contents target.now))) }
+        (layout.target V.functions (expr_tree V.contents target.now))) }
 {
     match target {
         Expr::Var(var) => code.add(Instruction::StoreLocal(var.node().id)),

@@ -14,6 +14,7 @@ use Rattle.minijinja_parser.specs.Derived.{IsDerived, IsExprDerived}
 use Rattle.minijinja_instructions.specs.Instructions.{code_of}
 use Rattle.minijinja_meaning.specs.Pieces.{start}
 use Rattle.minijinja_meaning.specs.Layout.{expr_code, stmt_code}
+use Rattle.minijinja_meaning.specs.Places.{placed_stmt}
 use Rattle.minijinja_meaning.specs.Correct.{DoesExpr, DoesStmt}
 use Rattle.minijinja_meaning.specs.Jumps.{LeadsWell}
 use Rattle.minijinja_code.specs.Hint.{IsHint, data_bytes}
@@ -30,7 +31,7 @@ pub record IsCompiled {V E C F : Type 0} (f : Functions C F) (contents : V → C
   pub derived : IsDerived f syntax source tree
   pub only : (t : Stmt C) → IsDerived f syntax source t → t ≡ tree
   pub code : code_of contents c.instructions ≡ stmt_code f (bare_stmt tree) start
-  pub does : DoesStmt f (code_of contents c.instructions) 0 (length (code_of contents c.instructions)) (bare_stmt tree)
+  pub does : DoesStmt f (code_of contents c.instructions) 0 (length (code_of contents c.instructions)) (placed_stmt f (bare_stmt tree) start)
   pub few : length (code_of contents c.instructions) < 2 ^ 32
   pub leads : LeadsWell (code_of contents c.instructions)
   pub hint : IsHint (data_bytes (bare_stmt tree)) c.buffer_size_hint

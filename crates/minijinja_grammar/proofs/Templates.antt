@@ -7,7 +7,7 @@ use Rattle.minijinja_value.specs.Values.{Functions}
 use Rattle.minijinja_syntax.specs.Tokens.{Tok, ident, template_data, variable_start, variable_end, block_start, block_end, assign}
 use Rattle.minijinja_syntax.specs.declared.tokens.Span.{Span}
 use Rattle.minijinja_tree.specs.SpannedTrees.{Expr, variable, Stmt, template, data_text, output, assignment, Stmts, done, also, stmts_of, bare_expr, bare_stmt, bare_stmts}
-use Rattle.minijinja_tree.specs.WellFormed.{IsWhole, IsTarget, IsInner, AreInner, IsWellFormed}
+use Rattle.minijinja_tree.specs.Simple.{IsSimple, AreSimple, IsSimpleTree}
 use Rattle.minijinja_grammar.specs.Words.{is_reserved, set_word}
 use Rattle.minijinja_syntax.specs.Streams.{SpannedTok}
 use Rattle.minijinja_grammar.specs.Forms.{Form, Turn, go_on, over, pure, nothing, one, ◌>>=◌, ◌>>◌}
@@ -29,11 +29,11 @@ module _ {C F : Type 0} (T : SpannedTok → Type 0) (S : Span → Type 0) (spans
   -- a statement stands at tokens, and may stand in a template
   pub record IsPart (s : Stmt C) : Type 0 where
     pub stands : StmtStands T S s
-    pub inner : IsInner (bare_stmt s)
+    pub inner : IsSimple (bare_stmt s)
 
   pub record AreParts (ss : List (Stmt C)) : Type 0 where
     pub stand : StmtsStand T S (stmts_of ss)
-    pub inner : AreInner (bare_stmts (stmts_of ss))
+    pub inner : AreSimple (bare_stmts (stmts_of ss))
 
   no_parts : AreParts []
   no_parts = record { stand = tt; inner = tt }
@@ -89,7 +89,7 @@ module _ {C F : Type 0} (T : SpannedTok → Type 0) (S : Span → Type 0) (spans
   -- a template stands at tokens, and is well formed
   pub record IsTemplate (s : Stmt C) : Type 0 where
     pub stands : StmtStands T S s
-    pub formed : IsWellFormed (bare_stmt s)
+    pub formed : IsSimpleTree (bare_stmt s)
 
   pub template_sound : (d : ℕ) → Ensured T S (form.template_at f d) (λ s. Holds (IsTemplate s))
   unfolding form.template_at

@@ -1,14 +1,15 @@
--- What a record opens it closes: from the meaning alone.
-use Rattle.std.proofs.Common.{◌≡◌, List, [], ◌∷◌, Option, Some, None, Result, Ok, Err, refl, ap, ◌∙◌}
+-- What a record opens it closes, and no answer comes back: from the meaning alone.
+use Rattle.std.proofs.Common.{◌≡◌, ℕ, zero, suc, ◌≤◌, List, [], ◌∷◌, Option, Some, None, Result, Ok, Err, refl, ap, ◌∙◌, length, arith}
 use Rattle.std.specs.Prelude.{Bool, true, false, if◌then◌else◌}
 use Rattle.minijinja_value.specs.Values.{Functions}
 use Rattle.minijinja_tree.specs.Operators.{Working, Makes, Divides, IfTrue, IfFalse, working}
 use Rattle.minijinja_tree.specs.Comparisons.{compares}
 use Rattle.minijinja_tree.specs.Callees.{Callee, function, method, block, object, callee}
-use Rattle.minijinja_tree.specs.Tree.{UnaryOp, logical_not, negation, Expr, variable, constant, slice, unary, binary, compare, if_expr, filter, test, attribute, item, call, list, tuple, map, Optional, absent, present, Exprs, no_more, more, Comparisons, compared, against, Args, no_args, pos, pos_splat, kwarg, kwarg_splat, Stmt, template, data_text, output, assignment, Stmts, done, also}
-use Rattle.minijinja_meaning.specs.Events.{Event, Answer, Fault, Values, World, Did, Gave, Ended, Means, next, give, choose, operated, fitted, answered, ask}
+use Rattle.minijinja_tree.specs.Tree.{UnaryOp, logical_not, negation, Expr, variable, constant, slice, unary, binary, compare, if_expr, filter, test, attribute, item, call, list, tuple, map, Optional, absent, present, Exprs, no_more, more, Comparisons, compared, against, Args, no_args, pos, pos_splat, kwarg, kwarg_splat, Stmt, template, data_text, output, assignment, for_loop, if_cond, with_block, set_block, auto_escape, filter_block, do_call, break_loop, continue_loop, Stmts, done, also}
+use Rattle.minijinja_meaning.specs.Events.{CaptureMode, EndCapture, BeginCapture, Iterate, Event, Answer, Fault, Values, World, Did, Gave, Ended, Means, next, give, choose, operated, fitted, answered, ask, item_fits, event, tell, get}
+use Rattle.minijinja_meaning.specs.FilterChains.{fed}
 use Rattle.minijinja_meaning.specs.Calls.{Written, Super, Recursion, BlockOf, Plain, written}
-use Rattle.minijinja_meaning.specs.Meaning.{operate_one, operate, in_pairs, Taken, nothing_yet, keyword_map, spread, arguments, call_of, expr, base, optional, items, each, chain, positional, keyword, Signal, On, Broke, Continued, if_on, assign, write, stmt, stmts}
+use Rattle.minijinja_meaning.specs.Meaning.{operate_one, operate, in_pairs, Taken, nothing_yet, keyword_map, spread, arguments, call_of, expr, base, optional, items, each, chain, positional, keyword, Signal, On, Broke, Continued, if_on, assign, assign_each, assign_all, filtered, write, Turn, with_item, turns, all_turns, keep_if, passing, do_body, looped, stmt, stmts}
 use Rattle.minijinja_meaning.specs.Brackets.{Bracket, Scope, Loop, AutoEscape, Capture, Family, is_of, opening, closing, Opens, Closes, Neither, mark, marked, brackets, IsBalanced}
 use Rattle.minijinja_meaning.specs.Correct.{fresh}
 
@@ -21,9 +22,15 @@ abbrev Opened : {N C F X : Type 0} → Family → Option (List Bracket) → Did 
 Opened y bs (Gave w x) = brackets y w.record_so_far ≡ bs
 Opened y bs (Ended w e) = Unit {0}
 
--- where a piece goes on, this is open, of what was open before
+-- the answers that are left
+abbrev pub answers_left : {E C F X : Type 0} → Did E C F X → List (Answer C)
+answers_left (Gave w x) = w.answers
+answers_left (Ended w e) = w.answers
+
+-- where a piece goes on, this is open, of what was open before; it leaves no more answers than there were
 pub record Moves {N C F X : Type 0} (g : Change) (m : Means N C F X) : Type 0 where
   pub moves : (y : Family) (w : World (Event N C) C) → Opened y (g y (brackets y w.record_so_far)) (m w)
+  pub fewer : (w : World (Event N C) C) → length (answers_left (m w)) ≤ length w.answers
 
 -- what was open
 abbrev same_ones : Change
@@ -43,6 +50,17 @@ unfolding answered
 answered_opened F y fit e taken [] = tt
 answered_opened F y fit e taken (Fault ∷ answers) = tt
 answered_opened F y fit e taken (Values vs ∷ answers) = fitted_opened F y (fit vs) e vs taken answers
+
+fitted_fewer : {N C X : Type 0} (F : Type 0) (x : Option X) (e : Event N C) (vs : List C) (taken : List (Event N C × Answer C)) (answers : List (Answer C)) → length (answers_left (fitted {F = F} x e vs taken answers)) ≤ length answers
+unfolding fitted
+fitted_fewer F None e vs taken answers = omega arith
+fitted_fewer F (Some x) e vs taken answers = omega arith
+
+answered_fewer : {N C X : Type 0} (F : Type 0) (fit : List C → Option X) (e : Event N C) (taken : List (Event N C × Answer C)) (answers : List (Answer C)) → length (answers_left (answered {F = F} fit e taken answers)) ≤ length answers
+unfolding answered
+answered_fewer F fit e taken [] = omega arith
+answered_fewer F fit e taken (Fault ∷ answers) = omega arith
+answered_fewer F fit e taken (Values vs ∷ answers) = omega (arith, fitted_fewer F (fit vs) e vs taken answers)
 
 closed_again : (b : Bracket) (bs : Option (List Bracket)) → closing b (opening b bs) ≡ bs
 closed_again b None = refl
@@ -78,29 +96,40 @@ module _ {N C F : Type 0} where
   opened_as y (Gave w x) e h = h ∙ e
   opened_as y (Ended w e') e h = tt
 
+  next_fewer : {X Y : Type 0} (d : Did (Event N C) C F X) (n : X → Means N C F Y) (k : ℕ) → length (answers_left d) ≤ k → ((x : X) (w : World (Event N C) C) → length (answers_left (n x w)) ≤ length w.answers) → length (answers_left (next d n)) ≤ k
+  unfolding next
+  next_fewer (Gave w x) n k le h = omega (arith, h x w)
+  next_fewer (Ended w e) n k le h = le
+
   pub moves_next : {X Y : Type 0} {g h : Change} {m : Means N C F X} {n : X → Means N C F Y} → Moves g m → ((x : X) → Moves h (n x)) → Moves (λ y bs. h y (g y bs)) (λ w. next (m w) n)
   moves_next {g = g} {h = h} {m = m} {n = n} a b = record {
     moves = λ y w.
         let before = g y (brackets y w.record_so_far) in
         opened_next y before (h y before) (m w) n (a.moves y w) (λ x w' e. opened_as y (n x w') (ap (h y) e) ((b x).moves y w'));
+    fewer = λ w. next_fewer (m w) n (length w.answers) (a.fewer w) (λ x w'. (b x).fewer w');
   }
 
   pub moves_as : {X : Type 0} {g h : Change} {m : Means N C F X} → ((y : Family) (bs : Option (List Bracket)) → g y bs ≡ h y bs) → Moves g m → Moves h m
-  moves_as {m = m} e a = record { moves = λ y w. opened_as y (m w) (e y (brackets y w.record_so_far)) (a.moves y w) }
+  moves_as {m = m} e a = record { moves = λ y w. opened_as y (m w) (e y (brackets y w.record_so_far)) (a.moves y w); fewer = a.fewer }
 
   pub keeps_next : {X Y : Type 0} {m : Means N C F X} {n : X → Means N C F Y} → Keeps m → ((x : X) → Keeps (n x)) → Keeps (λ w. next (m w) n)
   keeps_next a b = moves_next a b
 
   pub keeps_give : {X : Type 0} (x : X) → Keeps {N = N} {C = C} {F = F} (give x)
-  keeps_give x = record { moves = λ y w. refl }
+  keeps_give x = record { moves = λ y w. refl; fewer = λ w. omega arith }
 
   operated_opened : {X : Type 0} (y : Family) (r : Result X F) (w : World (Event N C) C) → Opened y (brackets y w.record_so_far) (operated r w)
   unfolding operated
   operated_opened y (Ok x) w = refl
   operated_opened y (Err e) w = tt
 
+  operated_fewer : {X : Type 0} (r : Result X F) (w : World (Event N C) C) → length (answers_left (operated r w)) ≤ length w.answers
+  unfolding operated
+  operated_fewer (Ok x) w = omega arith
+  operated_fewer (Err e) w = omega arith
+
   keeps_operated : {X : Type 0} (r : Result X F) → Keeps {N = N} {C = C} (operated r)
-  keeps_operated r = record { moves = λ y w. operated_opened y r w }
+  keeps_operated r = record { moves = λ y w. operated_opened y r w; fewer = operated_fewer r }
 
   pub keeps_choose : {X : Type 0} {m n : Means N C F X} (b : Bool) → Keeps m → Keeps n → Keeps (choose b m n)
   unfolding choose
@@ -109,7 +138,10 @@ module _ {N C F : Type 0} where
 
   moves_ask : {X : Type 0} (fit : List C → Option X) (e : Event N C) → Moves {F = F} (λ y. marked y (mark e.kind)) (ask fit e)
   unfolding ask
-  moves_ask fit e = record { moves = λ y w. answered_opened F y fit e w.record_so_far w.answers }
+  moves_ask fit e = record {
+    moves = λ y w. answered_opened F y fit e w.record_so_far w.answers;
+    fewer = λ w. answered_fewer F fit e w.record_so_far w.answers;
+  }
 
   -- an event that opens and closes nothing
   pub keeps_ask : {X : Type 0} (fit : List C → Option X) (e : Event N C) → mark e.kind ≡ Neither → Keeps {F = F} (ask fit e)
@@ -129,6 +161,28 @@ module _ {N C F : Type 0} where
   -- what keeps all, before what closes
   pub closes_next : {X Y : Type 0} {m : Means N C F X} {n : X → Means N C F Y} (b : Bracket) → Keeps m → ((x : X) → Moves (λ y. marked y (Closes b)) (n x)) → Moves (λ y. marked y (Closes b)) (λ w. next (m w) n)
   closes_next b a c = moves_next a c
+
+  -- what closes, before what keeps all
+  pub closes_then : {X Y : Type 0} {m : Means N C F X} {n : X → Means N C F Y} (b : Bracket) → Moves (λ y. marked y (Closes b)) m → ((x : X) → Keeps (n x)) → Moves (λ y. marked y (Closes b)) (λ w. next (m w) n)
+  closes_then b a c = moves_next a c
+
+  -- the turns of a loop
+  with_item_keeps : {S : Type 0} (i : Option C) {turn : Turn N C F S} (came : Bool) (s : S) {others : S → Means N C F (Bool × S)} → ((v : C) (s : S) → Keeps (turn v s)) → ((s : S) → Keeps (others s)) → Keeps (with_item i turn came s others)
+  unfolding with_item
+  with_item_keeps None came s k o = keeps_give _
+  with_item_keeps (Some v) came s k o = keeps_next (k v s) (λ r. keeps_choose r.0 (o r.1) (keeps_give _))
+
+  turns_keep : {S : Type 0} (n : ℕ) {turn : Turn N C F S} → ((v : C) (s : S) → Keeps (turn v s)) → (came : Bool) (s : S) → Keeps (turns n turn came s)
+  unfolding turns
+  turns_keep zero k came s = record { moves = λ y w. tt; fewer = λ w. omega arith }
+  turns_keep (suc n) k came s = keeps_next (keeps_ask item_fits (event None Iterate [] []) refl) (λ i. with_item_keeps i came s k (turns_keep n k true))
+
+  pub all_turns_keep : {S : Type 0} {turn : Turn N C F S} → ((v : C) (s : S) → Keeps (turn v s)) → (came : Bool) (s : S) → Keeps (all_turns turn came s)
+  unfolding all_turns
+  all_turns_keep k came s = record {
+    moves = λ y w. (turns_keep (length w.answers) k came s).moves y w;
+    fewer = λ w. (turns_keep (length w.answers) k came s).fewer w;
+  }
 
   -- a call, by what it calls
   call_keeps : (c : Callee C) {m n : Means N C F C} {given : Taken C C → Means N C F (List C)} → Keeps m → Keeps n → ((t : Taken C C) → Keeps (given t)) → Keeps (call_of c m n given)
@@ -219,9 +273,25 @@ module _ {C F : Type 0} (N : Type 0) (f : Functions C F) where
     keyword_keeps (kwarg x e args) t = keeps_next (expr_keeps e) (λ v. keyword_keeps args _)
     keyword_keeps (kwarg_splat e args) t = keeps_next (expr_keeps e) (λ v. keyword_keeps args _)
 
-  assign_keeps : (target : Expr C) (v : C) → Keeps {N = N} {F = F} (assign target v)
-  assign_keeps (variable x) v = keeps_next (keeps_ask _ _ refl) (λ _. keeps_give On)
-  assign_keeps target v = keeps_give On
+  mutual
+    pub assign_keeps : (target : Expr C) (v : C) → Keeps {N = N} {F = F} (assign f target v)
+    assign_keeps (variable x) v = keeps_ask _ _ refl
+    assign_keeps (attribute e x) v = keeps_next (expr_keeps e) (λ u. keeps_ask _ _ refl)
+    assign_keeps (list es) v = keeps_next (keeps_ask _ _ refl) (assign_each_keeps es)
+    assign_keeps target v = keeps_give tt
+
+    assign_each_keeps : (es : Exprs C) (vs : List C) → Keeps {N = N} {F = F} (assign_each f es vs)
+    assign_each_keeps no_more vs = keeps_give tt
+    assign_each_keeps (more e es) [] = keeps_give tt
+    assign_each_keeps (more e es) (v ∷ vs) = keeps_next (assign_keeps e v) (λ _. assign_each_keeps es vs)
+
+  assign_all_keeps : (ts : List (Expr C × Expr C)) → Keeps {N = N} {F = F} (assign_all f ts)
+  assign_all_keeps [] = keeps_give tt
+  assign_all_keeps (a ∷ rest) = keeps_next (expr_keeps a.1) (λ v. keeps_next (assign_keeps a.0 v) (λ _. assign_all_keeps rest))
+
+  filtered_keeps : (chain : Optional C) (v : C) → Keeps {N = N} (filtered f chain v)
+  filtered_keeps absent v = keeps_give v
+  filtered_keeps (present chain) v = expr_keeps (fed v chain)
 
   write_keeps : (o : Written C) {m : Means N C F C} → Keeps m → Keeps (write f o m)
   write_keeps Super a = keeps_next (keeps_ask _ _ refl) (λ _. keeps_give On)
@@ -235,14 +305,63 @@ module _ {C F : Type 0} (N : Type 0) (f : Functions C F) where
   if_on_keeps Broke a = keeps_give Broke
   if_on_keeps Continued a = keeps_give Continued
 
+  pub keep_if_keeps : (target condition : Expr C) (v : C) (kept : List C) → Keeps {N = N} (keep_if f target condition v kept)
+  keep_if_keeps target condition v kept = keeps_next (assign_keeps target v) (λ _. keeps_next (expr_keeps condition) (λ u. keeps_give _))
+
+  passing_keeps : (target : Expr C) (only : Optional C) (v : C) → Keeps {N = N} (passing f target only v)
+  passing_keeps target absent v = keeps_give v
+  passing_keeps target (present condition) v =
+      keeps_between Loop (opens_ask Loop _ _ refl) λ _.
+      closes_next Loop (all_turns_keep (keep_if_keeps target condition) false []) λ t.
+      closes_then Loop (closes_ask Loop _ _ refl) (λ _. keeps_give _)
+
+  pub do_body_keeps : (target : Expr C) {body : Means N C F Signal} → Keeps body → (v : C) (s : Unit {0}) → Keeps (do_body f target body v s)
+  do_body_keeps target k v s = keeps_next (assign_keeps target v) (λ _. keeps_next k (λ g. keeps_give _))
+
+  pub looped_keeps : (n : N) (target : Expr C) (recursive : Bool) {body : Means N C F Signal} → Keeps body → (v : C) → Keeps (looped f n target recursive body v)
+  looped_keeps n target recursive k v =
+      keeps_between Loop (opens_ask Loop _ _ refl) λ _.
+      closes_next Loop (all_turns_keep (do_body_keeps target k) false tt) λ t.
+      closes_then Loop (closes_ask Loop _ _ refl) (λ _. keeps_give _)
+
+  -- what is captured goes through what follows on it, where the body goes on
+  captured_keeps : (mode : CaptureMode) {body : Means N C F Signal} {further : C → Means N C F Signal} → Keeps body → ((v : C) → Keeps (further v)) → Keeps (λ w. next (tell (BeginCapture mode) [] [] w) (λ _ w1. next (body w1) (λ g w2. next (get EndCapture [] [] w2) (λ v. if_on g (further v)))))
+  captured_keeps mode k t =
+      keeps_between Capture (opens_ask Capture _ _ refl) λ _.
+      closes_next Capture k λ g.
+      closes_then Capture (closes_ask Capture _ _ refl) (λ v. if_on_keeps g (t v))
+
   mutual
-    pub stmt_keeps : (s : Stmt C) → Keeps {N = N} (stmt f s)
+    pub stmt_keeps : (s : Stmt C N) → Keeps {N = N} (stmt f s)
     stmt_keeps (template ss) = stmts_keep ss
     stmt_keeps (data_text t) = keeps_next (keeps_ask _ _ refl) (λ _. keeps_give On)
     stmt_keeps (output e) = write_keeps (written e) (expr_keeps e)
-    stmt_keeps (assignment target e) = keeps_next (expr_keeps e) (assign_keeps target)
+    stmt_keeps (assignment target e) = keeps_next (expr_keeps e) (λ v. keeps_next (assign_keeps target v) (λ _. keeps_give On))
+    stmt_keeps (for_loop n target e only recursive body else_body) =
+        keeps_next (expr_keeps e) λ v.
+        keeps_next (passing_keeps target only v) λ u.
+        keeps_next (looped_keeps n target recursive (stmts_keep body) u) λ came.
+        keeps_choose came (keeps_give On) (stmts_keep else_body)
+    stmt_keeps (if_cond e true_body false_body) = keeps_next (expr_keeps e) (λ v. keeps_choose (f.is_true v) (stmts_keep true_body) (stmts_keep false_body))
+    stmt_keeps (with_block ts body) =
+        keeps_between Scope (opens_ask Scope _ _ refl) λ _.
+        closes_next Scope (assign_all_keeps ts) λ _.
+        closes_next Scope (stmts_keep body) λ g.
+        closes_then Scope (closes_ask Scope _ _ refl) (λ _. keeps_give g)
+    stmt_keeps (set_block target chain body) =
+        captured_keeps _ (stmts_keep body) (λ v. keeps_next (keeps_next (filtered_keeps chain v) (assign_keeps target)) (λ _. keeps_give On))
+    stmt_keeps (auto_escape e body) =
+        keeps_next (expr_keeps e) λ v.
+        keeps_between AutoEscape (opens_ask AutoEscape _ _ refl) λ _.
+        closes_next AutoEscape (stmts_keep body) λ g.
+        closes_then AutoEscape (closes_ask AutoEscape _ _ refl) (λ _. keeps_give g)
+    stmt_keeps (filter_block chain body) =
+        captured_keeps _ (stmts_keep body) (λ v. keeps_next (keeps_next (expr_keeps (fed v chain)) (λ u. keeps_ask _ _ refl)) (λ _. keeps_give On))
+    stmt_keeps (do_call e args) = keeps_next (expr_keeps (call e args)) (λ v. keeps_give On)
+    stmt_keeps break_loop = keeps_give Broke
+    stmt_keeps continue_loop = keeps_give Continued
 
-    stmts_keep : (ss : Stmts C) → Keeps {N = N} (stmts f ss)
+    pub stmts_keep : (ss : Stmts C N) → Keeps {N = N} (stmts f ss)
     stmts_keep done = keeps_give On
     stmts_keep (also s rest) = keeps_next (stmt_keeps s) (λ g. if_on_keeps g (stmts_keep rest))
 

@@ -14,6 +14,7 @@ use Rattle.minijinja_meaning.specs.Machine.{State, At, Halted, after, AtPlace, r
 use Rattle.minijinja_meaning.specs.Naming.{state_as, event_of}
 use Rattle.minijinja_meaning.specs.Code.{Instr, Load, Do, Call, Apply, Operate, CompareAndPreserve, BuildMap, BuildKwargs, BuildList, DiscardTop, Swap, Jump, JumpIfFalse, JumpIfFalseOrPop}
 use Rattle.minijinja_meaning.specs.Pieces.{start, id_of, noted}
+use Rattle.minijinja_meaning.specs.Places.{placed_stmt}
 use Rattle.minijinja_meaning.specs.Layout.{folded, merged, map_count, spreading, counted, expr_code, stmt_code}
 use Rattle.minijinja_meaning.proofs.Samples.{Value, WrongOperand, Wrong, Truth, Words, ListOf, KeywordsOf, Nothing, Silent, end, and, end_of_map, entry, sample, number}
 
@@ -185,7 +186,7 @@ first_id : id_of (codes "y") (noted (codes "z") (replicate 50 (codes "y"))) ≡ 
 first_id = refl
 
 -- the code of a statement at the start of a list
-unfoldable statement : Stmt Value → List (Instr Value)
+unfoldable statement : Stmt Value (Unit {0}) → List (Instr Value)
 unfolding folded merged map_count spreading counted fold if_some fold_on fold_keywords compute compares
 statement s = stmt_code sample s start
 
@@ -215,12 +216,12 @@ unfolding run step asked did built popped popped_by popped_counted popped_pairs 
 ran is finish steps answers = state_as event_of (run sample traced is (AtPlace finish) steps (At 0 [] [] (record { record_so_far = []; answers = answers })))
 
 -- the state in which the meaning of a statement leaves a machine
-unfoldable meant : Stmt Value → ℕ → List (Answer Value) → State (Event ℕ Value) Value WrongOperand
+unfoldable meant : Stmt Value (Unit {0}) → ℕ → List (Answer Value) → State (Event ℕ Value) Value WrongOperand
 unfolding next choose ask answered fitted operated if_on compute compares spread keyword_map
-meant s finish answers = after (λ g w. At finish [] [] w) (stmt sample s (record { record_so_far = []; answers = answers }))
+meant s finish answers = after (λ g w. At finish [] [] w) (stmt sample (placed_stmt sample s start) (record { record_so_far = []; answers = answers }))
 
 -- {{ f(*a) }}
-abbrev spread_call : Stmt Value
+abbrev spread_call : Stmt Value (Unit {0})
 spread_call = output (call (name (codes "f")) (pos_splat a no_args))
 
 -- its code
@@ -265,7 +266,7 @@ unfolding meant
 fault_means = refl
 
 -- {{ 2 < a < c }} where the first comparison is false: the kept operand is dropped, and c is not looked up
-abbrev chain : Stmt Value
+abbrev chain : Stmt Value (Unit {0})
 chain = output (compare (n 2) (against lt a (against lt c compared)))
 
 -- its answers
@@ -288,7 +289,7 @@ unfolding meant
 chain_means = refl
 
 -- {{ a and b }} where a is false: b is not looked up
-abbrev both : Stmt Value
+abbrev both : Stmt Value (Unit {0})
 both = output (binary sc_and a b)
 
 -- its answers
@@ -311,7 +312,7 @@ unfolding meant
 both_means = refl
 
 -- {{ f(b=x, *y) }}: y is taken before x, and one spread event gets y and the map of the keyword
-abbrev mixed : Stmt Value
+abbrev mixed : Stmt Value (Unit {0})
 mixed = output (call (name (codes "f")) (kwarg (codes "b") x (pos_splat y no_args)))
 
 -- the map of its keyword
@@ -344,7 +345,7 @@ unfolding meant
 mixed_means = refl
 
 -- {{ f(a, k=x, **c) }}: the value of `**` is merged by itself
-abbrev merging : Stmt Value
+abbrev merging : Stmt Value (Unit {0})
 merging = output (call (name (codes "f")) (pos a (kwarg (codes "k") x (kwarg_splat c no_args))))
 
 -- its answers

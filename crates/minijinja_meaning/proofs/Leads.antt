@@ -1,22 +1,23 @@
 -- Where the layout's instructions lead: on, within the list, or back to where a loop asks for its next item.
 use Rattle.std.proofs.Common.{◌≡◌, ℕ, zero, suc, ◌+◌, ◌<◌, ◌≤◌, List, [], ◌∷◌, ◌++◌, length, Option, Some, None, refl, sym, ap, ◌∙◌, subst, arith}
-use Rattle.std.specs.Prelude.{Bool, false, IsTrue, slice_get}
+use Rattle.std.specs.Prelude.{Bool, true, false, IsTrue, slice_get}
 use Rattle.minijinja_syntax.specs.Texts.{Text}
 use Rattle.minijinja_value.specs.Values.{Functions}
 use Rattle.minijinja_tree.specs.CompareOps.{CompareOp, eq, ne, lt, lte, gt, gte, is_in, not_in}
-use Rattle.minijinja_tree.specs.Operators.{Working, Makes, Divides, IfTrue, IfFalse, working}
+use Rattle.minijinja_tree.specs.Operators.{Working, Makes, Divides, IfTrue, IfFalse, working, Add}
 use Rattle.minijinja_tree.specs.Callees.{Callee, function, method, block, object, callee}
 use Rattle.minijinja_tree.specs.Folding.{fold, constant_keywords, fold_keywords}
-use Rattle.minijinja_tree.specs.Tree.{UnaryOp, logical_not, negation, Expr, variable, constant, slice, unary, binary, compare, if_expr, filter, test, attribute, item, call, list, tuple, map, Optional, absent, present, Exprs, no_more, more, Comparisons, compared, against, Args, no_args, pos, pos_splat, kwarg, kwarg_splat, Stmt, template, data_text, output, assignment, Stmts, done, also}
-use Rattle.minijinja_tree.specs.WellFormed.{IsWellFormed}
+use Rattle.minijinja_tree.specs.Tree.{UnaryOp, logical_not, negation, Expr, variable, constant, slice, unary, binary, compare, if_expr, filter, test, attribute, item, call, list, tuple, map, Optional, absent, present, Exprs, no_more, more, Comparisons, compared, against, Args, no_args, pos, pos_splat, kwarg, kwarg_splat, Stmt, template, data_text, output, assignment, for_loop, if_cond, with_block, set_block, auto_escape, filter_block, do_call, break_loop, continue_loop, Stmts, done, also, are_any}
+use Rattle.minijinja_tree.specs.WellFormed.{IsInner, AreInner, IsWellFormed}
 use Rattle.minijinja_meaning.specs.Calls.{Written, Super, Recursion, BlockOf, Plain, written}
-use Rattle.minijinja_meaning.specs.Code.{Instr, BuildList, BuildKwargs, JumpIfFalseOrPop, JumpIfTrueOrPop}
-use Rattle.minijinja_meaning.specs.Jumps.{target, MayLead, LeadsWell}
-use Rattle.minijinja_meaning.specs.Pieces.{Here, behind, start, Piece, Leading, Exits, outside, Open, nothing, one, ◌▸◌, plain, ◌▹◌, skipping, branches}
+use Rattle.minijinja_meaning.specs.Code.{Instr, Load, Operate, Swap, PopLoopFrame, Jump, JumpIfFalse, BuildList, BuildKwargs, JumpIfFalseOrPop, JumpIfTrueOrPop}
+use Rattle.minijinja_meaning.specs.Jumps.{target, IsIterate, MayLead, LeadsWell}
+use Rattle.minijinja_meaning.specs.Pieces.{Here, behind, start, Piece, Leading, Exits, outside, Open, OpenScope, OpenAutoEscape, OpenCapture, nothing, one, ◌▸◌, plain, ◌▹◌, skipping, branches, skipping_out, branches_out, turning, closing, leaving}
 use Rattle.minijinja_meaning.specs.Layout as layout
-use Rattle.minijinja_meaning.specs.Layout.{folded, unary_instr, operation, comparison, Failing, and_then, chained, paired, batch, merged, spreading, arguments, argument_count, Count, count_keyword, apply_filter, perform_test, call_of, expr, base, optional, operand, items, each, chain, comparisons, positional, keyword, write, stmt, stmts, stmt_code, expr_code}
-use Rattle.minijinja_meaning.proofs.Runs.{Stands, stands_behind, front, back, rest}
-use Rattle.minijinja_meaning.proofs.Lengths.{Exact, LeadingExact, exact_to, grows, one_exact, then_exact, branches_exact, batch_exact, merged_exact, spreading_exact, folded_exact, operation_exact, AllExact, paired_exact, arguments_exact, filter_exact, test_exact, expr_exact, base_exact, optional_exact, operand_exact, items_exact, each_exact, chain_exact, comparisons_exact, positional_exact, keyword_exact, target_exact, stmt_exact, stmts_exact}
+use Rattle.minijinja_meaning.specs.Layout.{folded, unary_instr, operation, comparison, Failing, and_then, chained, paired, batch, merged, spreading, arguments, argument_count, Count, count_keyword, apply_filter, perform_test, call_of, expr, base, optional, operand, items, each, chain, comparisons, positional, keyword, targets, assignments, passing, popping, looping, if_true, either, filters, write, stmt, stmts, stmt_code, expr_code}
+use Rattle.minijinja_meaning.proofs.Runs.{first, Stands, stands_behind, front, back, rest}
+use Rattle.minijinja_meaning.proofs.Roots.{at_root}
+use Rattle.minijinja_meaning.proofs.Lengths.{Exact, LeadingExact, exact_to, grows, one_exact, then_exact, branches_exact, batch_exact, merged_exact, spreading_exact, folded_exact, operation_exact, AllExact, paired_exact, arguments_exact, filter_exact, test_exact, expr_exact, base_exact, optional_exact, operand_exact, items_exact, each_exact, chain_exact, comparisons_exact, positional_exact, keyword_exact, plain_exact, and_exact, turning_exact, popping_exact, if_true_exact, either_exact, target_exact, targets_exact, assignments_exact, counting_exact, keeping_exact, passing_exact, looping_exact, filters_exact, stmt_exact, stmts_exact}
 
 module _ {C : Type 0} (code : List (Instr C)) where
   -- instructions that stand from this place on lead well
@@ -61,6 +62,12 @@ module _ {C : Type 0} (code : List (Instr C)) where
 
   leads_nowhere : (p l : ℕ) → None ≡ Some l → MayLead code p l
   leads_nowhere p l e = absurd (cc)
+
+  closing_leads : (os : List Open) (p : ℕ) → AllLead p (closing os)
+  closing_leads [] p = tt
+  closing_leads (OpenScope ∷ os) p = ((λ l same. leads_nowhere p l same), closing_leads os (p + 1))
+  closing_leads (OpenAutoEscape ∷ os) p = ((λ l same. leads_nowhere p l same), closing_leads os (p + 1))
+  closing_leads (OpenCapture ∷ os) p = ((λ l same. leads_nowhere p l same), ((λ l same. leads_nowhere (p + 1) l same), closing_leads os (p + 1 + 1)))
 
 module _ {C : Type 0} {code : List (Instr C)} where
   leads_nothing : Leads code nothing
@@ -192,6 +199,67 @@ module _ {C : Type 0} {code : List (Instr C)} where
         all_lead_append code h.place (p.past h).place (p.code x h) _ (e.ends x h) (a.leads x h before (omega arith) (front code _ _ stand)) (b.leads x (p.past h) exits le (back code (p.code x h) _ (e.ends x h) stand));
   }
 
+  leads_skipping_out : {l : Bool} (jump : ℕ → Instr C) → ((l : ℕ) → target (jump l) ≡ Some l) → {p : Leading Exits C} → LeadingExact p → LeadsOut code l p → LeadsOut code l (skipping_out jump p)
+  leads_skipping_out jump e {p} x a = record {
+    leads = λ exits h are le stand.
+        let more = grows (exact_to x exits) (behind 1 h) in
+        let l = (p.past (behind 1 h)).place in
+        ((λ m same. leads_on code h.place l m (omega arith) le (sym (e l) ∙ same)), a.leads exits (behind 1 h) are le (rest code stand));
+  }
+
+  leads_branches_out : {l : Bool} {p q : Leading Exits C} → LeadingExact p → LeadingExact q → LeadsOut code l p → LeadsOut code l q → LeadsOut code l (branches_out p q)
+  leads_branches_out {p = p} {q = q} e e' a b = record {
+    leads = λ x h exits le stand.
+        let first_part = behind 1 h in
+        let other : Here = behind 1 (p.past first_part) in
+        let more = grows (exact_to e x) first_part in
+        let most = grows (exact_to e' x) other in
+        let before = (λ (is : IsTrue _). fewer_exits code (exits is) (let le : (p.past first_part).place ≤ (q.past other).place = omega arith in le)) in
+        let inner = rest code stand in
+        let stand' = rest code (back code (p.code x first_part) _ (e.ends x first_part) inner) in
+        let jump = (λ (m : ℕ) (same : Some (q.past other).place ≡ Some m). leads_on code (p.past first_part).place (q.past other).place m (omega arith) le same) in (
+          (λ m same. leads_on code h.place other.place m (omega arith) (omega arith) same),
+          all_lead_append code (h.place + 1) (p.past first_part).place (p.code x first_part) _ (e.ends x first_part) (a.leads x first_part before (omega arith) (front code _ _ inner)) (jump, b.leads x other exits le stand'),
+        );
+  }
+
+  leads_turning : {p : Leading Exits C} → LeadingExact p → LeadsOut code true p → Leads code (turning p)
+  leads_turning {p} e a = record {
+    leads = λ h le stand.
+        let q = (p.past (behind 1 h)).place in
+        let x : Exits = record { break_to = q + 1; continue_to = h.place } in
+        let more = grows (exact_to e x) (behind 1 h) in
+        let inner = rest code stand in
+        let asks = first code stand in
+        let again = (λ (n : ℕ). let m : MayLead code n h.place = record { within = omega arith; back = λ _. subst IsIterate (sym asks) tt } in m) in
+        let out = (λ (n : ℕ) (lt : n < q). let m : MayLead code n (q + 1) = record { within = omega arith; back = λ le. absurd (omega arith) } in m) in
+        let exits = (λ (is : IsTrue true). let r : AreExits code x q = record { breaks = out; continues = λ n lt. again n } in r) in
+        let jump = (λ (m : ℕ) (same : Some h.place ≡ Some m). let there : h.place ≡ m = cc in subst (λ n. MayLead code q n) there (again q)) in (
+          (λ m same. leads_on code h.place (q + 1) m (omega arith) le same),
+          all_lead_append code (h.place + 1) q (p.code x (behind 1 h)) (Jump h.place ∷ []) (e.ends x (behind 1 h)) (a.leads x (behind 1 h) exits (omega arith) (front code _ _ inner)) (jump, tt),
+        );
+  }
+
+  leads_leaving : {l : Bool} (exit : Exits → ℕ) (os : List Open) → IsTrue l → ((x : Exits) (p q : ℕ) → AreExits code x q → p < q → MayLead code p (exit x)) → LeadsOut code l (leaving exit os)
+  leads_leaving exit os is may = record {
+    leads = λ x h exits le stand.
+        let n = length (closing {C = C} os) in
+        let jump = (λ (m : ℕ) (same : Some (exit x) ≡ Some m). let there : exit x ≡ m = cc in subst (λ t. MayLead code (h.place + n) t) there (may x (h.place + n) (h.place + (n + 1)) (exits is) (omega arith))) in
+        all_lead_append code h.place (h.place + n) (closing os) (Jump (exit x) ∷ []) refl (closing_leads code os h.place) (jump, tt);
+  }
+
+  leads_popping : (has_else : Bool) → Leads code (popping has_else)
+  leads_popping true = leads_then (one_exact _) (one_exact _) (leads_one _ refl) (leads_one _ refl)
+  leads_popping false = leads_one _ refl
+
+  leads_if_true : {l : Bool} (is_there : Bool) {p : Leading Exits C} → LeadingExact p → LeadsOut code l p → LeadsOut code l (if_true is_there p)
+  leads_if_true true e a = leads_skipping_out JumpIfFalse (λ l. refl) e a
+  leads_if_true false e a = leads_plain leads_nothing
+
+  leads_either : {l : Bool} (has_second : Bool) {p q : Leading Exits C} → LeadingExact p → LeadingExact q → LeadsOut code l p → LeadsOut code l q → LeadsOut code l (either has_second p q)
+  leads_either true e e' a b = leads_branches_out e e' a b
+  leads_either false e e' a b = leads_skipping_out JumpIfFalse (λ l. refl) e a
+
 module _ {C F : Type 0} (f : Functions C F) (code : List (Instr C)) where
   leads_arguments : (args : Args C) (n : ℕ) {p q : Piece C} → Exact p → Exact q → Leads code p → Leads code q → Leads code (arguments f args n p q)
   leads_arguments args n e e' a b =
@@ -277,9 +345,51 @@ module _ {C F : Type 0} (f : Functions C F) (code : List (Instr C)) where
     keyword_leads (kwarg x e args) n = leads_then (one_exact _) (then_exact (expr_exact f e) (keyword_exact f args (suc n))) (leads_one _ refl) (leads_then (expr_exact f e) (keyword_exact f args (suc n)) (expr_leads e) (keyword_leads args (suc n)))
     keyword_leads (kwarg_splat e args) n = leads_then (batch_exact BuildKwargs n) (then_exact (expr_exact f e) (keyword_exact f args 0)) (leads_batch BuildKwargs n (λ m. refl)) (leads_then (expr_exact f e) (keyword_exact f args 0) (expr_leads e) (keyword_leads args 0))
 
-  pub target_leads : (e : Expr C) → Leads code (layout.target e)
-  target_leads (variable x) = leads_one _ refl
-  target_leads e = leads_nothing
+  mutual
+    pub target_leads : (e : Expr C) → Leads code (layout.target f e)
+    target_leads (variable x) = leads_one _ refl
+    target_leads (attribute e x) = leads_then (expr_exact f e) (one_exact _) (expr_leads e) (leads_one _ refl)
+    target_leads (list es) = leads_then (one_exact _) (targets_exact f es) (leads_one _ refl) (targets_lead es)
+    target_leads e = leads_nothing
+
+    targets_lead : (es : Exprs C) → Leads code (targets f es)
+    targets_lead no_more = leads_nothing
+    targets_lead (more e es) = leads_then (target_exact f e) (targets_exact f es) (target_leads e) (targets_lead es)
+
+  assignments_lead : (ts : List (Expr C × Expr C)) → Leads code (assignments f ts)
+  assignments_lead [] = leads_nothing
+  assignments_lead (a ∷ others) =
+      let e = then_exact (target_exact f a.0) (assignments_exact f others) in
+      leads_then (expr_exact f a.1) e (expr_leads a.1) (leads_then (target_exact f a.0) (assignments_exact f others) (target_leads a.0) (assignments_lead others))
+
+  filters_lead : (chain : Optional C) → Leads code (filters f chain)
+  filters_lead absent = leads_nothing
+  filters_lead (present chain) = expr_leads chain
+
+  passing_leads : (e : Expr C) (only : Optional C) {p : Piece C} → Exact p → Leads code p → Leads code (passing f e only p)
+  passing_leads e absent x a = a
+  passing_leads e (present condition) x a =
+      let last = then_exact (one_exact PopLoopFrame) (one_exact (BuildList None)) in
+      let round = turning_exact (keeping_exact f e condition) in
+      let count = then_exact (one_exact Swap) (then_exact (one_exact (Load (f.of_u64 1))) (one_exact (Operate Add))) in
+      let tested = then_exact (expr_exact f condition) (counting_exact f) in
+      leads_then (one_exact _) (then_exact x (then_exact (one_exact _) (then_exact round last))) (leads_one _ refl)
+      (leads_then x (then_exact (one_exact _) (then_exact round last)) a
+      (leads_then (one_exact _) (then_exact round last) (leads_one _ refl)
+      (leads_then round last
+      (leads_turning (keeping_exact f e condition) (leads_plain
+      (leads_then (one_exact _) (then_exact (target_exact f e) tested) (leads_one _ refl)
+      (leads_then (target_exact f e) tested (target_leads e)
+      (leads_then (expr_exact f condition) (counting_exact f) (expr_leads condition)
+      (leads_branches count (one_exact _) (leads_then (one_exact _) (then_exact (one_exact _) (one_exact _)) (leads_one _ refl) (leads_then (one_exact _) (one_exact _) (leads_one _ refl) (leads_one _ refl))) (leads_one _ refl)))))))
+      (leads_then (one_exact _) (one_exact _) (leads_one _ refl) (leads_one _ refl)))))
+
+  looping_leads : (e : Expr C) (recursive has_else : Bool) {p : Leading Exits C} → LeadingExact p → LeadsOut code true p → Leads code (looping f e recursive has_else p)
+  looping_leads e recursive has_else x a =
+      let inner = and_exact (plain_exact (target_exact f e)) x in
+      let round = turning_exact inner in
+      leads_then (one_exact _) (then_exact round (popping_exact has_else)) (leads_one _ refl)
+      (leads_then round (popping_exact has_else) (leads_turning inner (leads_and (plain_exact (target_exact f e)) x (leads_plain (target_leads e)) a)) (leads_popping has_else))
 
   write_leads : (o : Written C) {p : Piece C} → Exact p → Leads code p → Leads code (write f o p)
   write_leads Super e a = leads_one _ refl
@@ -287,16 +397,53 @@ module _ {C F : Type 0} (f : Functions C F) (code : List (Instr C)) where
   write_leads (BlockOf x) e a = leads_one _ refl
   write_leads Plain e a = leads_then e (one_exact _) a (leads_one _ refl)
 
-  mutual
-    pub stmt_leads : (s : Stmt C) (l : Bool) (os : List Open) → LeadsOut code l (stmt f os s)
-    stmt_leads (template ss) l os = stmts_lead ss l os
-    stmt_leads (data_text t) l os = leads_plain (leads_one _ refl)
-    stmt_leads (output e) l os = leads_plain (write_leads (written e) (expr_exact f e) (expr_leads e))
-    stmt_leads (assignment e v) l os = leads_plain (leads_then (expr_exact f v) (target_exact f e) (expr_leads v) (target_leads e))
+  -- what a body stands between
+  leads_round : {l : Bool} {p q : Piece C} {b : Leading Exits C} → Exact p → Exact q → LeadingExact b → Leads code p → Leads code q → LeadsOut code l b → LeadsOut code l (plain p ▹ b ▹ plain q)
+  leads_round e e' x a b c = leads_and (plain_exact e) (and_exact x (plain_exact e')) (leads_plain a) (leads_and x (plain_exact e') c (leads_plain b))
 
-    stmts_lead : (ss : Stmts C) (l : Bool) (os : List Open) → LeadsOut code l (stmts f os ss)
-    stmts_lead done l os = leads_plain leads_nothing
-    stmts_lead (also s rest) l os = leads_and (stmt_exact f s os) (stmts_exact f rest os) (stmt_leads s l os) (stmts_lead rest l os)
+  mutual
+    stmt_leads : {L : Type 0} (s : Stmt C L) (l : Bool) (os : List Open) → IsInner l s → LeadsOut code l (stmt f os s)
+    stmt_leads (template ss) l os is = absurd is
+    stmt_leads (data_text t) l os is = leads_plain (leads_one _ refl)
+    stmt_leads (output e) l os is = leads_plain (write_leads (written e) (expr_exact f e) (expr_leads e))
+    stmt_leads (assignment e v) l os is = leads_plain (leads_then (expr_exact f v) (target_exact f e) (expr_leads v) (target_leads e))
+    stmt_leads (for_loop n e v only recursive body else_body) l os is =
+        let xp = passing_exact f e only (expr_exact f v) in
+        let xb = stmts_exact f body [] in
+        let xl = looping_exact f e recursive (are_any else_body) xb in
+        let xe = stmts_exact f else_body os in
+        leads_and (plain_exact (then_exact xp xl)) (if_true_exact (are_any else_body) xe)
+        (leads_plain (leads_then xp xl (passing_leads e only (expr_exact f v) (expr_leads v)) (looping_leads e recursive (are_any else_body) xb (stmts_lead body true [] is.3))))
+        (leads_if_true (are_any else_body) xe (stmts_lead else_body l os is.4))
+    stmt_leads (if_cond e true_body false_body) l os is =
+        let xt = stmts_exact f true_body os in
+        let xf = stmts_exact f false_body os in
+        leads_and (plain_exact (expr_exact f e)) (either_exact (are_any false_body) xt xf) (leads_plain (expr_leads e))
+        (leads_either (are_any false_body) xt xf (stmts_lead true_body l os is.1) (stmts_lead false_body l os is.2))
+    stmt_leads (with_block ts body) l os is =
+        leads_round (then_exact (one_exact _) (assignments_exact f ts)) (one_exact _) (stmts_exact f body (OpenScope ∷ os))
+        (leads_then (one_exact _) (assignments_exact f ts) (leads_one _ refl) (assignments_lead ts)) (leads_one _ refl) (stmts_lead body l (OpenScope ∷ os) is.1)
+    stmt_leads (set_block e chain body) l os is =
+        let x = then_exact (filters_exact f chain) (target_exact f e) in
+        leads_round (one_exact _) (then_exact (one_exact _) x) (stmts_exact f body (OpenCapture ∷ os)) (leads_one _ refl)
+        (leads_then (one_exact _) x (leads_one _ refl) (leads_then (filters_exact f chain) (target_exact f e) (filters_lead chain) (target_leads e))) (stmts_lead body l (OpenCapture ∷ os) is.2)
+    stmt_leads (auto_escape e body) l os is =
+        leads_round (then_exact (expr_exact f e) (one_exact _)) (one_exact _) (stmts_exact f body (OpenAutoEscape ∷ os))
+        (leads_then (expr_exact f e) (one_exact _) (expr_leads e) (leads_one _ refl)) (leads_one _ refl) (stmts_lead body l (OpenAutoEscape ∷ os) is.1)
+    stmt_leads (filter_block chain body) l os is =
+        let x = then_exact (expr_exact f chain) (one_exact _) in
+        leads_round (one_exact _) (then_exact (one_exact _) x) (stmts_exact f body (OpenCapture ∷ os)) (leads_one _ refl)
+        (leads_then (one_exact _) x (leads_one _ refl) (leads_then (expr_exact f chain) (one_exact _) (expr_leads chain) (leads_one _ refl))) (stmts_lead body l (OpenCapture ∷ os) is.1)
+    stmt_leads (do_call e args) l os is = leads_plain (leads_then (expr_exact f (call e args)) (one_exact _) (expr_leads (call e args)) (leads_one _ refl))
+    stmt_leads break_loop l os is = leads_leaving (λ x. x.break_to) os is (λ x p q e lt. e.breaks p lt)
+    stmt_leads continue_loop l os is = leads_leaving (λ x. x.continue_to) os is (λ x p q e lt. e.continues p lt)
+
+    stmts_lead : {L : Type 0} (ss : Stmts C L) (l : Bool) (os : List Open) → AreInner l ss → LeadsOut code l (stmts f os ss)
+    stmts_lead done l os is = leads_plain leads_nothing
+    stmts_lead (also s others) l os is = leads_and (stmt_exact f s os) (stmts_exact f others os) (stmt_leads s l os is.0) (stmts_lead others l os is.1)
+
+  pub root_leads : {L : Type 0} (s : Stmt C L) → IsWellFormed s → LeadsOut code false (stmt f [] s)
+  root_leads = at_root (λ s. LeadsOut code false (stmt f [] s)) (λ ss is. stmts_lead ss false [] is) (λ s is. stmt_leads s false [] is)
 
 -- what leads well as it stands does at each place
 at_each : {C : Type 0} (code : List (Instr C)) (q : ℕ) (is : List (Instr C)) → AllLead code q is → (p : ℕ) (i : Instr C) (l : ℕ) → slice_get is p ≡ Some i → target i ≡ Some l → MayLead code (q + p) l
@@ -310,11 +457,11 @@ at_each code q (j ∷ is) h (suc p) i l at e =
     subst (λ n. MayLead code n l) there (at_each code (q + 1) is h.1 p i l at e)
 
 -- What follows on the layout of a tree is within the list, and leads back to where a loop asks for its next item alone.
-pub layout_leads_well : {C F : Type 0} (f : Functions C F) (s : Stmt C) → IsWellFormed s → LeadsWell (stmt_code f s start)
-layout_leads_well {C} f s well p i l at e =
+pub layout_leads_well : {C L F : Type 0} (f : Functions C F) (s : Stmt C L) → IsWellFormed s → LeadsWell (stmt_code f s start)
+layout_leads_well {C = C} f s well p i l at e =
     let code : List (Instr C) = stmt_code f s start in
     let exact = (stmt_exact f s []).ends outside start in
-    let all = (stmt_leads f code s false []).leads outside start (λ is. absurd (cc)) (omega arith) (stands_behind [] code) in
+    let all = (root_leads f code s well).leads outside start (λ is. absurd (cc)) (omega arith) (stands_behind [] code) in
     let here : 0 + p ≡ p = omega arith in
     subst (λ n. MayLead code n l) here (at_each code 0 code all p i l at e)
 

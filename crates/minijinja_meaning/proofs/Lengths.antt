@@ -1,16 +1,17 @@
 -- The place after a piece is where its instructions end.
 use Rattle.std.proofs.Common.{◌≡◌, ℕ, zero, suc, ◌+◌, ◌≤◌, List, [], ◌∷◌, ◌++◌, length, Option, Some, None, arith, length-append}
+use Rattle.std.specs.Prelude.{Bool, true, false}
 use Rattle.minijinja_syntax.specs.Texts.{Text}
 use Rattle.minijinja_value.specs.Values.{Functions}
 use Rattle.minijinja_tree.specs.CompareOps.{CompareOp, eq, ne, lt, lte, gt, gte, is_in, not_in}
 use Rattle.minijinja_tree.specs.Operators.{Working, Makes, Divides, IfTrue, IfFalse, working}
-use Rattle.minijinja_tree.specs.Tree.{Expr, variable, constant, slice, unary, binary, compare, if_expr, filter, test, attribute, item, call, list, tuple, map, Optional, absent, present, Exprs, no_more, more, Comparisons, compared, against, Args, no_args, pos, pos_splat, kwarg, kwarg_splat, Stmt, template, data_text, output, assignment, Stmts, done, also}
+use Rattle.minijinja_tree.specs.Tree.{Expr, variable, constant, slice, unary, binary, compare, if_expr, filter, test, attribute, item, call, list, tuple, map, Optional, absent, present, Exprs, no_more, more, Comparisons, compared, against, Args, no_args, pos, pos_splat, kwarg, kwarg_splat, Stmt, template, data_text, output, assignment, for_loop, if_cond, with_block, set_block, auto_escape, filter_block, do_call, break_loop, continue_loop, Stmts, done, also, are_any}
 use Rattle.minijinja_meaning.specs.Calls.{Written, Super, Recursion, BlockOf, Plain, written}
 use Rattle.minijinja_tree.specs.Callees.{Callee, function, method, block, object, callee}
 use Rattle.minijinja_tree.specs.Folding.{fold, constant_keywords, fold_keywords}
-use Rattle.minijinja_meaning.specs.Code.{Instr, JumpIfFalseOrPop, JumpIfTrueOrPop, BuildList, BuildKwargs, Jump, Swap, DiscardTop}
-use Rattle.minijinja_meaning.specs.Pieces.{Here, behind, Piece, Leading, Open, nothing, one, ◌▸◌, plain, leading_to, ◌▹◌, skipping, branches}
-use Rattle.minijinja_meaning.specs.Layout.{folded, operation, comparison, Failing, and_then, chained, paired, batch, merged, spreading, arguments, argument_count, Count, count_keyword, apply_filter, perform_test, call_of, expr, base, optional, operand, items, each, chain, comparisons, positional, keyword, target, write, stmt, stmts}
+use Rattle.minijinja_meaning.specs.Code.{Instr, DupTop, JumpIfFalse, JumpIfFalseOrPop, JumpIfTrueOrPop, BuildList, BuildKwargs, Jump, Swap, DiscardTop}
+use Rattle.minijinja_meaning.specs.Pieces.{Here, behind, Piece, Leading, Exits, Open, OpenScope, OpenAutoEscape, OpenCapture, nothing, one, ◌▸◌, plain, leading_to, ◌▹◌, skipping, branches, skipping_out, branches_out, turning, closing, leaving}
+use Rattle.minijinja_meaning.specs.Layout.{folded, operation, comparison, Failing, and_then, chained, paired, batch, merged, spreading, arguments, argument_count, Count, count_keyword, apply_filter, perform_test, call_of, expr, base, optional, operand, items, each, chain, comparisons, positional, keyword, target, targets, assignments, write, counting, passing, popping, looping, if_true, either, filters, stmt, stmts}
 
 -- what stands after a piece begins where its instructions end
 pub record Exact {C : Type 0} (p : Piece C) : Type 0 where
@@ -49,7 +50,7 @@ module _ {C : Type 0} where
   pub test_exact : (x : Text) (n : Option ℕ) → Exact {C = C} (perform_test x n)
   test_exact x n = record { ends = λ h. omega arith }
 
-  skipping_exact : (jump : ℕ → Instr C) {p : Piece C} → Exact p → Exact (skipping jump p)
+  pub skipping_exact : (jump : ℕ → Instr C) {p : Piece C} → Exact p → Exact (skipping jump p)
   skipping_exact jump {p} e = record { ends = λ h. omega (arith, e.ends (behind 1 h)) }
 
   pub branches_exact : {p q : Piece C} → Exact p → Exact q → Exact (branches p q)
@@ -90,6 +91,34 @@ module _ {C : Type 0} where
         let after : List (Instr C) = Jump (behind 1 (behind 1 failed)).place ∷ Swap ∷ DiscardTop ∷ [] in
         omega (arith, length-append (p.code h) (r.code failed.place (p.past h) ++ after), length-append (r.code failed.place (p.past h)) after, e.ends h, e'.ends failed.place (p.past h));
   }
+
+  pub skipping_out_exact : {X : Type 0} (jump : ℕ → Instr C) {p : Leading X C} → LeadingExact p → LeadingExact (skipping_out jump p)
+  skipping_out_exact jump e = record { ends = λ x. (skipping_exact jump (exact_to e x)).ends }
+
+  pub branches_out_exact : {X : Type 0} {p q : Leading X C} → LeadingExact p → LeadingExact q → LeadingExact (branches_out p q)
+  branches_out_exact e e' = record { ends = λ x. (branches_exact (exact_to e x) (exact_to e' x)).ends }
+
+  pub turning_exact : {p : Leading Exits C} → LeadingExact p → Exact (turning p)
+  turning_exact {p} e = record {
+    ends = λ h.
+        let x : Exits = record { break_to = ((p.past (behind 1 h)).place + 1); continue_to = h.place } in
+        omega (arith, length-append (p.code x (behind 1 h)) (Jump h.place ∷ []), e.ends x (behind 1 h));
+  }
+
+  pub leaving_exact : (exit : Exits → ℕ) (os : List Open) → LeadingExact {C = C} (leaving exit os)
+  leaving_exact exit os = record { ends = λ x h. omega (arith, length-append (closing {C = C} os) (Jump (exit x) ∷ [])) }
+
+  pub popping_exact : (has_else : Bool) → Exact {C = C} (popping has_else)
+  popping_exact true = then_exact (one_exact _) (one_exact _)
+  popping_exact false = one_exact _
+
+  pub if_true_exact : {X : Type 0} (is_there : Bool) {p : Leading X C} → LeadingExact p → LeadingExact (if_true is_there p)
+  if_true_exact true e = skipping_out_exact JumpIfFalse e
+  if_true_exact false e = plain_exact nothing_exact
+
+  pub either_exact : {X : Type 0} (has_second : Bool) {p q : Leading X C} → LeadingExact p → LeadingExact q → LeadingExact (either has_second p q)
+  either_exact true e e' = branches_out_exact e e'
+  either_exact false e e' = skipping_out_exact JumpIfFalse e
 
   -- each piece is exact
   abbrev pub AllExact : List (Piece C) → Type 0
@@ -188,9 +217,20 @@ module _ {C F : Type 0} (f : Functions C F) where
     keyword_exact (kwarg x e args) n = then_exact (one_exact _) (then_exact (expr_exact e) (keyword_exact args (suc n)))
     keyword_exact (kwarg_splat e args) n = then_exact (batch_exact BuildKwargs n) (then_exact (expr_exact e) (keyword_exact args 0))
 
-  pub target_exact : (e : Expr C) → Exact (target e)
-  target_exact (variable x) = one_exact _
-  target_exact e = nothing_exact
+  mutual
+    pub target_exact : (e : Expr C) → Exact (target f e)
+    target_exact (variable x) = one_exact _
+    target_exact (attribute e x) = then_exact (expr_exact e) (one_exact _)
+    target_exact (list es) = then_exact (one_exact _) (targets_exact es)
+    target_exact e = nothing_exact
+
+    pub targets_exact : (es : Exprs C) → Exact (targets f es)
+    targets_exact no_more = nothing_exact
+    targets_exact (more e es) = then_exact (target_exact e) (targets_exact es)
+
+  pub assignments_exact : (ts : List (Expr C × Expr C)) → Exact (assignments f ts)
+  assignments_exact [] = nothing_exact
+  assignments_exact (a ∷ rest) = then_exact (expr_exact a.1) (then_exact (target_exact a.0) (assignments_exact rest))
 
   pub write_exact : (o : Written C) {p : Piece C} → Exact p → Exact (write f o p)
   write_exact Super e = one_exact _
@@ -198,13 +238,41 @@ module _ {C F : Type 0} (f : Functions C F) where
   write_exact (BlockOf x) e = one_exact _
   write_exact Plain e = then_exact e (one_exact _)
 
+  pub counting_exact : Exact (counting f)
+  counting_exact = branches_exact (then_exact (one_exact _) (then_exact (one_exact _) (one_exact _))) (one_exact _)
+
+  -- what a loop does with each item that may be kept
+  pub keeping_exact : (e condition : Expr C) → LeadingExact {X = Exits} (plain (one DupTop ▸ target f e ▸ expr f condition ▸ counting f))
+  keeping_exact e condition = plain_exact (then_exact (one_exact _) (then_exact (target_exact e) (then_exact (expr_exact condition) counting_exact)))
+
+  pub passing_exact : (e : Expr C) (only : Optional C) {p : Piece C} → Exact p → Exact (passing f e only p)
+  passing_exact e absent x = x
+  passing_exact e (present condition) x = then_exact (one_exact _) (then_exact x (then_exact (one_exact _) (then_exact (turning_exact (keeping_exact e condition)) (then_exact (one_exact _) (one_exact _)))))
+
+  pub looping_exact : (e : Expr C) (recursive has_else : Bool) {p : Leading Exits C} → LeadingExact p → Exact (looping f e recursive has_else p)
+  looping_exact e recursive has_else x = then_exact (one_exact _) (then_exact (turning_exact (and_exact (plain_exact (target_exact e)) x)) (popping_exact has_else))
+
+  pub filters_exact : (chain : Optional C) → Exact (filters f chain)
+  filters_exact absent = nothing_exact
+  filters_exact (present chain) = expr_exact chain
+
   mutual
-    pub stmt_exact : (s : Stmt C) (os : List Open) → LeadingExact (stmt f os s)
+    pub stmt_exact : {L : Type 0} (s : Stmt C L) (os : List Open) → LeadingExact (stmt f os s)
     stmt_exact (template ss) os = stmts_exact ss os
     stmt_exact (data_text t) os = plain_exact (one_exact _)
     stmt_exact (output e) os = plain_exact (write_exact (written e) (expr_exact e))
     stmt_exact (assignment e v) os = plain_exact (then_exact (expr_exact v) (target_exact e))
+    stmt_exact (for_loop n e v only recursive body else_body) os =
+        and_exact (plain_exact (then_exact (passing_exact e only (expr_exact v)) (looping_exact e recursive (are_any else_body) (stmts_exact body [])))) (if_true_exact (are_any else_body) (stmts_exact else_body os))
+    stmt_exact (if_cond e true_body false_body) os = and_exact (plain_exact (expr_exact e)) (either_exact (are_any false_body) (stmts_exact true_body os) (stmts_exact false_body os))
+    stmt_exact (with_block ts body) os = and_exact (plain_exact (then_exact (one_exact _) (assignments_exact ts))) (and_exact (stmts_exact body (OpenScope ∷ os)) (plain_exact (one_exact _)))
+    stmt_exact (set_block e chain body) os = and_exact (plain_exact (one_exact _)) (and_exact (stmts_exact body (OpenCapture ∷ os)) (plain_exact (then_exact (one_exact _) (then_exact (filters_exact chain) (target_exact e)))))
+    stmt_exact (auto_escape e body) os = and_exact (plain_exact (then_exact (expr_exact e) (one_exact _))) (and_exact (stmts_exact body (OpenAutoEscape ∷ os)) (plain_exact (one_exact _)))
+    stmt_exact (filter_block chain body) os = and_exact (plain_exact (one_exact _)) (and_exact (stmts_exact body (OpenCapture ∷ os)) (plain_exact (then_exact (one_exact _) (then_exact (expr_exact chain) (one_exact _)))))
+    stmt_exact (do_call e args) os = plain_exact (then_exact (expr_exact (call e args)) (one_exact _))
+    stmt_exact break_loop os = leaving_exact (λ x. x.break_to) os
+    stmt_exact continue_loop os = leaving_exact (λ x. x.continue_to) os
 
-    pub stmts_exact : (ss : Stmts C) (os : List Open) → LeadingExact (stmts f os ss)
+    pub stmts_exact : {L : Type 0} (ss : Stmts C L) (os : List Open) → LeadingExact (stmts f os ss)
     stmts_exact done os = plain_exact nothing_exact
     stmts_exact (also s rest) os = and_exact (stmt_exact s os) (stmts_exact rest os)

@@ -1,6 +1,6 @@
 -- A piece of code, wherever it stands in a list, does what a part means; and how such pieces are put together.
 use Rattle.std.proofs.Common.{◌≡◌, ℕ, ◌+◌, ◌≤◌, List, [], ◌∷◌, length, Option, Some, None, Result, refl, sym, ap, ◌∙◌, subst, arith}
-use Rattle.std.specs.Prelude.{Bool, true, false, cond, if◌then◌else◌}
+use Rattle.std.specs.Prelude.{Bool, true, false, cond}
 use Rattle.minijinja_syntax.specs.Texts.{Text}
 use Rattle.minijinja_value.specs.Values.{Functions}
 use Rattle.minijinja_meaning.specs.Events.{Kind, Gave, Ended, next, give, choose, operated, tell, get, get_all}
@@ -14,7 +14,7 @@ use Rattle.minijinja_meaning.proofs.Runs.{pops, Any, IsCounted, Stands, front, b
 use Rattle.minijinja_meaning.proofs.Lengths.{Exact, grows}
 use Rattle.minijinja_meaning.proofs.Folds.{Folds}
 
-next_assoc : {C F X Y Z : Type 0} (d : Did C F X) (m : X → Act C F Y) (n : Y → Act C F Z) → next (next d m) n ≡ next d (λ x w. next (m x w) n)
+pub next_assoc : {C F X Y Z : Type 0} (d : Did C F X) (m : X → Act C F Y) (n : Y → Act C F Z) → next (next d m) n ≡ next d (λ x w. next (m x w) n)
 unfolding next
 next_assoc (Gave w x) m n = refl
 next_assoc (Ended w e) m n = refl

@@ -1,15 +1,16 @@
--- What a tree means looks at no name of a node: under other names it does the same.
-use Rattle.std.proofs.Common.{◌≡◌, List, [], ◌∷◌, Option, Result, refl, ap, ◌∙◌}
+-- What a tree means looks at no name of a loop: under other names it does the same.
+use Rattle.std.proofs.Common.{◌≡◌, ℕ, zero, suc, List, [], ◌∷◌, length, Option, Some, None, Result, refl, ap, ◌∙◌}
 use Rattle.std.specs.Prelude.{Bool, true, false}
 use Rattle.minijinja_value.specs.Values.{Functions}
 use Rattle.minijinja_tree.specs.Operators.{Working, Makes, Divides, IfTrue, IfFalse, working}
 use Rattle.minijinja_tree.specs.Comparisons.{compares}
 use Rattle.minijinja_tree.specs.Callees.{Callee, function, method, block, object, callee}
-use Rattle.minijinja_tree.specs.Tree.{UnaryOp, logical_not, negation, Expr, variable, constant, slice, unary, binary, compare, if_expr, filter, test, attribute, item, call, list, tuple, map, Optional, absent, present, Exprs, no_more, more, Comparisons, compared, against, Args, no_args, pos, pos_splat, kwarg, kwarg_splat, Stmt, template, data_text, output, assignment, Stmts, done, also}
+use Rattle.minijinja_tree.specs.Tree.{UnaryOp, logical_not, negation, Expr, variable, constant, slice, unary, binary, compare, if_expr, filter, test, attribute, item, call, list, tuple, map, Optional, absent, present, Exprs, no_more, more, Comparisons, compared, against, Args, no_args, pos, pos_splat, kwarg, kwarg_splat, Stmt, template, data_text, output, assignment, for_loop, if_cond, with_block, set_block, auto_escape, filter_block, do_call, break_loop, continue_loop, Stmts, done, also}
 use Rattle.minijinja_meaning.specs.Events.{Event, World, Means, next, give, choose, operated, ask}
 use Rattle.minijinja_meaning.specs.Calls.{Written, Super, Recursion, BlockOf, Plain, written}
-use Rattle.minijinja_meaning.specs.Meaning.{operate_one, operate, in_pairs, Taken, nothing_yet, keyword_map, spread, arguments, call_of, expr, base, optional, items, each, chain, positional, keyword, Signal, On, Broke, Continued, if_on, assign, write, stmt, stmts}
-use Rattle.minijinja_meaning.specs.Naming.{world_as, did_as, renamed}
+use Rattle.minijinja_meaning.specs.Meaning.{operate_one, operate, in_pairs, Taken, nothing_yet, keyword_map, spread, arguments, call_of, expr, base, optional, items, each, chain, positional, keyword, Signal, On, Broke, Continued, if_on, assign, assign_each, assign_all, filtered, write, Turn, with_item, turns, all_turns, passing, looped, stmt, stmts}
+use Rattle.minijinja_meaning.specs.FilterChains.{fed}
+use Rattle.minijinja_meaning.specs.Naming.{world_as, did_as, renamed, relabel, relabel_all}
 use Rattle.minijinja_meaning.proofs.Seen.{next_as, ask_as, operated_as}
 
 -- the second piece does what the first one does, under other names
@@ -133,9 +134,25 @@ module _ {N M C F : Type 0} (r : N → M) (f : Functions C F) where
     keyword_renamed (kwarg x e args) t = rename_next r (expr_renamed e) (λ v. keyword_renamed args _)
     keyword_renamed (kwarg_splat e args) t = rename_next r (expr_renamed e) (λ v. keyword_renamed args _)
 
-  assign_renamed : (target : Expr C) (v : C) → Renames {F = F} r (assign target v) (assign target v)
-  assign_renamed (variable x) v = rename_next r (rename_ask r _ _) (λ _. rename_give r On)
-  assign_renamed target v = rename_give r On
+  mutual
+    assign_renamed : (target : Expr C) (v : C) → Renames {F = F} r (assign f target v) (assign f target v)
+    assign_renamed (variable x) v = rename_ask r _ _
+    assign_renamed (attribute e x) v = rename_next r (expr_renamed e) (λ u. rename_ask r _ _)
+    assign_renamed (list es) v = rename_next r (rename_ask r _ _) (assign_each_renamed es)
+    assign_renamed target v = rename_give r tt
+
+    assign_each_renamed : (es : Exprs C) (vs : List C) → Renames {F = F} r (assign_each f es vs) (assign_each f es vs)
+    assign_each_renamed no_more vs = rename_give r tt
+    assign_each_renamed (more e es) [] = rename_give r tt
+    assign_each_renamed (more e es) (v ∷ vs) = rename_next r (assign_renamed e v) (λ _. assign_each_renamed es vs)
+
+  assign_all_renamed : (ts : List (Expr C × Expr C)) → Renames {F = F} r (assign_all f ts) (assign_all f ts)
+  assign_all_renamed [] = rename_give r tt
+  assign_all_renamed (a ∷ rest) = rename_next r (expr_renamed a.1) (λ v. rename_next r (assign_renamed a.0 v) (λ _. assign_all_renamed rest))
+
+  filtered_renamed : (chain : Optional C) (v : C) → Renames r (filtered f chain v) (filtered f chain v)
+  filtered_renamed absent v = rename_give r v
+  filtered_renamed (present chain) v = expr_renamed (fed v chain)
 
   write_renamed : (o : Written C) {m : Means N C F C} {m' : Means M C F C} → Renames r m m' → Renames r (write f o m) (write f o m')
   write_renamed Super a = rename_next r (rename_ask r _ _) (λ _. rename_give r On)
@@ -149,13 +166,69 @@ module _ {N M C F : Type 0} (r : N → M) (f : Functions C F) where
   on_renamed Broke a = rename_give r Broke
   on_renamed Continued a = rename_give r Continued
 
+  with_item_renamed : {S : Type 0} (i : Option C) {turn : Turn N C F S} {turn' : Turn M C F S} (came : Bool) (s : S) {o : S → Means N C F (Bool × S)} {o' : S → Means M C F (Bool × S)} → ((v : C) (s : S) → Renames r (turn v s) (turn' v s)) → ((s : S) → Renames r (o s) (o' s)) → Renames r (with_item i turn came s o) (with_item i turn' came s o')
+  unfolding with_item
+  with_item_renamed None came s k h = rename_give r _
+  with_item_renamed (Some v) came s k h = rename_next r (k v s) (λ g. rename_choose r g.0 (h g.1) (rename_give r _))
+
+  turns_renamed : {S : Type 0} (n : ℕ) {turn : Turn N C F S} {turn' : Turn M C F S} → ((v : C) (s : S) → Renames r (turn v s) (turn' v s)) → (came : Bool) (s : S) → Renames r (turns n turn came s) (turns n turn' came s)
+  unfolding turns
+  turns_renamed zero k came s = record { does = λ w. refl }
+  turns_renamed (suc n) k came s = rename_next r (rename_ask r _ _) (λ i. with_item_renamed i came s k (turns_renamed n k true))
+
+  all_turns_renamed : {S : Type 0} {turn : Turn N C F S} {turn' : Turn M C F S} → ((v : C) (s : S) → Renames r (turn v s) (turn' v s)) → (came : Bool) (s : S) → Renames r (all_turns turn came s) (all_turns turn' came s)
+  unfolding all_turns
+  all_turns_renamed k came s = record { does = λ w. (turns_renamed (length w.answers) k came s).does w }
+
+  passing_renamed : (target : Expr C) (only : Optional C) (v : C) → Renames r (passing f target only v) (passing f target only v)
+  passing_renamed target absent v = rename_give r v
+  passing_renamed target (present condition) v =
+      rename_next r (rename_ask r _ _) λ _.
+      rename_next r (all_turns_renamed (λ u kept. rename_next r (assign_renamed target u) (λ _. rename_next r (expr_renamed condition) (λ t. rename_give r _))) false []) λ t.
+      rename_next r (rename_ask r _ _) (λ _. rename_give r _)
+
+  looped_renamed : (n : N) (target : Expr C) (recursive : Bool) {m : Means N C F Signal} {m' : Means M C F Signal} → Renames r m m' → (v : C) → Renames r (looped f n target recursive m v) (looped f (r n) target recursive m' v)
+  looped_renamed n target recursive k v =
+      rename_next r (rename_ask r _ _) λ _.
+      rename_next r (all_turns_renamed (λ u s. rename_next r (assign_renamed target u) (λ _. rename_next r k (λ g. rename_give r _))) false tt) λ t.
+      rename_next r (rename_ask r _ _) (λ _. rename_give r _)
+
   mutual
-    pub stmt_renamed : (s : Stmt C) → Renames r (stmt f s) (stmt f s)
+    pub stmt_renamed : (s : Stmt C N) → Renames r (stmt f s) (stmt f (relabel r s))
     stmt_renamed (template ss) = stmts_renamed ss
     stmt_renamed (data_text t) = rename_next r (rename_ask r _ _) (λ _. rename_give r On)
     stmt_renamed (output e) = write_renamed (written e) (expr_renamed e)
-    stmt_renamed (assignment target e) = rename_next r (expr_renamed e) (assign_renamed target)
+    stmt_renamed (assignment target e) = rename_next r (expr_renamed e) (λ v. rename_next r (assign_renamed target v) (λ _. rename_give r On))
+    stmt_renamed (for_loop n target e only recursive body else_body) =
+        rename_next r (expr_renamed e) λ v.
+        rename_next r (passing_renamed target only v) λ u.
+        rename_next r (looped_renamed n target recursive (stmts_renamed body) u) λ came.
+        rename_choose r came (rename_give r On) (stmts_renamed else_body)
+    stmt_renamed (if_cond e true_body false_body) = rename_next r (expr_renamed e) (λ v. rename_choose r (f.is_true v) (stmts_renamed true_body) (stmts_renamed false_body))
+    stmt_renamed (with_block ts body) =
+        rename_next r (rename_ask r _ _) λ _.
+        rename_next r (assign_all_renamed ts) λ _.
+        rename_next r (stmts_renamed body) λ g.
+        rename_next r (rename_ask r _ _) (λ _. rename_give r g)
+    stmt_renamed (set_block target chain body) =
+        rename_next r (rename_ask r _ _) λ _.
+        rename_next r (stmts_renamed body) λ g.
+        rename_next r (rename_ask r _ _) λ v.
+        on_renamed g (rename_next r (rename_next r (filtered_renamed chain v) (assign_renamed target)) (λ _. rename_give r On))
+    stmt_renamed (auto_escape e body) =
+        rename_next r (expr_renamed e) λ v.
+        rename_next r (rename_ask r _ _) λ _.
+        rename_next r (stmts_renamed body) λ g.
+        rename_next r (rename_ask r _ _) (λ _. rename_give r g)
+    stmt_renamed (filter_block chain body) =
+        rename_next r (rename_ask r _ _) λ _.
+        rename_next r (stmts_renamed body) λ g.
+        rename_next r (rename_ask r _ _) λ v.
+        on_renamed g (rename_next r (rename_next r (expr_renamed (fed v chain)) (λ u. rename_ask r _ _)) (λ _. rename_give r On))
+    stmt_renamed (do_call e args) = rename_next r (expr_renamed (call e args)) (λ v. rename_give r On)
+    stmt_renamed break_loop = rename_give r Broke
+    stmt_renamed continue_loop = rename_give r Continued
 
-    stmts_renamed : (ss : Stmts C) → Renames r (stmts f ss) (stmts f ss)
+    stmts_renamed : (ss : Stmts C N) → Renames r (stmts f ss) (stmts f (relabel_all r ss))
     stmts_renamed done = rename_give r On
     stmts_renamed (also s rest) = rename_next r (stmt_renamed s) (λ g. on_renamed g (stmts_renamed rest))

@@ -1,5 +1,5 @@
 -- How stretches of a run are put together.
-use Rattle.std.proofs.Common.{◌≡◌, ℕ, zero, suc, ◌+◌, ◌<◌, ◌≤◌, List, [], ◌∷◌, ◌++◌, length, Option, Some, None, Result, Ok, Err, refl, ap, ◌∙◌, subst, arith, append_assoc, length-append}
+use Rattle.std.proofs.Common.{◌≡◌, ℕ, zero, suc, ◌+◌, ◌<◌, ◌≤◌, List, [], ◌∷◌, ◌++◌, length, Option, Some, None, Result, Ok, Err, refl, sym, ap, ◌∙◌, subst, arith, append_assoc, length-append}
 use Rattle.std.specs.Prelude.{Bool, slice_get, cond, ◌^◌}
 use Rattle.std.proofs.Math.Seq.{get_or-append_seam}
 use Rattle.std.proofs.lemmas.Option.{slice_get-get_or}
@@ -7,7 +7,7 @@ use Rattle.minijinja_syntax.specs.Texts.{Text}
 use Rattle.minijinja_value.specs.Values.{Functions}
 use Rattle.minijinja_meaning.specs.Events.{Kind, Event, Answer, Fault, Values, Gave, Ended, next, operated, fitted, answered, ask, none_fits, one_fits, all_fit, event, tell, get, get_all}
 use Rattle.minijinja_meaning.specs.Answers.{AreFew, AreLeftOf}
-use Rattle.minijinja_meaning.specs.Code.{Instr}
+use Rattle.minijinja_meaning.specs.Code.{Instr, Jump}
 use Rattle.minijinja_meaning.specs.Machine.{At, Returned, Halted, Jammed, after, Nothing, OneValue, AllValues, size, pushed, popped, did, asked, act, step, run}
 use Rattle.minijinja_meaning.proofs.Placed.{World, Did, Act, State, bare, Stretch}
 
@@ -68,7 +68,7 @@ left_all xs = record { fewer = omega arith; less = omega arith }
 pub left_then : {C : Type 0} {xs ys zs : List (Answer C)} → AreLeftOf xs ys → AreLeftOf ys zs → AreLeftOf xs zs
 left_then a b = record { fewer = omega (arith, a.fewer, b.fewer); less = omega (arith, a.less, b.less) }
 
-left_more : {C : Type 0} {a : Answer C} {xs ys : List (Answer C)} → AreLeftOf xs ys → AreLeftOf (a ∷ xs) ys
+pub left_more : {C : Type 0} {a : Answer C} {xs ys : List (Answer C)} → AreLeftOf xs ys → AreLeftOf (a ∷ xs) ys
 left_more {a = Fault} l = record { fewer = omega (arith, l.fewer); less = omega (arith, l.less) }
 left_more {a = Values vs} l = record { fewer = omega (arith, l.fewer); less = omega (arith, l.less) }
 
@@ -213,6 +213,22 @@ module _ {C F : Type 0} (f : Functions C F) (code : List (Instr C)) (to : Stretc
   pub step_comes : {p : ℕ} {i : Instr C} (ops : List C) (ls : List Bool) (w : World C) (a : State C F) (q : ℕ) → w.answers ≡ answers_of a → p < to.end → slice_get code p ≡ Some i → act f bare (Some i) p ops ls w ≡ a → p + 1 ≤ q → Comes (At p ops ls w) a q
   step_comes ops ls w a q same before h e le = asking_comes ops ls w a q (subst (AreLeftOf w.answers) same (left_all w.answers)) before h e le
 
+  -- a step that takes an answer, a stretch, a jump back to that step, and another stretch: the answer pays for the way back
+  pub around : {p a l : ℕ} {i : Instr C} {ops ops1 ops2 : List C} {ls ls1 : List Bool} {w w1 w2 : World C} {s : State C F} (x : Answer C) → w.answers ≡ x ∷ w1.answers → p < to.end → slice_get code p ≡ Some i → act f bare (Some i) p ops ls w ≡ At (p + 1) ops1 ls1 w1 → Comes (At (p + 1) ops1 ls1 w1) (At a ops2 ls1 w2) a → a < to.end → a < length code → slice_get code a ≡ Some (Jump p) → Comes (At p ops2 ls1 w2) s l → Comes (At p ops ls w) s l
+  unfolding run step
+  around {p} {a} {l} {i} {ops} {ops1} {ops2} {ls} {ls1} {w} {w1} {w2} {s} x taken before h e body before' within jump others =
+      let b = body.bound in
+      let o = others.bound in
+      let first_step = ap (λ b. cond b (At p ops ls w) (act f bare (slice_get code p) p ops ls w)) (to.goes_on p before) ∙ ap (λ i. act f bare i p ops ls w) h ∙ e in
+      let jump_step = ap (λ b. cond b (At a ops2 ls1 w2) (act f bare (slice_get code a) a ops2 ls1 w2)) (to.goes_on a before') ∙ ap (λ i. act f bare i a ops2 ls1 w2) jump in
+      let spent : budget (length code + 1) w.answers ≡ length code + 1 + budget (length code + 1) w1.answers = ap (budget (length code + 1)) taken in
+      record {
+        steps = suc (body.steps + suc others.steps);
+        gets = ap (ran (body.steps + suc others.steps)) first_step ∙ run_then body.steps (suc others.steps) _ _ body.gets ∙ ap (ran others.steps) jump_step ∙ others.gets;
+        bound = omega arith;
+        left = subst (λ l. AreLeftOf l (answers_of s)) (sym taken) (left_more (left_then body.left others.left));
+      }
+
   -- From a state, with what is put on the operands at a place, or to an end; and what holds of what was given.
   pub record Gives {X : Type 0} (s : State C F) (q : ℕ) (ls : List Bool) (P : X → Type 0) (put : X → List C) (m : Did C F X) : Type 0 where
     pub comes : Comes s (after (λ x w. At q (put x) ls w) m) q
@@ -232,6 +248,12 @@ module _ {C F : Type 0} (f : Functions C F) (code : List (Instr C)) (to : Stretc
 
   pub here : {X : Type 0} {q : ℕ} {ls : List Bool} {P : X → Type 0} {put : X → List C} (x : X) (w : World C) → P x → AreFew w.answers → Gives (At q (put x) ls w) q ls P put (Gave w x)
   here {q = q} x w p few = record { comes = stays (At q _ _ w) q (omega arith); holds = (p, few) }
+
+  -- what leads to where a value is known, and what follows
+  pub then_comes : {X Y : Type 0} {s : State C F} {q q' : ℕ} {ls : List Bool} {P : X → Type 0} {put : X → List C} (m : Did C F X) (n : X → Act C F Y) (k : Y → World C → State C F) → q ≤ q' → Gives s q ls P put m → ((x : X) (w : World C) → P x → AreFew w.answers → Comes (At q (put x) ls w) (after k (n x w)) q') → Comes s (after k (next m n)) q'
+  unfolding next
+  then_comes (Gave w x) n k le g h = comes_then (omega arith) g.comes (h x w g.holds.0 g.holds.1)
+  then_comes (Ended w e) n k le g h = raise le g.comes
 
   -- a jump forward after what was given
   pub then_jumps : {X : Type 0} {s : State C F} {q q' : ℕ} {ls : List Bool} {P : X → Type 0} {put : X → List C} {m : Did C F X} → q ≤ q' → ((x : X) (w : World C) → Comes (At q (put x) ls w) (At q' (put x) ls w) q') → Gives s q ls P put m → Gives s q' ls P put m

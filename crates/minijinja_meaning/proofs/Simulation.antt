@@ -8,9 +8,9 @@ use Rattle.minijinja_tree.specs.CompareOps.{CompareOp}
 use Rattle.minijinja_tree.specs.Operators.{Working, Makes, Divides, IfTrue, IfFalse, working, compute}
 use Rattle.minijinja_tree.specs.Comparisons.{compares}
 use Rattle.minijinja_tree.specs.Tree.{UnaryOp, logical_not, negation, Expr, variable, constant, slice, unary, binary, compare, if_expr, filter, test, attribute, item, call, list, tuple, map, Optional, absent, present, Exprs, no_more, more, Comparisons, compared, against, Args, no_args, pos, pos_splat, kwarg, kwarg_splat}
-use Rattle.minijinja_tree.specs.WellFormed.{expr_count, IsWhole, IsWholeIfAny, AreWhole, IsChain, AreCompared, AreArguments}
+use Rattle.minijinja_tree.specs.WellFormed.{expr_count, IsWhole, IsWholeIfAny, AreWhole, IsChain, AreCompared, AreArguments, IsChainOfFilters}
 use Rattle.minijinja_meaning.specs.Events.{Kind, Lookup, GetAttr, GetItem, Slice, Div, ApplyFilter, PerformTest, CallFunction, CallMethod, CallObject, BeginCapture, EndCapture, CallBlock, Capture, next, give, operated, get}
-use Rattle.minijinja_meaning.specs.FilterChains.{IsChainOfFilters, fed}
+use Rattle.minijinja_meaning.specs.FilterChains.{fed}
 use Rattle.minijinja_tree.specs.Callees.{Callee, function, method, block, object, callee}
 use Rattle.minijinja_tree.specs.Folding.{fold}
 use Rattle.minijinja_meaning.specs.Meaning.{operate_one, operate, Taken, nothing_yet, with_one, with_batch, call_of as call_meaning, expr as expr_meaning, base as base_meaning, optional as optional_meaning, items as items_meaning, each as each_meaning, chain as chain_meaning, positional as positional_meaning, keyword as keyword_meaning, arguments as arguments_meaning}

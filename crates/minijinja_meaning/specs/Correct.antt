@@ -50,8 +50,8 @@ a_statement start end = record { place = start; given = []; finish = AtPlace end
 abbrev pub an_expression : {C : Type 0} → (start end : ℕ) → Entry C C
 an_expression start end = record { place = start; given = []; finish = AtPlace end; leaves = λ v. v ∷ [] }
 
--- the code between these places does what the statement means
-abbrev pub DoesStmt : {C F : Type 0} → Functions C F → List (Instr C) → (start end : ℕ) → Stmt C → Type 0
+-- the code between these places does what the statement means, whose loops are named by their places
+abbrev pub DoesStmt : {C F : Type 0} → Functions C F → List (Instr C) → (start end : ℕ) → Stmt C ℕ → Type 0
 DoesStmt f code start end t = Does f code (a_statement start end) (stmt f t)
 
 -- likewise an expression

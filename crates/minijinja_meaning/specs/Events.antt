@@ -151,3 +151,7 @@ get k t vs = ask one_fits (event None k t vs)
 -- one that is answered by any number of values
 abbrev pub get_all : {N C F : Type 0} → Kind → Text → List C → Means N C F (List C)
 get_all k t vs = ask all_fit (event None k t vs)
+
+-- a value is taken apart into so many
+abbrev pub take_apart : {N C F : Type 0} → ℕ → C → Means N C F (List C)
+take_apart n v = ask (so_many_fit n) (event None (UnpackList n) [] (v ∷ []))

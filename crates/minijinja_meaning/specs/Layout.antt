@@ -1,17 +1,18 @@
 -- The code of a tree: for each construct its instructions, which jump to places that are computed from what stands between.
-use Rattle.std.specs.Prelude.{ℕ, zero, suc, ◌+◌, List, [], ◌∷◌, ◌++◌, Option, Some, None}
+use Rattle.std.specs.Prelude.{ℕ, zero, suc, ◌+◌, Bool, true, false, List, [], ◌∷◌, ◌++◌, Option, Some, None}
 use Rattle.minijinja_syntax.specs.Texts.{Text}
 use Rattle.minijinja_value.specs.Values.{Functions}
 use Rattle.minijinja_tree.specs.CompareOps.{CompareOp, eq, ne, lt, lte, gt, gte, is_in, not_in}
-use Rattle.minijinja_tree.specs.Operators.{Working, Makes, Divides, IfTrue, IfFalse, working, Eq, Ne, Lt, Lte, Gt, Gte, In}
-use Rattle.minijinja_tree.specs.Tree.{UnaryOp, logical_not, negation, Expr, variable, constant, slice, unary, binary, compare, if_expr, filter, test, attribute, item, call, list, tuple, map, Optional, absent, present, Exprs, no_more, more, Comparisons, compared, against, Args, no_args, pos, pos_splat, kwarg, kwarg_splat, Stmt, template, data_text, output, assignment, Stmts, done, also}
+use Rattle.minijinja_tree.specs.Operators.{Working, Makes, Divides, IfTrue, IfFalse, working, Add, Eq, Ne, Lt, Lte, Gt, Gte, In}
+use Rattle.minijinja_tree.specs.Tree.{UnaryOp, logical_not, negation, Expr, variable, constant, slice, unary, binary, compare, if_expr, filter, test, attribute, item, call, list, tuple, map, Optional, absent, present, Exprs, no_more, more, Comparisons, compared, against, Args, no_args, pos, pos_splat, kwarg, kwarg_splat, Stmt, template, data_text, output, assignment, for_loop, if_cond, with_block, set_block, auto_escape, filter_block, do_call, break_loop, continue_loop, Stmts, done, also, are_any}
 use Rattle.minijinja_tree.specs.Callees.{Callee, function, method, block, object, callee}
 use Rattle.minijinja_tree.specs.Folding.{fold, constant_keywords, fold_keywords}
 use Rattle.minijinja_tree.specs.WellFormed.{expr_count}
-use Rattle.minijinja_meaning.specs.Events.{EmitRaw, Emit, Lookup, StoreLocal, GetAttr, GetItem, Slice, Div, ApplyFilter, PerformTest, CallFunction, CallMethod, CallObject, MergeKwargs, UnpackLists, BeginCapture, EndCapture, CallBlock, FastSuper, FastRecurse, Capture}
+use Rattle.minijinja_meaning.specs.Events.{PushWith, PopFrame, PushAutoEscape, PopAutoEscape, SetAttr, EmitRaw, Emit, Lookup, StoreLocal, GetAttr, GetItem, Slice, Div, ApplyFilter, PerformTest, CallFunction, CallMethod, CallObject, MergeKwargs, UnpackLists, BeginCapture, EndCapture, CallBlock, FastSuper, FastRecurse, Capture}
 use Rattle.minijinja_meaning.specs.Calls.{Written, Super, Recursion, BlockOf, Plain, written}
-use Rattle.minijinja_meaning.specs.Code.{Instr, Load, Do, Call, Apply, Operate, Neg, Not, CompareAndPreserve, BuildMap, BuildKwargs, BuildList, BuildTuple, DiscardTop, Swap, Jump, JumpIfFalseOrPop, JumpIfTrueOrPop}
-use Rattle.minijinja_meaning.specs.Pieces.{Here, behind, Piece, Leading, Exits, outside, Open, nothing, one, ◌▸◌, plain, ◌▹◌, skipping, branches, id_of, noted}
+use Rattle.minijinja_meaning.specs.Meaning.{loop_flags}
+use Rattle.minijinja_meaning.specs.Code.{Instr, Load, Do, Call, Apply, UnpackList, PushLoop, PopLoopFrame, PushDidNotIterate, Operate, Neg, Not, CompareAndPreserve, BuildMap, BuildKwargs, BuildList, BuildTuple, DupTop, DiscardTop, Swap, Jump, JumpIfFalse, JumpIfFalseOrPop, JumpIfTrueOrPop}
+use Rattle.minijinja_meaning.specs.Pieces.{Here, behind, Piece, Leading, Exits, outside, Open, OpenScope, OpenAutoEscape, OpenCapture, nothing, one, ◌▸◌, plain, ◌▹◌, skipping, branches, skipping_out, branches_out, turning, leaving, id_of, noted}
 
 -- a constant in place of the piece that computes it
 unfoldable pub folded : {C : Type 0} → Option C → Piece C → Piece C
@@ -248,10 +249,23 @@ abbrev mutual
   keyword f (kwarg x e args) n = one (Load (f.of_str x)) ▸ expr f e ▸ keyword f args (suc n)
   keyword f (kwarg_splat e args) n = map_batch n ▸ expr f e ▸ keyword f args 0
 
--- what is no target has no code
-abbrev pub target : {C : Type 0} → Expr C → Piece C
-target (variable x) = one (Do StoreLocal x 1)
-target _ = nothing
+-- a value on top goes where a target says; what is no target has no code
+abbrev mutual
+  pub target : {C F : Type 0} → Functions C F → Expr C → Piece C
+  target f (variable x) = one (Do StoreLocal x 1)
+  target f (attribute e x) = expr f e ▸ one (Do SetAttr x 2)
+  target f (list es) = one (UnpackList (expr_count es)) ▸ targets f es
+  target f _ = nothing
+
+  -- targets in order
+  pub targets : {C F : Type 0} → Functions C F → Exprs C → Piece C
+  targets f no_more = nothing
+  targets f (more e es) = target f e ▸ targets f es
+
+-- targets with their values, in turn
+abbrev pub assignments : {C F : Type 0} → Functions C F → List (Expr C × Expr C) → Piece C
+assignments f [] = nothing
+assignments f (a ∷ rest) = expr f a.1 ▸ target f a.0 ▸ assignments f rest
 
 -- what an output writes, of the piece of its expression
 abbrev pub write : {C F : Type 0} → Functions C F → Written C → Piece C → Piece C
@@ -260,16 +274,64 @@ write f (Recursion e) value = expr f e ▸ one (Do FastRecurse [] 1)
 write f (BlockOf x) value = one (Do CallBlock x 0)
 write f Plain value = value ▸ one (Do Emit [] 1)
 
+-- a true test counts the item, which stays below the count; else the item is dropped
+abbrev pub counting : {C F : Type 0} → Functions C F → Piece C
+counting f = branches (one Swap ▸ one (Load (f.of_u64 1)) ▸ one (Operate Add)) (one DiscardTop)
+
+-- the items of what a piece gives that pass the test, if there is one: they are kept on the operands, their count on top
+abbrev pub passing : {C F : Type 0} → Functions C F → (target : Expr C) → Optional C → Piece C → Piece C
+passing f e absent p = p
+passing f e (present condition) p =
+    one (Load (f.of_u64 0)) ▸ p ▸ one (PushLoop 0) ▸ turning (plain (one DupTop ▸ target f e ▸ expr f condition ▸ counting f)) ▸ one PopLoopFrame ▸ one (BuildList None)
+
+-- the end of a loop, which leaves whether no item came where its else body asks for that
+abbrev pub popping : {C : Type 0} → (has_else : Bool) → Piece C
+popping true = one PushDidNotIterate ▸ one PopLoopFrame
+popping false = one PopLoopFrame
+
+-- a loop over the items of the value on top, of its target and the piece of its body
+abbrev pub looping : {C F : Type 0} → Functions C F → (target : Expr C) → (recursive has_else : Bool) → Leading Exits C → Piece C
+looping f e recursive has_else body = one (PushLoop (loop_flags recursive)) ▸ turning (plain (target f e) ▹ body) ▸ popping has_else
+
+-- a piece where the value on top is true, if there is a piece
+abbrev pub if_true : {X C : Type 0} → (is_there : Bool) → Leading X C → Leading X C
+if_true true p = skipping_out JumpIfFalse p
+if_true false p = plain nothing
+
+-- the first piece where the value on top is true, else the second, if there is one
+abbrev pub either : {X C : Type 0} → (has_second : Bool) → Leading X C → Leading X C → Leading X C
+either true p q = branches_out p q
+either false p q = skipping_out JumpIfFalse p
+
+-- the filters of a chain, if there is one
+abbrev pub filters : {C F : Type 0} → Functions C F → Optional C → Piece C
+filters f absent = nothing
+filters f (present chain) = expr f chain
+
 -- a statement, where this is open within its loop
 abbrev mutual
-  pub stmt : {C F : Type 0} → Functions C F → List Open → Stmt C → Leading Exits C
+  pub stmt : {C L F : Type 0} → Functions C F → List Open → Stmt C L → Leading Exits C
   stmt f os (template ss) = stmts f os ss
   stmt f os (data_text t) = plain (one (Do EmitRaw t 0))
   stmt f os (output e) = plain (write f (written e) (expr f e))
-  stmt f os (assignment e v) = plain (expr f v ▸ target e)
+  stmt f os (assignment e v) = plain (expr f v ▸ target f e)
+  stmt f os (for_loop n e v only recursive body else_body) =
+      plain (passing f e only (expr f v) ▸ looping f e recursive (are_any else_body) (stmts f [] body)) ▹ if_true (are_any else_body) (stmts f os else_body)
+  stmt f os (if_cond e true_body false_body) = plain (expr f e) ▹ either (are_any false_body) (stmts f os true_body) (stmts f os false_body)
+  stmt f os (with_block ts body) =
+      plain (one (Do PushWith [] 0) ▸ assignments f ts) ▹ stmts f (OpenScope ∷ os) body ▹ plain (one (Do PopFrame [] 0))
+  stmt f os (set_block e chain body) =
+      plain (one (Do (BeginCapture Capture) [] 0)) ▹ stmts f (OpenCapture ∷ os) body ▹ plain (one (Do EndCapture [] 0) ▸ filters f chain ▸ target f e)
+  stmt f os (auto_escape e body) =
+      plain (expr f e ▸ one (Do PushAutoEscape [] 1)) ▹ stmts f (OpenAutoEscape ∷ os) body ▹ plain (one (Do PopAutoEscape [] 0))
+  stmt f os (filter_block chain body) =
+      plain (one (Do (BeginCapture Capture) [] 0)) ▹ stmts f (OpenCapture ∷ os) body ▹ plain (one (Do EndCapture [] 0) ▸ expr f chain ▸ one (Do Emit [] 1))
+  stmt f os (do_call e args) = plain (expr f (call e args) ▸ one DiscardTop)
+  stmt f os break_loop = leaving (λ x. x.break_to) os
+  stmt f os continue_loop = leaving (λ x. x.continue_to) os
 
   -- statements in order
-  pub stmts : {C F : Type 0} → Functions C F → List Open → Stmts C → Leading Exits C
+  pub stmts : {C L F : Type 0} → Functions C F → List Open → Stmts C L → Leading Exits C
   stmts f os done = plain nothing
   stmts f os (also s rest) = stmt f os s ▹ stmts f os rest
 
@@ -282,17 +344,17 @@ abbrev pub expr_code : {C F : Type 0} → Functions C F → Expr C → Here → 
 expr_code f e = (expr f e).code
 
 -- what stands after the code of a statement outside of all loops
-abbrev pub past_stmt : {C F : Type 0} → Functions C F → Stmt C → Here → Here
+abbrev pub past_stmt : {C L F : Type 0} → Functions C F → Stmt C L → Here → Here
 past_stmt f s = (stmt f [] s).past
 
 -- its instructions
-abbrev pub stmt_code : {C F : Type 0} → Functions C F → Stmt C → Here → List (Instr C)
+abbrev pub stmt_code : {C L F : Type 0} → Functions C F → Stmt C L → Here → List (Instr C)
 stmt_code f s = (stmt f [] s).code outside
 
 -- what stands after the code of an assignment to a target
-abbrev pub past_target : {C : Type 0} → Expr C → Here → Here
-past_target e = (target e).past
+abbrev pub past_target : {C F : Type 0} → Functions C F → Expr C → Here → Here
+past_target f e = (target f e).past
 
 -- its instructions
-abbrev pub target_code : {C : Type 0} → Expr C → Here → List (Instr C)
-target_code e = (target e).code
+abbrev pub target_code : {C F : Type 0} → Functions C F → Expr C → Here → List (Instr C)
+target_code f e = (target f e).code

@@ -11,4 +11,6 @@ pub mod Jumps
 pub mod Machine
 pub mod Brackets
 pub mod Naming
+pub mod Places
 pub mod Correct
+pub mod Units

@@ -1,11 +1,13 @@
 -- What a tree does: its events with their operands, in order. There is no code in it, no place, no stack, no jump and no folding.
-use Rattle.std.specs.Prelude.{true, false, not, List, [], ◌∷◌, ◌++◌}
+use Rattle.std.specs.Prelude.{◌≡◌, ℕ, zero, suc, Bool, true, false, not, if◌then◌else◌, List, [], ◌∷◌, ◌++◌, length, Option, Some, None}
 use Rattle.minijinja_value.specs.Values.{Functions}
 use Rattle.minijinja_tree.specs.Operators.{Working, Makes, Divides, IfTrue, IfFalse, working, compute}
 use Rattle.minijinja_tree.specs.Comparisons.{compares}
 use Rattle.minijinja_tree.specs.Callees.{Callee, function, method, block, object, callee}
-use Rattle.minijinja_tree.specs.Tree.{UnaryOp, logical_not, negation, Expr, variable, constant, slice, unary, binary, compare, if_expr, filter, test, attribute, item, call, list, tuple, map, Optional, absent, present, Exprs, no_more, more, Comparisons, compared, against, Args, no_args, pos, pos_splat, kwarg, kwarg_splat, Stmt, template, data_text, output, assignment, Stmts, done, also}
-use Rattle.minijinja_meaning.specs.Events.{EmitRaw, Emit, Lookup, StoreLocal, GetAttr, GetItem, Slice, Div, ApplyFilter, PerformTest, CallFunction, CallMethod, CallObject, MergeKwargs, UnpackLists, BeginCapture, EndCapture, CallBlock, FastSuper, FastRecurse, Capture, Means, ◌>>=◌, ◌>>◌, give, choose, operated, tell, get, get_all}
+use Rattle.minijinja_tree.specs.Tree.{UnaryOp, logical_not, negation, Expr, variable, constant, slice, unary, binary, compare, if_expr, filter, test, attribute, item, call, list, tuple, map, Optional, absent, present, Exprs, no_more, more, Comparisons, compared, against, Args, no_args, pos, pos_splat, kwarg, kwarg_splat, Stmt, template, data_text, output, assignment, for_loop, if_cond, with_block, set_block, auto_escape, filter_block, do_call, break_loop, continue_loop, Stmts, done, also}
+use Rattle.minijinja_tree.specs.WellFormed.{expr_count}
+use Rattle.minijinja_meaning.specs.Events.{EmitRaw, Emit, Lookup, StoreLocal, GetAttr, SetAttr, GetItem, Slice, Div, ApplyFilter, PerformTest, CallFunction, CallMethod, CallObject, MergeKwargs, UnpackLists, PushWith, PopFrame, PushLoop, PopLoopFrame, Iterate, PushAutoEscape, PopAutoEscape, BeginCapture, EndCapture, CallBlock, FastSuper, FastRecurse, Capture, Starved, Event, World, Ended, Means, next, ◌>>=◌, ◌>>◌, give, choose, operated, ask, none_fits, item_fits, event, tell, get, get_all, take_apart}
+use Rattle.minijinja_meaning.specs.FilterChains.{fed}
 use Rattle.minijinja_meaning.specs.Calls.{Written, Super, Recursion, BlockOf, Plain, written}
 
 -- an operator of one side
@@ -210,12 +212,39 @@ if_on On m = m
 if_on Broke m = give Broke
 if_on Continued m = give Continued
 
--- a value goes where a target says; what is no target takes it and does nothing
-abbrev pub assign : {N C F : Type 0} → Expr C → C → Means N C F Signal
-assign (variable x) v = do
-  tell StoreLocal x (v ∷ [])
-  give On
-assign _ v = give On
+-- a value goes where a target says: to a name, to an attribute of what its base gives, or taken apart to targets in order; what is
+-- no target takes it and does nothing
+abbrev mutual
+  pub assign : {N C F : Type 0} → Functions C F → Expr C → C → Means N C F (Unit {0})
+  assign f (variable x) v = tell StoreLocal x (v ∷ [])
+  assign f (attribute e x) v = do
+    u ← expr f e
+    tell SetAttr x (v ∷ u ∷ [])
+  assign f (list es) v = do
+    vs ← take_apart (expr_count es) v
+    assign_each f es vs
+  assign f _ v = give tt
+
+  -- each value to its target
+  pub assign_each : {N C F : Type 0} → Functions C F → Exprs C → List C → Means N C F (Unit {0})
+  assign_each f no_more vs = give tt
+  assign_each f (more e es) [] = give tt
+  assign_each f (more e es) (v ∷ vs) = do
+    assign f e v
+    assign_each f es vs
+
+-- targets with their values, in turn
+abbrev pub assign_all : {N C F : Type 0} → Functions C F → List (Expr C × Expr C) → Means N C F (Unit {0})
+assign_all f [] = give tt
+assign_all f (a ∷ rest) = do
+  v ← expr f a.1
+  assign f a.0 v
+  assign_all f rest
+
+-- a value goes through a chain of filters, if there is one
+abbrev pub filtered : {N C F : Type 0} → Functions C F → Optional C → C → Means N C F C
+filtered f absent v = give v
+filtered f (present chain) v = expr f (fed v chain)
 
 -- an output writes the value of its expression, but for calls that are written apart
 abbrev pub write : {N C F : Type 0} → Functions C F → Written C → Means N C F C → Means N C F Signal
@@ -234,9 +263,80 @@ write f Plain value = do
   tell Emit [] (v ∷ [])
   give On
 
--- a statement gives how it ends
+-- a loop's turn with an item gives whether the loop goes on, and what it keeps
+abbrev pub Turn : Type 0 → Type 0 → Type 0 → Type 0 → Type 0
+Turn N C F S = C → S → Means N C F (Bool × S)
+
+-- the item's turn, if there is an item, and then the others; gives whether an item came, and what the turns keep
+unfoldable pub with_item : {N C F S : Type 0} → Option C → Turn N C F S → (came : Bool) → S → (S → Means N C F (Bool × S)) → Means N C F (Bool × S)
+with_item None turn came s others = give (came, s)
+with_item (Some v) turn came s others = do
+  r ← turn v s
+  choose r.0 (others r.1) (give (true, r.1))
+
+-- the turns of a loop, where at most so many answers are left: each turn takes one when it asks for its item
+unfoldable pub turns : {N C F S : Type 0} → ℕ → Turn N C F S → (came : Bool) → S → Means N C F (Bool × S)
+turns zero turn came s = λ w. Ended w Starved
+turns (suc n) turn came s = do
+  i ← ask item_fits (event None Iterate [] [])
+  with_item i turn came s (turns n turn true)
+
+-- all the turns of a loop to come
+unfoldable pub all_turns : {N C F S : Type 0} → Turn N C F S → (came : Bool) → S → Means N C F (Bool × S)
+unfolding turns
+all_turns turn came s w = turns (length w.answers) turn came s w
+
+-- the turns to come are the next one and then those behind it: what bounds them, the answers left, is never met
+abbrev pub HasNoBound : {N C F S : Type 0} → Turn N C F S → Type 0
+HasNoBound {N} {C} turn =
+    (came : Bool) (s : _) (w : World (Event N C) C) →
+    all_turns turn came s w ≡ next (ask item_fits (event None Iterate [] []) w) (λ i. with_item i turn came s (all_turns turn true))
+
+-- a filter keeps the items for which its test is true
+abbrev pub keep_if : {N C F : Type 0} → Functions C F → (target condition : Expr C) → Turn N C F (List C)
+keep_if f target condition v kept = do
+  assign f target v
+  u ← expr f condition
+  give (true, if f.is_true u then kept ++ v ∷ [] else kept)
+
+-- those of a value's items that pass the test, if there is one: a loop of its own, without a loop variable, finds their list
+abbrev pub passing : {N C F : Type 0} → Functions C F → (target : Expr C) → Optional C → C → Means N C F C
+passing f target absent v = give v
+passing f target (present condition) v = do
+  tell (PushLoop 0) [] (v ∷ [])
+  t ← all_turns (keep_if f target condition) false []
+  tell PopLoopFrame [] []
+  give (f.list t.1)
+
+-- the loop goes on
+abbrev pub goes_on : Signal → Bool
+goes_on On = true
+goes_on Broke = false
+goes_on Continued = true
+
+-- a turn stores the item, and then does the body
+abbrev pub do_body : {N C F : Type 0} → Functions C F → (target : Expr C) → Means N C F Signal → Turn N C F (Unit {0})
+do_body f target body v s = do
+  assign f target v
+  g ← body
+  give (goes_on g, tt)
+
+-- the flags of a loop that has a loop variable
+abbrev pub loop_flags : (recursive : Bool) → ℕ
+loop_flags true = 3
+loop_flags false = 1
+
+-- a loop over the items of a value, named by this node; gives whether an item came
+abbrev pub looped : {N C F : Type 0} → Functions C F → N → (target : Expr C) → (recursive : Bool) → Means N C F Signal → C → Means N C F Bool
+looped f n target recursive body v = do
+  ask none_fits (event (Some n) (PushLoop (loop_flags recursive)) [] (v ∷ []))
+  t ← all_turns (do_body f target body) false tt
+  tell PopLoopFrame [] []
+  give t.0
+
+-- a statement gives how it ends; what it opens is closed however it ends
 abbrev mutual
-  pub stmt : {N C F : Type 0} → Functions C F → Stmt C → Means N C F Signal
+  pub stmt : {N C F : Type 0} → Functions C F → Stmt C N → Means N C F Signal
   stmt f (template ss) = stmts f ss
   stmt f (data_text t) = do
     tell EmitRaw t []
@@ -244,10 +344,46 @@ abbrev mutual
   stmt f (output e) = write f (written e) (expr f e)
   stmt f (assignment target e) = do
     v ← expr f e
-    assign target v
+    assign f target v
+    give On
+  stmt f (for_loop n target e only recursive body else_body) = do
+    v ← expr f e
+    u ← passing f target only v
+    came ← looped f n target recursive (stmts f body) u
+    choose came (give On) (stmts f else_body)
+  stmt f (if_cond e true_body false_body) = do
+    v ← expr f e
+    choose (f.is_true v) (stmts f true_body) (stmts f false_body)
+  stmt f (with_block assignments body) = do
+    tell PushWith [] []
+    assign_all f assignments
+    g ← stmts f body
+    tell PopFrame [] []
+    give g
+  stmt f (set_block target chain body) = do
+    tell (BeginCapture Capture) [] []
+    g ← stmts f body
+    v ← get EndCapture [] []
+    if_on g (filtered f chain v >>= (λ u. assign f target u) >> give On)
+  stmt f (auto_escape e body) = do
+    v ← expr f e
+    tell PushAutoEscape [] (v ∷ [])
+    g ← stmts f body
+    tell PopAutoEscape [] []
+    give g
+  stmt f (filter_block chain body) = do
+    tell (BeginCapture Capture) [] []
+    g ← stmts f body
+    v ← get EndCapture [] []
+    if_on g (expr f (fed v chain) >>= (λ u. tell Emit [] (u ∷ [])) >> give On)
+  stmt f (do_call e args) = do
+    expr f (call e args)
+    give On
+  stmt f break_loop = give Broke
+  stmt f continue_loop = give Continued
 
   -- statements in order, while each goes on
-  pub stmts : {N C F : Type 0} → Functions C F → Stmts C → Means N C F Signal
+  pub stmts : {N C F : Type 0} → Functions C F → Stmts C N → Means N C F Signal
   stmts f done = give On
   stmts f (also s rest) = do
     g ← stmt f s

@@ -1,6 +1,7 @@
 -- The same run, seen otherwise: with other names of nodes, or without the places of the instructions that asked.
 use Rattle.std.specs.Prelude.{ℕ, List, map}
 use Rattle.std.specs.Option.{option_map}
+use Rattle.minijinja_tree.specs.Tree.{Stmt, template, data_text, output, assignment, for_loop, if_cond, with_block, set_block, auto_escape, filter_block, do_call, break_loop, continue_loop, Stmts, done, also}
 use Rattle.minijinja_meaning.specs.Events.{Event, Answer, World, Did, Gave, Ended}
 use Rattle.minijinja_meaning.specs.Machine.{State, At, Returned, Halted, Jammed, Asked}
 
@@ -31,3 +32,24 @@ renamed g e = record { kind = e.kind; text = e.text; operands = e.operands; node
 -- the event alone
 abbrev pub event_of : {C : Type 0} → Asked C → Event ℕ C
 event_of a = a.event
+
+-- a tree whose loops have other names
+abbrev mutual
+  pub relabel : {C L M : Type 0} → (L → M) → Stmt C L → Stmt C M
+  relabel g (template ss) = template (relabel_all g ss)
+  relabel g (data_text t) = data_text t
+  relabel g (output e) = output e
+  relabel g (assignment target e) = assignment target e
+  relabel g (for_loop n target e only recursive body else_body) = for_loop (g n) target e only recursive (relabel_all g body) (relabel_all g else_body)
+  relabel g (if_cond e true_body false_body) = if_cond e (relabel_all g true_body) (relabel_all g false_body)
+  relabel g (with_block assignments body) = with_block assignments (relabel_all g body)
+  relabel g (set_block target chain body) = set_block target chain (relabel_all g body)
+  relabel g (auto_escape e body) = auto_escape e (relabel_all g body)
+  relabel g (filter_block chain body) = filter_block chain (relabel_all g body)
+  relabel g (do_call e args) = do_call e args
+  relabel g break_loop = break_loop
+  relabel g continue_loop = continue_loop
+
+  pub relabel_all : {C L M : Type 0} → (L → M) → Stmts C L → Stmts C M
+  relabel_all g done = done
+  relabel_all g (also s rest) = also (relabel g s) (relabel_all g rest)

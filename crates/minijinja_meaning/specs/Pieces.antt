@@ -1,7 +1,8 @@
 -- Pieces of code: what stands after a piece that begins here, and its instructions.
-use Rattle.std.specs.Prelude.{ℕ, suc, ◌+◌, List, [], ◌∷◌, ◌++◌, if◌then◌else◌, bytes_eq, nat_lt}
+use Rattle.std.specs.Prelude.{ℕ, suc, ◌+◌, List, [], ◌∷◌, ◌++◌, length, if◌then◌else◌, bytes_eq, nat_lt}
 use Rattle.minijinja_syntax.specs.Texts.{Text}
-use Rattle.minijinja_meaning.specs.Code.{Instr, Jump, JumpIfFalse}
+use Rattle.minijinja_meaning.specs.Events.{PopFrame, PopAutoEscape, EndCapture}
+use Rattle.minijinja_meaning.specs.Code.{Instr, Do, Iterate, Jump, JumpIfFalse, DiscardTop}
 
 -- where code stands: its place in the list, and the names of filters and of tests that have an id by then, in order of first use
 pub record Here : Type 0 where
@@ -77,6 +78,40 @@ branches p q = record {
   code = λ h.
       let other = behind 1 (p.past (behind 1 h)) in
       JumpIfFalse other.place ∷ (p.code (behind 1 h) ++ Jump (q.past other).place ∷ q.code other);
+}
+
+-- an instruction that may lead past a piece that may lead elsewhere, and that piece
+abbrev pub skipping_out : {X C : Type 0} → (ℕ → Instr C) → Leading X C → Leading X C
+skipping_out jump p = record { past = λ h. p.past (behind 1 h); code = λ x. (skipping jump (leading_to x p)).code }
+
+-- the first piece where the value on top is true, else the second; both may lead elsewhere
+abbrev pub branches_out : {X C : Type 0} → Leading X C → Leading X C → Leading X C
+branches_out p q = record {
+  past = λ h. q.past (behind 1 (p.past (behind 1 h)));
+  code = λ x. (branches (leading_to x p) (leading_to x q)).code;
+}
+
+-- the turns of a loop: each asks for the next item, does the piece, which may leave the loop or begin its next turn, and begins anew
+abbrev pub turning : {C : Type 0} → Leading Exits C → Piece C
+turning p = record {
+  past = λ h. behind 1 (p.past (behind 1 h));
+  code = λ h.
+      let end = behind 1 (p.past (behind 1 h)) in
+      Iterate end.place ∷ (p.code (record { break_to = end.place; continue_to = h.place }) (behind 1 h) ++ Jump h.place ∷ []);
+}
+
+-- the instructions that close what is open, the innermost first
+abbrev pub closing : {C : Type 0} → List Open → List (Instr C)
+closing [] = []
+closing (OpenScope ∷ os) = Do PopFrame [] 0 ∷ closing os
+closing (OpenAutoEscape ∷ os) = Do PopAutoEscape [] 0 ∷ closing os
+closing (OpenCapture ∷ os) = Do EndCapture [] 0 ∷ DiscardTop ∷ closing os
+
+-- these, and a jump to one of the loop's exits
+abbrev pub leaving : {C : Type 0} → (Exits → ℕ) → List Open → Leading Exits C
+leaving {C} exit os = record {
+  past = behind (length (closing {C = C} os) + 1);
+  code = λ x h. closing os ++ Jump (exit x) ∷ [];
 }
 
 -- how many names of filters, and of tests, have an id of their own

@@ -1,5 +1,4 @@
 pub mod NodeRows
-pub mod Parts
 pub mod Wholes
 pub mod NoTokens
 pub mod Begun

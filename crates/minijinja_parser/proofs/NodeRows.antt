@@ -61,22 +61,36 @@ arguments_of (Test' p x e k xs s) = (_, xs)
 arguments_of (Filter' p x e k xs s) = (_, xs)
 arguments_of _ = (_, end_of-CallArg)
 
-pub list_is : {V F C : Type 0} (c : V → C) (s : Spanned (List V F)) → expr_node c (expr.List s) ≡ tree.list (exprs_of (trees c (node_of s).items.items)) (span_of s)
-list_is {V} {F} c s = ap (λ es. tree.list es (span_of s)) (exprs_are c _ (items_of (expr.List s)).1 ∙ ap (λ xs. exprs_of (trees c xs)) (items_hidden-the_row-Expr-1 V F (node_of s).items))
+module _ {V F C : Type 0} (c : V → C) where
+  pub list_is : (s : Spanned (List V F)) (n : List V F) (t : Span) → node_of s ≡ n → span_of s ≡ t → expr_node c (expr.List s) ≡ tree.list (exprs_of (trees c n.items.items)) t
+  list_is s n t h i =
+      ap (λ es. tree.list es (span_of s)) (exprs_are c _ (items_of (expr.List s)).1 ∙ ap (λ xs. exprs_of (trees c xs)) (items_hidden-the_row-Expr-1 V F (node_of s).items)) ∙
+      ap₂ (λ (m : List V F) u. tree.list (exprs_of (trees c m.items.items)) u) h i
 
-pub tuple_is : {V F C : Type 0} (c : V → C) (s : Spanned (Tuple V F)) → expr_node c (expr.Tuple s) ≡ tree.tuple (exprs_of (trees c (node_of s).items.items)) (span_of s)
-tuple_is {V} {F} c s = ap (λ es. tree.tuple es (span_of s)) (exprs_are c _ (items_of (expr.Tuple s)).1 ∙ ap (λ xs. exprs_of (trees c xs)) (items_hidden-the_row-Expr-1 V F (node_of s).items))
+  pub tuple_is : (s : Spanned (Tuple V F)) (n : Tuple V F) (t : Span) → node_of s ≡ n → span_of s ≡ t → expr_node c (expr.Tuple s) ≡ tree.tuple (exprs_of (trees c n.items.items)) t
+  tuple_is s n t h i =
+      ap (λ es. tree.tuple es (span_of s)) (exprs_are c _ (items_of (expr.Tuple s)).1 ∙ ap (λ xs. exprs_of (trees c xs)) (items_hidden-the_row-Expr-1 V F (node_of s).items)) ∙
+      ap₂ (λ (m : Tuple V F) u. tree.tuple (exprs_of (trees c m.items.items)) u) h i
 
-pub map_is : {V F C : Type 0} (c : V → C) (s : Spanned (Map V F)) → expr_node c (expr.Map s) ≡ tree.map (exprs_of (trees c (node_of s).keys.items)) (exprs_of (trees c (node_of s).values.items)) (span_of s)
-map_is {V} {F} c s = ap₂ (λ ks vs. tree.map ks vs (span_of s))
-    (exprs_are c _ (items_of (expr.Map s)).1 ∙ ap (λ xs. exprs_of (trees c xs)) (items_hidden-the_row-Expr-1 V F (node_of s).keys))
-    (exprs_are c _ (values_of (expr.Map s)).1 ∙ ap (λ xs. exprs_of (trees c xs)) (items_hidden-the_row-Expr-1 V F (node_of s).values))
+  pub map_is : (s : Spanned (Map V F)) (n : Map V F) (t : Span) → node_of s ≡ n → span_of s ≡ t →
+      expr_node c (expr.Map s) ≡ tree.map (exprs_of (trees c n.keys.items)) (exprs_of (trees c n.values.items)) t
+  map_is s n t h i =
+      ap₂ (λ ks vs. tree.map ks vs (span_of s))
+      (exprs_are c _ (items_of (expr.Map s)).1 ∙ ap (λ xs. exprs_of (trees c xs)) (items_hidden-the_row-Expr-1 V F (node_of s).keys))
+      (exprs_are c _ (values_of (expr.Map s)).1 ∙ ap (λ xs. exprs_of (trees c xs)) (items_hidden-the_row-Expr-1 V F (node_of s).values)) ∙
+      ap₂ (λ (m : Map V F) u. tree.map (exprs_of (trees c m.keys.items)) (exprs_of (trees c m.values.items)) u) h i
 
-pub call_is : {V F C : Type 0} (c : V → C) (s : Spanned (Call V F)) → expr_node c (expr.Call s) ≡ tree.call (expr_node c (node_of s).expr) (args_of (args_view c (node_of s).args.items)) (span_of s)
-call_is {V} {F} c s = ap (λ xs. tree.call (expr_node c (node_of s).expr) xs (span_of s)) (args_are c _ (arguments_of (expr.Call s)).1 ∙ ap (λ xs. args_of (args_view c xs)) (items_hidden-the_row-CallArg-0 V F (node_of s).args))
+  pub call_is : (s : Spanned (Call V F)) (n : Call V F) (t : Span) → node_of s ≡ n → span_of s ≡ t →
+      expr_node c (expr.Call s) ≡ tree.call (expr_node c n.expr) (args_of (args_view c n.args.items)) t
+  call_is s n t h i =
+      ap (λ xs. tree.call (expr_node c (node_of s).expr) xs (span_of s)) (args_are c _ (arguments_of (expr.Call s)).1 ∙ ap (λ xs. args_of (args_view c xs)) (items_hidden-the_row-CallArg-0 V F (node_of s).args)) ∙
+      ap₂ (λ (m : Call V F) u. tree.call (expr_node c m.expr) (args_of (args_view c m.args.items)) u) h i
 
-pub test_is : {V F C : Type 0} (c : V → C) (s : Spanned (Test V F)) → expr_node c (expr.Test s) ≡ tree.test (expr_node c (node_of s).expr) (node_of s).name.now (args_of (args_view c (node_of s).args.items)) (span_of s)
-test_is {V} {F} c s = ap (λ xs. tree.test (expr_node c (node_of s).expr) (node_of s).name.now xs (span_of s)) (args_are c _ (arguments_of (expr.Test s)).1 ∙ ap (λ xs. args_of (args_view c xs)) (items_hidden-the_row-CallArg-0 V F (node_of s).args))
+  pub test_is : (s : Spanned (Test V F)) (n : Test V F) (t : Span) → node_of s ≡ n → span_of s ≡ t →
+      expr_node c (expr.Test s) ≡ tree.test (expr_node c n.expr) n.name.now (args_of (args_view c n.args.items)) t
+  test_is s n t h i =
+      ap (λ xs. tree.test (expr_node c (node_of s).expr) (node_of s).name.now xs (span_of s)) (args_are c _ (arguments_of (expr.Test s)).1 ∙ ap (λ xs. args_of (args_view c xs)) (items_hidden-the_row-CallArg-0 V F (node_of s).args)) ∙
+      ap₂ (λ (m : Test V F) u. tree.test (expr_node c m.expr) m.name.now (args_of (args_view c m.args.items)) u) h i
 
 abbrev optional : {V F C : Type 0} → (V → C) → Option (Expr V F) → tree.Optional C
 optional c None = tree.absent
@@ -89,11 +103,13 @@ held_is c (Some e) = refl
 operand_is : {V F C : Type 0} (c : V → C) (s : Spanned (Filter V F)) → expr_node c (expr.Filter s) ≡ tree.filter (optional c (node_of s).expr) (node_of s).name.now (args_node c (arguments_of (expr.Filter s)).1) (span_of s)
 operand_is {V} {F} c s = ap (λ o. tree.filter o (node_of s).name.now (args_node c (arguments_of (expr.Filter s)).1) (span_of s)) (held_is c (node_of s).expr)
 
-pub filter_is : {V F C : Type 0} (c : V → C) (s : Spanned (Filter V F)) (e : Expr V F) → (node_of s).expr ≡ Some e → expr_node c (expr.Filter s) ≡ tree.filter (tree.present (expr_node c e)) (node_of s).name.now (args_of (args_view c (node_of s).args.items)) (span_of s)
-filter_is {V} {F} c s e h =
+pub filter_is : {V F C : Type 0} (c : V → C) (s : Spanned (Filter V F)) (n : Filter V F) (e : Expr V F) (t : Span) → node_of s ≡ n → n.expr ≡ Some e → span_of s ≡ t →
+    expr_node c (expr.Filter s) ≡ tree.filter (tree.present (expr_node c e)) n.name.now (args_of (args_view c n.args.items)) t
+filter_is {V} {F} c s n e t h j i =
     operand_is c s ∙
-    ap (λ o. tree.filter (optional c o) (node_of s).name.now (args_node c (arguments_of (expr.Filter s)).1) (span_of s)) h ∙
-    ap (λ xs. tree.filter (tree.present (expr_node c e)) (node_of s).name.now xs (span_of s)) (args_are c _ (arguments_of (expr.Filter s)).1 ∙ ap (λ xs. args_of (args_view c xs)) (items_hidden-the_row-CallArg-0 V F (node_of s).args))
+    ap (λ xs. tree.filter (optional c (node_of s).expr) (node_of s).name.now xs (span_of s)) (args_are c _ (arguments_of (expr.Filter s)).1 ∙ ap (λ xs. args_of (args_view c xs)) (items_hidden-the_row-CallArg-0 V F (node_of s).args)) ∙
+    ap₂ (λ (m : Filter V F) u. tree.filter (optional c m.expr) m.name.now (args_of (args_view c m.args.items)) u) h i ∙
+    ap (λ o. tree.filter (optional c o) n.name.now (args_of (args_view c n.args.items)) t) j
 
 pub compare_is : {V F C : Type 0} (c : V → C) (q : Compare V F) (s : Span) → compare_node c q s ≡ tree.compare (expr_node c (out-Compare V F q).expr) (comparisons_of (all_compared c (out-Compare V F q).ops.items)) s
 unfolding out-Compare denote.Hole.Carrier.out

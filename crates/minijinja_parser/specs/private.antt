@@ -1,4 +1,3 @@
 -- What proofs and the contracts of private functions cite.
 pub mod Texts
-pub mod Parts
 pub mod Wholes

@@ -4,9 +4,8 @@ ghost use Rattle.std.specs.String.{string_bytes};
 ghost use Rattle.minijinja_syntax.specs.Positions.{slice};
 ghost use Rattle.minijinja_syntax.specs.Tokens.{tok_of};
 ghost use Rattle.minijinja_lexer.specs.Slices.{IsBetweenChars};
-ghost use Rattle.minijinja_grammar.specs.Forms.{nothing, reads};
+ghost use Rattle.minijinja_grammar.specs.Forms.{reads};
 ghost use Rattle.minijinja_grammar.specs.Grammar as form;
-ghost use Rattle.minijinja_rules.specs.private.Primaries.{atom_at};
 ghost use Rattle.minijinja_stream.specs.private.Reads.{Reads};
 ghost use Rattle.minijinja_parser.specs.private.Texts.{Joins};
 ghost use Rattle.minijinja_tree.specs.SpannedErasure.{expr_node};
@@ -26,46 +25,23 @@ use std::alloc::{AllocError, Global};
 
 /// A constant or a variable.
 #[tactic(auto, unfolding(minijinja_grammar::specs::Grammar::word))]
-fn word<'s, V: TemplateValue>(
+pub fn word<'s, V: TemplateValue>(
     alloc: Global,
     word: &'s str,
     span: Span,
 ) -> Result<Expr<'s, V>, AllocError>
     ensures { IfOk result (λ e. expr_node V.contents e ≡ form.word V.functions word.now span) }
 {
-    if is_true_word(word) {
-        nodes::constant(alloc, V::of_bool(true), span)
+    let value = if is_true_word(word) {
+        V::of_bool(true)
     } else if is_false_word(word) {
-        nodes::constant(alloc, V::of_bool(false), span)
+        V::of_bool(false)
     } else if is_none_word(word) {
-        nodes::constant(alloc, V::none(), span)
+        V::none()
     } else {
-        nodes::variable(alloc, word, span)
-    }
-}
-
-/// An integer under 2^64.
-fn integer<'s, V: TemplateValue>(
-    alloc: Global,
-    value: u64,
-    span: Span,
-) -> Result<Expr<'s, V>, AllocError>
-    ensures { IfOk result
-        (λ e. expr_node V.contents e ≡ tree.constant (V.functions.of_u64 value) span) }
-{
-    nodes::constant(alloc, V::of_u64(value), span)
-}
-
-/// An integer from 2^64 on.
-fn large_integer<'s, V: TemplateValue>(
-    alloc: Global,
-    value: u128,
-    span: Span,
-) -> Result<Expr<'s, V>, AllocError>
-    ensures { IfOk result
-        (λ e. expr_node V.contents e ≡ tree.constant (V.functions.of_u128 value) span) }
-{
-    nodes::constant(alloc, V::of_u128(alloc, value)?, span)
+        return nodes::variable(alloc, word, span);
+    };
+    nodes::constant(alloc, value, span)
 }
 
 /// The constant of a text.
@@ -80,30 +56,9 @@ fn constant_text<'s, V: TemplateValue>(
     nodes::constant(alloc, V::of_str(alloc, text)?, span)
 }
 
-/// A constant, a text or a variable, which begins with the token.
-#[tactic(auto, unfolding(minijinja_grammar::specs::Forms::reads, minijinja_rules::specs::private::Primaries::atom_at))]
-pub fn atom<'s, V: TemplateValue>(
-    alloc: Global,
-    tokens: &mut TokenStream<'s, '_>,
-    first: Token<'s>,
-    from: Span,
-) -> Result<Expr<'s, V>, Refusal>
-    ensures { Reads (expr_node V.contents)
-        (atom_at V.functions (tok_of first.entry, from) tokens.old) result tokens.new }
-{
-    match first {
-        Token::Ident(name) => Ok(word(alloc, name, from)?),
-        Token::Str(plain) => text(alloc, tokens, plain, from),
-        Token::String(decoded) => joined_text(alloc, tokens, decoded, from),
-        Token::Int(value) => Ok(integer(alloc, value, from)?),
-        Token::Int128(value) => Ok(large_integer(alloc, *value, from)?),
-        _ => Err(Refusal::Wrong(Wanted::Part(Expected::Expression))),
-    }
-}
-
 /// A string without escapes, joined with its neighbours.
 #[tactic(auto, using(crate::proofs::Strings::texts_done))]
-fn text<'s, V: TemplateValue>(
+pub fn text<'s, V: TemplateValue>(
     alloc: Global,
     tokens: &mut TokenStream<'s, '_>,
     text: &'s str,
@@ -122,7 +77,7 @@ fn text<'s, V: TemplateValue>(
 
 /// A decoded string, joined with its neighbours.
 #[tactic(auto, using(crate::proofs::Strings::texts_done, crate::proofs::Strings::texts_more, minijinja_stream::proofs::Turned::take_shorter))]
-fn joined_text<'s, V: TemplateValue>(
+pub fn joined_text<'s, V: TemplateValue>(
     alloc: Global,
     tokens: &mut TokenStream<'s, '_>,
     text: String,
@@ -152,22 +107,9 @@ fn push_text(joined: &mut String, token: &Token<'_>) -> Result<(), AllocError>
     Ok(())
 }
 
-/// The name of a filter or a test: the source from its first part to its last.
-#[tactic(auto, using(crate::proofs::Names::name_is, crate::proofs::Names::still_between))]
-pub fn name<'s>(tokens: &mut TokenStream<'s, '_>) -> Result<&'s str, Refusal>
-    ensures { Reads (λ x. x.now) (reads form.name tokens.old) result tokens.new }
-{
-    let (name, first) = ident(tokens, Wanted::Part(Expected::Identifier))?;
-    if !tokens.at(Mark::Dot) {
-        return Ok(name);
-    }
-    let last = name_parts(tokens, first)?;
-    Ok(source_between(tokens.source(), first, last))
-}
-
 /// Where the last part of a name stands, after the first one.
 #[tactic(auto, using(crate::proofs::Names::parts_done, crate::proofs::Names::parts_more, crate::proofs::Names::still_between, minijinja_stream::proofs::Turned::next_shorter, minijinja_stream::proofs::Turned::read_no_longer))]
-fn name_parts(tokens: &mut TokenStream<'_, '_>, first: Span) -> Result<Span, Refusal>
+pub fn name_parts(tokens: &mut TokenStream<'_, '_>, first: Span) -> Result<Span, Refusal>
     requires { IsBetweenChars tokens.old.source first }
     ensures read { Reads (λ s. s) (reads (form.name_parts first) tokens.old) result tokens.new }
     ensures between { IfOk result (IsBetweenChars tokens.new.source) }
@@ -182,7 +124,7 @@ fn name_parts(tokens: &mut TokenStream<'_, '_>, first: Span) -> Result<Span, Ref
 }
 
 /// The source from the start of a span to the end of another.
-fn source_between<'s>(source: &'s str, first: Span, last: Span) -> &'s str
+pub fn source_between<'s>(source: &'s str, first: Span, last: Span) -> &'s str
     requires first { IsBetweenChars source.now first }
     requires last { IsBetweenChars source.now last }
     ensures { result.now ≡ slice source.now first.start_offset last.end_offset }
@@ -191,29 +133,4 @@ fn source_between<'s>(source: &'s str, first: Span, last: Span) -> &'s str
     // The last part never ends before the first begins; a slice has to be told.
     let end = start.max(last.end_offset as usize);
     &source[start..end]
-}
-
-/// What follows the `.` after an operand: an attribute, or an item at a number.
-#[tactic(auto, using(crate::proofs::Members::name_member, crate::proofs::Members::int_member, crate::proofs::Members::large_member, crate::proofs::Members::short_member, crate::proofs::Members::wrong_member, crate::proofs::Members::no_member))]
-pub fn member<'s, V: TemplateValue>(
-    alloc: Global,
-    tokens: &mut TokenStream<'s, '_>,
-    expr: Expr<'s, V>,
-    from: Span,
-) -> Result<Expr<'s, V>, Refusal>
-    ensures { Reads (expr_node V.contents)
-        (reads (form.member nothing V.functions (expr_node V.contents expr.entry) from) tokens.old)
-        result tokens.new }
-{
-    let (token, at) = tokens.take(Wanted::Part(Expected::Identifier))?;
-    let index = match token {
-        Token::Ident(name) => {
-            let span = tokens.expand_span(from);
-            return Ok(nodes::attribute(alloc, expr, name, span)?);
-        }
-        Token::Int(value) => integer(alloc, value, at)?,
-        Token::Int128(value) => large_integer(alloc, *value, at)?,
-        _ => return Err(Refusal::Wrong(Wanted::Part(Expected::Identifier))),
-    };
-    Ok(nodes::item(alloc, expr, index, tokens.expand_span(from))?)
 }

@@ -4,5 +4,6 @@
 mod atoms;
 mod nodes;
 pub mod parser;
-mod statements;
+mod statement_nodes;
 mod tree_nodes;
+mod tree_statements;

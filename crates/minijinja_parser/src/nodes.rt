@@ -1,24 +1,22 @@
-//! Nodes, each on the heap. Refused memory is the only error.
-ghost use Rattle.std.specs.Prelude.{◌≡◌, map, IfOk};
-ghost use Rattle.std.specs.Option.{option_map};
+//! Nodes of expressions, each on the heap. Refused memory is the only error.
+ghost use Rattle.std.specs.Prelude.{◌≡◌, IfOk};
 ghost use Rattle.minijinja_tree.specs.Erasure.{bin_op, unary_op};
-ghost use Rattle.minijinja_tree.specs.SpannedErasure.{expr_node, stmt_node};
+ghost use Rattle.minijinja_tree.specs.SpannedErasure.{expr_node};
 ghost use Rattle.minijinja_tree.specs.Nodes.{node_of, span_of};
 ghost use Rattle.minijinja_tree.specs.SpannedTrees as tree;
-ghost use Rattle.minijinja_tree.specs.SpannedTrees.{present, stmts_of, args_of, comparisons_of, exprs_of, optional_of};
-ghost use Rattle.minijinja_grammar.specs.Grammar.{name_of_variable};
+ghost use Rattle.minijinja_tree.specs.SpannedTrees.{present, args_of, comparisons_of, exprs_of, optional_of};
 ghost use Rattle.minijinja_tree.specs.SpannedErasure.{all_compared, any_tree, args_view, trees};
 
 use minijinja_base::tokens::Span;
 use minijinja_base::value::TemplateValue;
 use minijinja_tree::ast::{
-    BinOp, BinOpKind, Call, CallArg, Compare, CompareOp, Const, EmitExpr, EmitRaw, Expr, Filter,
-    GetAttr, GetItem, IfExpr, List, Map, Set, Slice, Spanned, Stmt, Template, Test, Tuple, UnaryOp,
-    UnaryOpKind, Var,
+    BinOp, BinOpKind, Call, CallArg, Compare, CompareOp, Const, Expr, Filter, GetAttr, GetItem,
+    IfExpr, List, Map, Slice, Spanned, Test, Tuple, UnaryOp, UnaryOpKind, Var,
 };
 use std::alloc::{AllocError, Global};
 
-fn spanned<T: Drop>(alloc: Global, node: T, span: Span) -> Result<Spanned<T>, AllocError>
+/// A node that stands there.
+pub fn spanned<T: Drop>(alloc: Global, node: T, span: Span) -> Result<Spanned<T>, AllocError>
     ensures node { IfOk result (λ s. node_of s ≡ node) }
     ensures span { IfOk result (λ s. span_of s ≡ span) }
 {
@@ -38,16 +36,6 @@ pub fn variable<'s, V: TemplateValue>(
     ensures tree { IfOk result (λ e. expr_node V.contents e ≡ tree.variable id.now span) }
 {
     Ok(Expr::Var(spanned(alloc, Var { id }, span)?))
-}
-
-/// The name of an expression that is a variable.
-pub fn variable_name<'s, V: TemplateValue>(expr: &Expr<'s, V>) -> Option<&'s str>
-    ensures { option_map (λ x. x.now) result ≡ name_of_variable (expr_node V.contents expr.now) }
-{
-    match expr {
-        Expr::Var(variable) => Some(variable.node().id),
-        _ => None,
-    }
 }
 
 /// A constant of that value.
@@ -267,51 +255,4 @@ pub fn map<'s, V: TemplateValue>(
         (exprs_of (trees V.contents values.entry.items)) span) }
 {
     Ok(Expr::Map(spanned(alloc, Map { keys, values }, span)?))
-}
-
-/// Text as it stands in the source.
-pub fn data<'s, V: TemplateValue>(
-    alloc: Global,
-    raw: &'s str,
-    span: Span,
-) -> Result<Stmt<'s, V>, AllocError>
-    ensures tree { IfOk result (λ s. stmt_node V.contents s ≡ tree.data_text raw.now span) }
-{
-    Ok(Stmt::EmitRaw(spanned(alloc, EmitRaw { raw }, span)?))
-}
-
-/// The output of an expression.
-pub fn output<'s, V: TemplateValue>(
-    alloc: Global,
-    expr: Expr<'s, V>,
-    span: Span,
-) -> Result<Stmt<'s, V>, AllocError>
-    ensures tree { IfOk result
-        (λ s. stmt_node V.contents s ≡ tree.output (expr_node V.contents expr.entry) span) }
-{
-    Ok(Stmt::EmitExpr(spanned(alloc, EmitExpr { expr }, span)?))
-}
-
-/// An assignment.
-pub fn assignment<'s, V: TemplateValue>(
-    alloc: Global,
-    set: Set<'s, V>,
-    span: Span,
-) -> Result<Stmt<'s, V>, AllocError>
-    ensures tree { IfOk result (λ s. stmt_node V.contents s ≡ tree.assignment
-        (expr_node V.contents set.entry.target) (expr_node V.contents set.entry.expr) span) }
-{
-    Ok(Stmt::Set(spanned(alloc, set, span)?))
-}
-
-/// A template of these statements.
-pub fn template<'s, V: TemplateValue>(
-    alloc: Global,
-    children: Vec<Stmt<'s, V>>,
-    span: Span,
-) -> Result<Stmt<'s, V>, AllocError>
-    ensures tree { IfOk result (λ s. stmt_node V.contents s ≡ tree.template
-        (stmts_of (map (stmt_node V.contents) children.entry.items)) span) }
-{
-    Ok(Stmt::Template(spanned(alloc, Template { children }, span)?))
 }

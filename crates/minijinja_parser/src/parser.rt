@@ -9,7 +9,8 @@ ghost use Rattle.minijinja_lexer.specs.TextTokens.{text_of};
 ghost use Rattle.minijinja_tree.specs.Erasure.{expr_tree, stmt_tree};
 ghost use Rattle.minijinja_tree.specs.SpannedErasure.{expr_node, stmt_node};
 ghost use Rattle.minijinja_tree.specs.Tree.{template};
-ghost use Rattle.minijinja_tree.specs.WellFormed.{IsWellFormed, IsWhole};
+ghost use Rattle.minijinja_tree.specs.Simple.{IsSimpleTree};
+ghost use Rattle.minijinja_tree.specs.WellFormed.{IsWhole};
 ghost use Rattle.minijinja_grammar.specs.Forms.{reads};
 ghost use Rattle.minijinja_grammar.specs.Grammar.{expr_at, max_depth};
 ghost use Rattle.minijinja_grammar.specs.Templates.{template_at};
@@ -20,8 +21,8 @@ ghost use Rattle.minijinja_parser.specs.Parsing.{HasRefused, IsSpent};
 ghost use Rattle.minijinja_stream.specs.TokenStreams.{Comes, no_place, stream_at};
 ghost use Rattle.minijinja_parser.specs.private.Wholes.{Ends, IsErrorAt, ReadsWhole};
 
-use crate::statements::template;
 use crate::tree_nodes::TreeNodes;
+use crate::tree_statements::TreeStatements;
 use minijinja_base::error::{Detail, Error, ErrorKind, Expected};
 use minijinja_base::syntax::SyntaxConfig;
 use minijinja_base::value::TemplateValue;
@@ -31,6 +32,7 @@ use minijinja_stream::refusal::{Refusal, Wanted};
 pub use minijinja_stream::token_stream::TokenStream;
 use minijinja_stream::token_stream::{set_refusal, tokenizer_refusal};
 use minijinja_stream::tokens::Tokens;
+use minijinja_templates::rules::parts::template;
 use minijinja_tree::ast::{Expr, Stmt};
 use std::alloc::{AllocError, Global};
 use std::marker::{Model, PhantomData};
@@ -221,8 +223,10 @@ impl<'s, 'c> Parser<'s, 'c> {
             (reads (template_at V.functions max_depth) self.old.place) result self.new.place }
         ensures filename { self.new.filename ≡ self.old.filename }
     {
-        let nodes = self.nodes();
-        let template = template(nodes, &mut self.tokens, MAX_DEPTH)?;
+        let statements = TreeStatements {
+            nodes: self.nodes(),
+        };
+        let template = template(statements, &mut self.tokens, MAX_DEPTH)?;
         self.end()?;
         Ok(template)
     }
@@ -264,7 +268,7 @@ impl<'s, 'c> Parser<'s, 'c> {
         // The tokenizer's refusal is answered where all tokens before it fit.
         ensures first { AnswersTokenizerAt V.functions self.old.place result }
 
-        ensures well_formed { IfOk result (λ s. IsWellFormed (stmt_tree V.contents s)) }
+        ensures well_formed { IfOk result (λ s. IsSimpleTree (stmt_tree V.contents s)) }
 
         // Each node goes from token to token, and a variable and data stand where their own tokens do.
         ensures spans { IfOk result (StandsAt V.contents self.old.place) }
@@ -343,47 +347,6 @@ fn too_long<'s>(filename: &'s str) -> Error<'s>
     )
 }
 
-fn parse_template<'s, V: TemplateValue>(
-    alloc: Global,
-    source: &'s str,
-    filename: &'s str,
-    syntax: &SyntaxConfig,
-) -> Result<Stmt<'s, V>, Error<'s>>
-    requires { IsShort source.now }
-    ensures found { IfOk result (IsTemplateOf V.functions V.contents syntax.now source.now) }
-    ensures refused { IfErr result (IsNoTemplate V.functions syntax.now source.now) }
-    ensures only { AnswersTemplate V.functions V.contents syntax.now source.now result }
-    ensures causes { IfErr result (λ e. IsTokenizerKind (kind_of e)) }
-    ensures named { IfErr result (λ e. kind_of e ≢ OutOfMemory → IsNamed filename.now e) }
-    ensures bad_escape { IfErr result (EscapesIn (template_place syntax.now source.now)) }
-    ensures first { AnswersTokenizer V.functions syntax.now source.now result }
-    ensures well_formed { IfOk result (λ s. IsWellFormed (stmt_tree V.contents s)) }
-    ensures spans { IfOk result (StandsAt V.contents (template_place syntax.now source.now)) }
-{
-    let mut parser = Parser::new(alloc, source, filename, false, syntax);
-    parser.parse()
-}
-
-fn parse_expression<'s, V: TemplateValue>(
-    alloc: Global,
-    source: &'s str,
-) -> Result<Expr<'s, V>, Error<'s>>
-    requires { IsShort source.now }
-    ensures found { IfOk result (IsExprOf V.functions V.contents default_syntax source.now) }
-    ensures refused { IfErr result (IsNoExpr V.functions default_syntax source.now) }
-    ensures only { AnswersExpr V.functions V.contents default_syntax source.now result }
-    ensures causes { IfErr result (λ e. IsTokenizerKind (kind_of e)) }
-    ensures named { IfErr result (λ e. kind_of e ≢ OutOfMemory → IsNamed (codes "<expression>") e) }
-    ensures bad_escape { IfErr result (EscapesIn (expr_place default_syntax source.now)) }
-    ensures first { AnswersExprTokenizer V.functions source.now result }
-    ensures well_formed { IfOk result (λ x. IsWhole (expr_tree V.contents x)) }
-    ensures spans { IfOk result (ExprStandsAt V.contents (expr_place default_syntax source.now)) }
-{
-    let syntax = SyntaxConfig::default();
-    let mut parser = Parser::new(alloc, source, EXPRESSION_NAME, true, &syntax);
-    parser.parse_standalone_expr()
-}
-
 /// The tree of a template, which errors name `filename`.
 /// Errors: a syntax error or a bad escape, memory that was refused, and a source of 2^32 bytes or more.
 pub fn parse<'s, V: TemplateValue>(
@@ -415,13 +378,14 @@ pub fn parse<'s, V: TemplateValue>(
     // A refusal names the source, unless memory ran out.
     ensures named { IfErr result (λ e. kind_of e ≢ OutOfMemory → IsNamed filename.now e) }
 
-    ensures well_formed { IfOk result (λ s. IsWellFormed (stmt_tree V.contents s)) }
+    ensures well_formed { IfOk result (λ s. IsSimpleTree (stmt_tree V.contents s)) }
     ensures spans { IfOk result (StandsAt V.contents (template_place syntax.now source.now)) }
 {
     if source.len() >= SOURCE_LIMIT {
         return Err(too_long(filename));
     }
-    parse_template(alloc, source, filename, syntax)
+    let mut parser = Parser::new(alloc, source, filename, false, syntax);
+    parser.parse()
 }
 
 /// The tree of one expression, in the default syntax. Errors name the source `<expression>`.
@@ -459,5 +423,7 @@ pub fn parse_expr<'s, V: TemplateValue>(
     if source.len() >= SOURCE_LIMIT {
         return Err(too_long(EXPRESSION_NAME));
     }
-    parse_expression(alloc, source)
+    let syntax = SyntaxConfig::default();
+    let mut parser = Parser::new(alloc, source, EXPRESSION_NAME, true, &syntax);
+    parser.parse_standalone_expr()
 }

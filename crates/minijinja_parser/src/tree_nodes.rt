@@ -12,18 +12,21 @@ ghost use Rattle.minijinja_rules.specs.private.Primaries.{atom_at};
 ghost use Rattle.minijinja_stream.specs.private.Reads.{Reads};
 
 use crate::{atoms, nodes};
+use minijinja_base::error::Expected;
 use minijinja_base::syntax::SyntaxConfig;
 use minijinja_base::tokens::{Span, Token};
 use minijinja_base::value::TemplateValue;
 use minijinja_rules::nodes::{Argument, Node, Nodes};
-use minijinja_stream::refusal::Refusal;
+use minijinja_stream::marks::Mark;
+use minijinja_stream::refusal::{Refusal, Wanted};
 use minijinja_stream::token_stream::TokenStream;
+use minijinja_stream::tokens::{Tokens, ident};
 use minijinja_tree::ast::{CallArg, CompareOp, CompareOpKind, Expr};
 use std::alloc::{AllocError, Global};
 use std::marker::PhantomData;
 
 /// Puts the nodes of the tree of a text on the heap.
-#[derive_where(Clone, Copy)]
+#[derive_where(Copy)]
 pub struct TreeNodes<'s, 'c, V> {
     /// Where nodes are put.
     pub alloc: Global,
@@ -33,6 +36,12 @@ pub struct TreeNodes<'s, 'c, V> {
     pub syntax: &'c SyntaxConfig,
     /// Of which values the nodes are.
     pub values: PhantomData<V>,
+}
+
+impl<'s, 'c, V> Clone for TreeNodes<'s, 'c, V> {
+    fn clone(&self) -> Result<Self, AllocError> {
+        Ok(*self)
+    }
 }
 
 impl<'s, 'c, V: TemplateValue> Nodes for TreeNodes<'s, 'c, V> {
@@ -64,6 +73,7 @@ impl<'s, 'c, V: TemplateValue> Nodes for TreeNodes<'s, 'c, V> {
         self.alloc
     }
 
+    #[tactic(auto, unfolding(minijinja_grammar::specs::Forms::reads, minijinja_rules::specs::private::Primaries::atom_at))]
     fn atom(
         &self,
         tokens: &mut TokenStream<'s, 'c>,
@@ -73,9 +83,21 @@ impl<'s, 'c, V: TemplateValue> Nodes for TreeNodes<'s, 'c, V> {
         ensures { Reads (expr_node V.contents) (atom_at V.functions (tok_of first.entry, from)
             tokens.old) result tokens.new }
     {
-        atoms::atom(self.alloc, tokens, first, from)
+        let alloc = self.alloc;
+        match first {
+            Token::Ident(name) => Ok(atoms::word(alloc, name, from)?),
+            Token::Str(plain) => atoms::text(alloc, tokens, plain, from),
+            Token::String(decoded) => atoms::joined_text(alloc, tokens, decoded, from),
+            Token::Int(value) => Ok(nodes::constant(alloc, V::of_u64(value), from)?),
+            Token::Int128(value) => {
+                let value = V::of_u128(alloc, *value)?;
+                Ok(nodes::constant(alloc, value, from)?)
+            }
+            _ => Err(Refusal::Wrong(Wanted::Part(Expected::Expression))),
+        }
     }
 
+    #[tactic(auto, using(crate::proofs::Members::name_member, crate::proofs::Members::int_member, crate::proofs::Members::large_member, crate::proofs::Members::short_member, crate::proofs::Members::wrong_member, crate::proofs::Members::no_member))]
     fn member(
         &self,
         tokens: &mut TokenStream<'s, 'c>,
@@ -85,18 +107,42 @@ impl<'s, 'c, V: TemplateValue> Nodes for TreeNodes<'s, 'c, V> {
         ensures { Reads (expr_node V.contents) (reads (form.member nothing V.functions
             (expr_node V.contents expr.entry) from) tokens.old) result tokens.new }
     {
-        atoms::member(self.alloc, tokens, expr, from)
+        let alloc = self.alloc;
+        let (token, at) = tokens.take(Wanted::Part(Expected::Identifier))?;
+        let index = match token {
+            Token::Ident(name) => {
+                let span = tokens.expand_span(from);
+                return Ok(nodes::attribute(alloc, expr, name, span)?);
+            }
+            Token::Int(value) => V::of_u64(value),
+            Token::Int128(value) => V::of_u128(alloc, *value)?,
+            _ => return Err(Refusal::Wrong(Wanted::Part(Expected::Identifier))),
+        };
+        let index = nodes::constant(alloc, index, at)?;
+        Ok(nodes::item(alloc, expr, index, tokens.expand_span(from))?)
     }
 
-    fn name(&self, tokens: &mut TokenStream<'s, 'c>) -> Result<&'s str, Refusal> {
-        atoms::name(tokens)
+    /// The source from the first part of the name to its last.
+    #[tactic(auto, using(crate::proofs::Names::name_is, crate::proofs::Names::still_between))]
+    fn name(&self, tokens: &mut TokenStream<'s, 'c>) -> Result<&'s str, Refusal>
+        ensures { Reads (λ x. x.now) (reads form.name tokens.old) result tokens.new }
+    {
+        let (name, first) = ident(tokens, Wanted::Part(Expected::Identifier))?;
+        if !tokens.at(Mark::Dot) {
+            return Ok(name);
+        }
+        let last = atoms::name_parts(tokens, first)?;
+        Ok(atoms::source_between(tokens.source(), first, last))
     }
 
     fn variable_name(expr: &Expr<'s, V>) -> Option<&'s str>
         ensures { option_map (λ x. x.now) result ≡ name_of_variable
             (expr_node V.contents expr.now) }
     {
-        nodes::variable_name(expr)
+        match expr {
+            Expr::Var(variable) => Some(variable.node().id),
+            _ => None,
+        }
     }
 
     fn argument(argument: Argument<&'s str, Expr<'s, V>>) -> CallArg<'s, V>

@@ -6,7 +6,7 @@ use Rattle.std.proofs.lemmas.Bool.Decides.{nat_tests}
 use Rattle.minijinja_tree.specs.Tree.{Args, no_args}
 use Rattle.minijinja_tree.specs.Erasure.{expr_tree, compare_tree, arg_tree, exprs_of, args_of, comparisons_of}
 use Rattle.minijinja_tree.specs.WellFormed.{expr_count, arg_count}
-use Rattle.minijinja_tree.specs.private.WellFormedTests.{is_chain, is_whole, are_arguments, is_target}
+use Rattle.minijinja_tree.specs.private.WellFormedTests.{is_chain, is_whole, are_arguments, is_name}
 use Rattle.minijinja_tree.specs.declared.ast.CallArg.TheBlock as block
 use Rattle.minijinja_tree.specs.declared.ast.Expr.TheVariants as expr
 use Rattle.minijinja_tree.specs.declared.ast.CallArg.{CallArg, Pos, Kwarg, PosSplat, KwargSplat}
@@ -54,11 +54,11 @@ next-argument c xs i x b within h k =
     ∙ split-argument c x (args_of c (drop (i + 1) xs))
     ∙ ap (λ b. b && are_arguments (args_of c (drop (i + 1) xs))) (sym k)
 
-compare-target : {V F C : Type 0} (c : V → C) (q : block.the_data-4 V F) → is_target (compare_tree c q) ≡ false
+compare-target : {V F C : Type 0} (c : V → C) (q : block.the_data-4 V F) → is_name (compare_tree c q) ≡ false
 compare-target c (block.struct-Compare e k ops) = refl
 
 -- what is no variable is no target
-pub other-target : {V F C : Type 0} (c : V → C) (e : Expr V F) → ((s : _) → e ≡ expr.Var s → ⊥) → is_target (expr_tree c e) ≡ false
+pub other-target : {V F C : Type 0} (c : V → C) (e : Expr V F) → ((s : _) → e ≡ expr.Var s → ⊥) → is_name (expr_tree c e) ≡ false
 other-target c (expr.Var s) n = absurd (n s refl)
 other-target c (expr.Compare' p q s) n = compare-target c q
 other-target c _ n = refl

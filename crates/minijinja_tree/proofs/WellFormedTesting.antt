@@ -3,8 +3,9 @@ use Rattle.std.proofs.Common.{◌≡◌, ℕ, ◌≤◌, true, false, refl, sym,
 use Rattle.std.specs.Prelude.{Bool, ◌&&◌, ◌==◌, ◌↔◌, nat_le, IsTrue}
 use Rattle.std.proofs.lemmas.Bool.Decides.{nat_tests}
 use Rattle.minijinja_tree.specs.Tree.{Expr, variable, constant, slice, unary, binary, compare, if_expr, filter, test, attribute, item, call, list, tuple, map, Optional, absent, present, Exprs, no_more, more, Comparisons, compared, against, Args, no_args, pos, pos_splat, kwarg, kwarg_splat, Stmt, template, data_text, output, assignment, Stmts, done, also}
-use Rattle.minijinja_tree.specs.WellFormed.{most_arguments, expr_count, arg_count, IsChain, IsWhole, IsWholeIfAny, AreWhole, AreCompared, AreArguments, IsTarget, IsInner, AreInner, IsWellFormed}
-use Rattle.minijinja_tree.specs.private.WellFormedTests.{is_chain, is_whole, is_whole_if_any, are_whole, are_compared, are_arguments, is_target, is_inner, are_inner, is_well_formed}
+use Rattle.minijinja_tree.specs.WellFormed.{most_arguments, expr_count, arg_count, IsChain, IsWhole, IsWholeIfAny, AreWhole, AreCompared, AreArguments}
+use Rattle.minijinja_tree.specs.Simple.{IsName, IsSimple, AreSimple, IsSimpleTree}
+use Rattle.minijinja_tree.specs.private.WellFormedTests.{is_chain, is_whole, is_whole_if_any, are_whole, are_compared, are_arguments, is_name, is_simple, are_simple, is_simple_tree}
 
 -- both hold
 both : (a b : Bool) → IsTrue a → IsTrue b → IsTrue (a && b)
@@ -150,48 +151,48 @@ mutual
 pub whole-decided : {C : Type 0} (e : Expr C) (b : Bool) → b ≡ is_whole e → IsTrue b ↔ IsWhole e
 whole-decided e b h = subst (λ b. IsTrue b ↔ IsWhole e) (sym h) (whole-holds e, whole-tests e)
 
-target-holds : {C : Type 0} (e : Expr C) → IsTrue (is_target e) → IsTarget e
-target-holds (variable x) h = tt
-target-holds _ h = cc
+name-holds : {C : Type 0} (e : Expr C) → IsTrue (is_name e) → IsName e
+name-holds (variable x) h = tt
+name-holds _ h = cc
 
-target-tests : {C : Type 0} (e : Expr C) → IsTarget e → IsTrue (is_target e)
-target-tests (variable x) h = refl
-target-tests _ h = absurd h
+name-tests : {C : Type 0} (e : Expr C) → IsName e → IsTrue (is_name e)
+name-tests (variable x) h = refl
+name-tests _ h = absurd h
 
-mutual
-  inner-holds : {C : Type 0} (s : Stmt C) → IsTrue (is_inner s) → IsInner s
-  inner-holds (template ss) h = cc
-  inner-holds (data_text t) h = tt
-  inner-holds (output e) h = whole-holds e h
-  inner-holds (assignment e v) h = (target-holds e (left (is_target e) (is_whole v) h), whole-holds v (right (is_target e) (is_whole v) h))
+simple-holds : {C L : Type 0} (s : Stmt C L) → IsTrue (is_simple s) → IsSimple s
+simple-holds (data_text t) h = tt
+simple-holds (output e) h = whole-holds e h
+simple-holds (assignment e v) h = (name-holds e (left (is_name e) (is_whole v) h), whole-holds v (right (is_name e) (is_whole v) h))
+simple-holds _ h = cc
 
-  inners-hold : {C : Type 0} (ss : Stmts C) → IsTrue (are_inner ss) → AreInner ss
-  inners-hold done h = tt
-  inners-hold (also s ss) h = (inner-holds s (left (is_inner s) (are_inner ss) h), inners-hold ss (right (is_inner s) (are_inner ss) h))
+all-hold : {C L : Type 0} (ss : Stmts C L) → IsTrue (are_simple ss) → AreSimple ss
+all-hold done h = tt
+all-hold (also s ss) h = (simple-holds s (left (is_simple s) (are_simple ss) h), all-hold ss (right (is_simple s) (are_simple ss) h))
 
-mutual
-  inner-tests : {C : Type 0} (s : Stmt C) → IsInner s → IsTrue (is_inner s)
-  inner-tests (template ss) h = absurd h
-  inner-tests (data_text t) h = refl
-  inner-tests (output e) h = whole-tests e h
-  inner-tests (assignment e v) h = both (is_target e) _ (target-tests e h.0) (whole-tests v h.1)
+simple-tests : {C L : Type 0} (s : Stmt C L) → IsSimple s → IsTrue (is_simple s)
+simple-tests (data_text t) h = refl
+simple-tests (output e) h = whole-tests e h
+simple-tests (assignment e v) h = both (is_name e) _ (name-tests e h.0) (whole-tests v h.1)
+simple-tests _ h = absurd h
 
-  inners-test : {C : Type 0} (ss : Stmts C) → AreInner ss → IsTrue (are_inner ss)
-  inners-test done h = refl
-  inners-test (also s ss) h = both (is_inner s) _ (inner-tests s h.0) (inners-test ss h.1)
+all-test : {C L : Type 0} (ss : Stmts C L) → AreSimple ss → IsTrue (are_simple ss)
+all-test done h = refl
+all-test (also s ss) h = both (is_simple s) _ (simple-tests s h.0) (all-test ss h.1)
 
-formed-holds : {C : Type 0} (s : Stmt C) → IsTrue (is_well_formed s) → IsWellFormed s
-formed-holds (template ss) h = inners-hold ss h
-formed-holds {C} (data_text t) h = inner-holds {C = C} (data_text t) h
-formed-holds (output e) h = inner-holds (output e) h
-formed-holds (assignment e v) h = inner-holds (assignment e v) h
+tree-holds : {C L : Type 0} (s : Stmt C L) → IsTrue (is_simple_tree s) → IsSimpleTree s
+tree-holds (template ss) h = all-hold ss h
+tree-holds (data_text t) h = tt
+tree-holds (output e) h = whole-holds e h
+tree-holds (assignment e v) h = (name-holds e (left (is_name e) (is_whole v) h), whole-holds v (right (is_name e) (is_whole v) h))
+tree-holds _ h = cc
 
-formed-tests : {C : Type 0} (s : Stmt C) → IsWellFormed s → IsTrue (is_well_formed s)
-formed-tests (template ss) h = inners-test ss h
-formed-tests {C} (data_text t) h = inner-tests {C = C} (data_text t) h
-formed-tests (output e) h = inner-tests (output e) h
-formed-tests (assignment e v) h = inner-tests (assignment e v) h
+tree-tests : {C L : Type 0} (s : Stmt C L) → IsSimpleTree s → IsTrue (is_simple_tree s)
+tree-tests (template ss) h = all-test ss h
+tree-tests (data_text t) h = refl
+tree-tests (output e) h = whole-tests e h
+tree-tests (assignment e v) h = both (is_name e) _ (name-tests e h.0) (whole-tests v h.1)
+tree-tests _ h = absurd h
 
 -- the test of a statement
-pub formed-decided : {C : Type 0} (s : Stmt C) (b : Bool) → b ≡ is_well_formed s → IsTrue b ↔ IsWellFormed s
-formed-decided s b h = subst (λ b. IsTrue b ↔ IsWellFormed s) (sym h) (formed-holds s, formed-tests s)
+pub tree-decided : {C L : Type 0} (s : Stmt C L) (b : Bool) → b ≡ is_simple_tree s → IsTrue b ↔ IsSimpleTree s
+tree-decided s b h = subst (λ b. IsTrue b ↔ IsSimpleTree s) (sym h) (tree-holds s, tree-tests s)

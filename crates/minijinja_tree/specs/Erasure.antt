@@ -114,12 +114,12 @@ comparisons_of c [] = tree.compared
 comparisons_of c (a ∷ rest) = tree.against (compare_op a.op) (expr_tree c a.expr) (comparisons_of c rest)
 
 abbrev mutual
-  pub stmt_tree : {V F C : Type 0} → (V → C) → Stmt V F → tree.Stmt C
+  pub stmt_tree : {V F C : Type 0} → (V → C) → Stmt V F → tree.Stmt C (Unit {0})
   stmt_tree c (Template' p k xs s) = tree.template (stmts_tree c xs)
   stmt_tree c (EmitExpr s) = tree.output (expr_tree c (node_of s).expr)
   stmt_tree c (EmitRaw s) = tree.data_text (node_of s).raw.now
   stmt_tree c (Set s) = tree.assignment (expr_tree c (node_of s).target) (expr_tree c (node_of s).expr)
 
-  pub stmts_tree : {V F C : Type 0} {m : _} → (V → C) → Row_of-Stmt V F m → tree.Stmts C
+  pub stmts_tree : {V F C : Type 0} {m : _} → (V → C) → Row_of-Stmt V F m → tree.Stmts C (Unit {0})
   stmts_tree c end_of-Stmt = tree.done
   stmts_tree c (more_of-Stmt s rest) = tree.also (stmt_tree c s) (stmts_tree c rest)

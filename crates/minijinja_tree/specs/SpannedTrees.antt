@@ -128,12 +128,12 @@ abbrev mutual
   bare_args (kwarg_splat e xs) = bare.kwarg_splat (bare_expr e) (bare_args xs)
 
 abbrev mutual
-  pub bare_stmt : {C : Type 0} → Stmt C → bare.Stmt C
+  pub bare_stmt : {C : Type 0} → Stmt C → bare.Stmt C (Unit {0})
   bare_stmt (template ss s) = bare.template (bare_stmts ss)
   bare_stmt (data_text t s) = bare.data_text t
   bare_stmt (output e s) = bare.output (bare_expr e)
   bare_stmt (assignment t e s) = bare.assignment (bare_expr t) (bare_expr e)
 
-  pub bare_stmts : {C : Type 0} → Stmts C → bare.Stmts C
+  pub bare_stmts : {C : Type 0} → Stmts C → bare.Stmts C (Unit {0})
   bare_stmts done = bare.done
   bare_stmts (also s ss) = bare.also (bare_stmt s) (bare_stmts ss)

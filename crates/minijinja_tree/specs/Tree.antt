@@ -1,5 +1,5 @@
 -- Trees without spans, over what values hold.
-use Rattle.std.specs.Prelude.{List, [], ◌∷◌}
+use Rattle.std.specs.Prelude.{Bool, true, false, List, [], ◌∷◌}
 use Rattle.minijinja_syntax.specs.Texts.{Text}
 use Rattle.minijinja_tree.specs.BinOps.{BinOp}
 use Rattle.minijinja_tree.specs.CompareOps.{CompareOp}
@@ -50,19 +50,40 @@ mutual
     kwarg : Text → Expr C → Args C → Args C
     kwarg_splat : Expr C → Args C → Args C
 
+-- Statements. A loop has a label of any type L, by which it is named.
 mutual
-  pub data Stmt (C : Type 0) : Type 0 where
-    template : Stmts C → Stmt C
+  pub data Stmt (C L : Type 0) : Type 0 where
+    template : Stmts C L → Stmt C L
     -- text outside of tags
-    data_text : Text → Stmt C
-    output : Expr C → Stmt C
+    data_text : Text → Stmt C L
+    output : Expr C → Stmt C L
     -- the target and the value
-    assignment : Expr C → Expr C → Stmt C
+    assignment : Expr C → Expr C → Stmt C L
+    -- the target, the iterable, the test that items have to pass, whether it is recursive, the body, and the else body
+    for_loop : L → Expr C → Expr C → Optional C → Bool → Stmts C L → Stmts C L → Stmt C L
+    -- the test, the true body and the false body
+    if_cond : Expr C → Stmts C L → Stmts C L → Stmt C L
+    -- each target with its value, and the body
+    with_block : List (Expr C × Expr C) → Stmts C L → Stmt C L
+    -- the target, the chain of filters and the body
+    set_block : Expr C → Optional C → Stmts C L → Stmt C L
+    -- whether to escape, and the body
+    auto_escape : Expr C → Stmts C L → Stmt C L
+    -- the chain of filters and the body
+    filter_block : Expr C → Stmts C L → Stmt C L
+    -- what is called, and the arguments
+    do_call : Expr C → Args C → Stmt C L
+    break_loop continue_loop : Stmt C L
 
-  pub data Stmts (C : Type 0) : Type 0 where
-    done : Stmts C
-    also : Stmt C → Stmts C → Stmts C
+  pub data Stmts (C L : Type 0) : Type 0 where
+    done : Stmts C L
+    also : Stmt C L → Stmts C L → Stmts C L
 
-abbrev pub stmts_of : {C : Type 0} → List (Stmt C) → Stmts C
+abbrev pub stmts_of : {C L : Type 0} → List (Stmt C L) → Stmts C L
 stmts_of [] = done
 stmts_of (s ∷ rest) = also s (stmts_of rest)
+
+-- whether there are any
+abbrev pub are_any : {C L : Type 0} → Stmts C L → Bool
+are_any done = false
+are_any (also s rest) = true

@@ -1,6 +1,6 @@
 -- Which trees code is made of.
-use Rattle.std.specs.Prelude.{◌≡◌, ℕ, suc, ◌≤◌}
-use Rattle.minijinja_tree.specs.Tree.{Expr, variable, constant, slice, unary, binary, compare, if_expr, filter, test, attribute, item, call, list, tuple, map, Optional, absent, present, Exprs, no_more, more, Comparisons, compared, against, Args, no_args, pos, pos_splat, kwarg, kwarg_splat, Stmt, template, data_text, output, assignment, Stmts, done, also}
+use Rattle.std.specs.Prelude.{◌≡◌, ℕ, suc, ◌≤◌, Bool, true, false, IsTrue, List, [], ◌∷◌}
+use Rattle.minijinja_tree.specs.Tree.{Expr, variable, constant, slice, unary, binary, compare, if_expr, filter, test, attribute, item, call, list, tuple, map, Optional, absent, present, Exprs, no_more, more, Comparisons, compared, against, Args, no_args, pos, pos_splat, kwarg, kwarg_splat, Stmt, template, data_text, output, assignment, for_loop, if_cond, with_block, set_block, auto_escape, filter_block, do_call, break_loop, continue_loop, Stmts, done, also}
 
 -- how many arguments a call may have
 abbrev pub most_arguments : ℕ
@@ -68,25 +68,57 @@ abbrev mutual
   AreArguments (kwarg x e args) = IsWhole e × AreArguments args
   AreArguments (kwarg_splat e args) = IsWhole e × AreArguments args
 
--- a name may be assigned to
-abbrev pub IsTarget : {C : Type 0} → Expr C → Type 0
-IsTarget (variable x) = Unit {0}
-IsTarget _ = ⊥
-
--- a whole template stands only at the root
+-- names, attributes and lists of targets may be assigned to
 abbrev mutual
-  pub IsInner : {C : Type 0} → Stmt C → Type 0
-  IsInner (template ss) = ⊥
-  IsInner (data_text t) = Unit {0}
-  IsInner (output e) = IsWhole e
-  IsInner (assignment e v) = IsTarget e × IsWhole v
+  pub IsTarget : {C : Type 0} → Expr C → Type 0
+  IsTarget (variable x) = Unit {0}
+  IsTarget (attribute e x) = IsWhole e
+  IsTarget (list es) = AreTargets es
+  IsTarget _ = ⊥
+
+  pub AreTargets : {C : Type 0} → Exprs C → Type 0
+  AreTargets no_more = Unit {0}
+  AreTargets (more e es) = IsTarget e × AreTargets es
+
+-- targets with their values
+abbrev pub AreAssignments : {C : Type 0} → List (Expr C × Expr C) → Type 0
+AreAssignments [] = Unit {0}
+AreAssignments (a ∷ rest) = IsTarget a.0 × IsWhole a.1 × AreAssignments rest
+
+-- filters alone, of which the innermost has no operand
+abbrev pub IsChainOfFilters : {C : Type 0} → Expr C → Type 0
+IsChainOfFilters (filter absent x args) = AreArguments args × (arg_count args ≤ most_arguments)
+IsChainOfFilters (filter (present e) x args) = IsChainOfFilters e × AreArguments args × (arg_count args ≤ most_arguments)
+IsChainOfFilters _ = ⊥
+
+-- a chain that may be absent
+abbrev pub IsChainIfAny : {C : Type 0} → Optional C → Type 0
+IsChainIfAny absent = Unit {0}
+IsChainIfAny (present e) = IsChainOfFilters e
+
+-- A whole template stands only at the root. Loops are left only in a loop's body, to which its else body does not belong.
+abbrev mutual
+  pub IsInner : {C L : Type 0} → (in_loop : Bool) → Stmt C L → Type 0
+  IsInner l (template ss) = ⊥
+  IsInner l (data_text t) = Unit {0}
+  IsInner l (output e) = IsWhole e
+  IsInner l (assignment e v) = IsTarget e × IsWhole v
+  IsInner l (for_loop n target e only recursive body else_body) = IsTarget target × IsWhole e × IsWholeIfAny only × AreInner true body × AreInner l else_body
+  IsInner l (if_cond e true_body false_body) = IsWhole e × AreInner l true_body × AreInner l false_body
+  IsInner l (with_block assignments body) = AreAssignments assignments × AreInner l body
+  IsInner l (set_block target chain body) = IsTarget target × IsChainIfAny chain × AreInner l body
+  IsInner l (auto_escape e body) = IsWhole e × AreInner l body
+  IsInner l (filter_block chain body) = IsChainOfFilters chain × AreInner l body
+  IsInner l (do_call e args) = IsWhole (call e args)
+  IsInner l break_loop = IsTrue l
+  IsInner l continue_loop = IsTrue l
 
   -- each of these statements
-  pub AreInner : {C : Type 0} → Stmts C → Type 0
-  AreInner done = Unit {0}
-  AreInner (also s rest) = IsInner s × AreInner rest
+  pub AreInner : {C L : Type 0} → (in_loop : Bool) → Stmts C L → Type 0
+  AreInner l done = Unit {0}
+  AreInner l (also s rest) = IsInner l s × AreInner l rest
 
 -- a template, or a statement that stands in one
-abbrev pub IsWellFormed : {C : Type 0} → Stmt C → Type 0
-IsWellFormed (template ss) = AreInner ss
-IsWellFormed s = IsInner s
+abbrev pub IsWellFormed : {C L : Type 0} → Stmt C L → Type 0
+IsWellFormed (template ss) = AreInner false ss
+IsWellFormed s = IsInner false s

@@ -3,7 +3,8 @@ ghost use Rattle.std.specs.Prelude.{◌≡◌, ◌==◌, ◌↔◌, ◌<◌, ◌
 ghost use Rattle.minijinja_tree.specs.Erasure.{expr_tree, optional_of, exprs_of, arg_tree, args_of, comparisons_of, stmt_tree};
 ghost use Rattle.minijinja_tree.specs.Tree as tree;
 ghost use Rattle.minijinja_tree.specs.Tree.{stmts_of};
-ghost use Rattle.minijinja_tree.specs.WellFormed.{IsWhole, IsWellFormed, most_arguments, arg_count, expr_count};
+ghost use Rattle.minijinja_tree.specs.WellFormed.{IsWhole, most_arguments, arg_count, expr_count};
+ghost use Rattle.minijinja_tree.specs.Simple.{IsSimpleTree};
 ghost use Rattle.minijinja_tree.specs.private.Sizes.{size_of};
 ghost use Rattle.minijinja_tree.specs.private.WellFormedTests as tests;
 
@@ -23,14 +24,14 @@ impl<'s, V: TemplateValue> Expr<'s, V> {
 impl<'s, V: TemplateValue> Stmt<'s, V> {
     /// Whether no template stands within it, its targets are names, and its expressions are well formed.
     pub fn is_well_formed(&self) -> bool
-        ensures { IsTrue result ↔ IsWellFormed (stmt_tree V.contents self.now) }
+        ensures { IsTrue result ↔ IsSimpleTree (stmt_tree V.contents self.now) }
     {
         is_formed(self)
     }
 }
 
 fn is_formed<V: TemplateValue>(stmt: &Stmt<'_, V>) -> bool
-    ensures { result ≡ tests.is_well_formed (stmt_tree V.contents stmt.now) }
+    ensures { result ≡ tests.is_simple_tree (stmt_tree V.contents stmt.now) }
 {
     match stmt {
         Stmt::Template(template) => are_inner(&template.node().children),
@@ -39,7 +40,7 @@ fn is_formed<V: TemplateValue>(stmt: &Stmt<'_, V>) -> bool
 }
 
 fn are_inner<V: TemplateValue>(stmts: &[Stmt<'_, V>]) -> bool
-    ensures { result ≡ tests.are_inner (stmts_of (map (stmt_tree V.contents) stmts.now)) }
+    ensures { result ≡ tests.are_simple (stmts_of (map (stmt_tree V.contents) stmts.now)) }
 {
     for stmt in stmts {
         if !is_inner(stmt) {
@@ -50,7 +51,7 @@ fn are_inner<V: TemplateValue>(stmts: &[Stmt<'_, V>]) -> bool
 }
 
 fn is_inner<V: TemplateValue>(stmt: &Stmt<'_, V>) -> bool
-    ensures { result ≡ tests.is_inner (stmt_tree V.contents stmt.now) }
+    ensures { result ≡ tests.is_simple (stmt_tree V.contents stmt.now) }
 {
     match stmt {
         Stmt::Template(_) => false,
@@ -64,7 +65,7 @@ fn is_inner<V: TemplateValue>(stmt: &Stmt<'_, V>) -> bool
 }
 
 fn is_target<V: TemplateValue>(expr: &Expr<'_, V>) -> bool
-    ensures { result ≡ tests.is_target (expr_tree V.contents expr.now) }
+    ensures { result ≡ tests.is_name (expr_tree V.contents expr.now) }
 {
     matches!(expr, Expr::Var(_))
 }

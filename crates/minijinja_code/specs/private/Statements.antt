@@ -5,8 +5,8 @@ use Rattle.minijinja_tree.specs.Tree.{Stmt, Stmts}
 use Rattle.minijinja_meaning.specs.Pieces.{Piece, outside, leading_to}
 use Rattle.minijinja_meaning.specs.Layout.{stmt, stmts}
 
-abbrev pub stmt_piece : {C F : Type 0} → Functions C F → Stmt C → Piece C
+abbrev pub stmt_piece : {C L F : Type 0} → Functions C F → Stmt C L → Piece C
 stmt_piece f s = leading_to outside (stmt f [] s)
 
-abbrev pub stmts_piece : {C F : Type 0} → Functions C F → Stmts C → Piece C
+abbrev pub stmts_piece : {C L F : Type 0} → Functions C F → Stmts C L → Piece C
 stmts_piece f ss = leading_to outside (stmts f [] ss)

@@ -63,6 +63,14 @@ impl<'s, V: TemplateValue> Emitter<'s, V> {
         self.list.len().min(u32::MAX as usize) as u32
     }
 
+    /// Makes room for so many more instructions, so that adding them moves none.
+    pub(super) fn make_room(&mut self, count: usize) -> Result<(), OutOfMemory>
+        ensures { made_of V.contents self.new ≡ made_of V.contents self.old }
+    {
+        self.list.reserve(count)?;
+        Ok(())
+    }
+
     /// Adds an instruction that leads nowhere else.
     #[inline(always)]
     pub(super) fn add(&mut self, instruction: Instruction<'s, V>) -> Result<(), OutOfMemory>

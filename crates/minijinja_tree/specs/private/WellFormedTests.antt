@@ -1,4 +1,4 @@
--- The same as `WellFormed`, as tests.
+-- The same as `WellFormed` and `Simple`, as tests.
 use Rattle.std.specs.Prelude.{Bool, true, false, ◌&&◌, ◌==◌, Option, Some, None, nat_le}
 use Rattle.minijinja_tree.specs.Tree.{Expr, variable, constant, slice, unary, binary, compare, if_expr, filter, test, attribute, item, call, list, tuple, map, Optional, absent, present, Exprs, no_more, more, Comparisons, compared, against, Args, no_args, pos, pos_splat, kwarg, kwarg_splat, Stmt, template, data_text, output, assignment, Stmts, done, also}
 use Rattle.minijinja_tree.specs.WellFormed.{most_arguments, expr_count, arg_count}
@@ -99,25 +99,24 @@ is_whole_beside (list es) = are_whole es
 is_whole_beside (tuple es) = are_whole es
 is_whole_beside (map ks vs) = (expr_count ks == expr_count vs) && (are_whole ks && are_whole vs)
 
--- a name may be assigned to
-abbrev pub is_target : {C : Type 0} → Expr C → Bool
-is_target (variable x) = true
-is_target _ = false
+-- a name
+abbrev pub is_name : {C : Type 0} → Expr C → Bool
+is_name (variable x) = true
+is_name _ = false
 
-abbrev mutual
-  -- a statement that stands in a template
-  pub is_inner : {C : Type 0} → Stmt C → Bool
-  is_inner (template ss) = false
-  is_inner (data_text t) = true
-  is_inner (output e) = is_whole e
-  is_inner (assignment e v) = is_target e && is_whole v
+-- data, an output, or a value that goes to a name
+abbrev pub is_simple : {C L : Type 0} → Stmt C L → Bool
+is_simple (data_text t) = true
+is_simple (output e) = is_whole e
+is_simple (assignment e v) = is_name e && is_whole v
+is_simple _ = false
 
-  -- each of these statements
-  pub are_inner : {C : Type 0} → Stmts C → Bool
-  are_inner done = true
-  are_inner (also s rest) = is_inner s && are_inner rest
+-- each of these statements
+abbrev pub are_simple : {C L : Type 0} → Stmts C L → Bool
+are_simple done = true
+are_simple (also s rest) = is_simple s && are_simple rest
 
--- a template, or a statement that stands in one
-abbrev pub is_well_formed : {C : Type 0} → Stmt C → Bool
-is_well_formed (template ss) = are_inner ss
-is_well_formed s = is_inner s
+-- a template of such statements, or one of these
+abbrev pub is_simple_tree : {C L : Type 0} → Stmt C L → Bool
+is_simple_tree (template ss) = are_simple ss
+is_simple_tree s = is_simple s

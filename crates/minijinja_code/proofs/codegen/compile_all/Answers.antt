@@ -2,7 +2,7 @@ use Rattle.std.proofs.Common.{◌≡◌, ◌<◌, ◌+◌, length, map, drop, re
 use Rattle.std.proofs.lemmas.List.{at_drop_more, at_drop_all}
 use Rattle.minijinja_tree.specs.Erasure.{stmt_tree}
 use Rattle.minijinja_tree.specs.Tree.{stmts_of, also}
-use Rattle.minijinja_tree.specs.WellFormed.{AreInner}
+use Rattle.minijinja_tree.specs.Simple.{AreSimple}
 use Rattle.minijinja_code.specs.Hint.{all_data_bytes}
 use Rattle.minijinja_code.specs.private.Making.{made_of}
 use Rattle.minijinja_code.specs.private.Statements.{stmt_piece, stmts_piece}
@@ -26,7 +26,7 @@ loop-stmt-preserved g c =
     let rest = stmts_of (map (stmt_tree v) (drop (i + 1) xs)) in
     let within : i < length xs = omega arith in
     let split : stmts_of (map (stmt_tree v) (drop i xs)) ≡ also (stmt_tree v x) rest = at_drop_more (λ ys. stmts_of (map (stmt_tree v) ys)) xs i x within ∙ ap (λ y. also (stmt_tree v y) rest) (sym c.stmt-item.is) in
-    let inner = subst AreInner split c.loop-stmt.invariant.inner in
+    let inner = subst AreSimple split c.loop-stmt.invariant.inner in
     let bytes = ap all_data_bytes split in
     record {
       leads = leads_on (stmt_piece f (stmt_tree v x)) (stmts_piece f rest) (ap (stmts_piece f) split) c.in_ok-compile_inner.ensures.added c.loop-stmt.invariant.leads;

@@ -39,4 +39,4 @@ returns-clause-too_many g c =
     let e = expr_tree v c.args.target.now in
     let r = c.ended.result in
     let adds = outcome_ok _ r c.assign-outcome.result tt c.ended.ensures.outcome c.assign-outcome.ensures in
-    if_none c.args.self.now.refusal (too_long r c.assign-outcome.result tt m (made_of v c.assign-outcome.new.code) (layout.target e) c.ended.ensures.too_many c.assign-outcome.ensures)
+    if_none c.args.self.now.refusal (too_long r c.assign-outcome.result tt m (made_of v c.assign-outcome.new.code) (layout.target f e) c.ended.ensures.too_many c.assign-outcome.ensures)

@@ -1,8 +1,10 @@
 use Rattle.std.proofs.Common.{◌∙◌, ◌<◌, ◌^◌, List, Result, Ok, length, refl, sym, subst}
 use Rattle.minijinja_tree.specs.Erasure.{stmt_tree}
+use Rattle.minijinja_tree.proofs.Simple.{simple-well-formed}
 use Rattle.minijinja_meaning.specs.Code.{Instr}
 use Rattle.minijinja_meaning.specs.Correct.{DoesStmt}
 use Rattle.minijinja_meaning.specs.Laws.{Laws}
+use Rattle.minijinja_meaning.specs.Places.{placed_stmt}
 use Rattle.minijinja_meaning.proofs.Whole.{statement_does}
 use Rattle.minijinja_code.specs.private.Making.{made_of, here_of}
 use Rattle.minijinja_code.specs.private.Statements.{stmt_piece}
@@ -20,7 +22,7 @@ returns-in-Ok-clause-added g c =
     let e = stmt_tree v c.args.stmt.now in
     let r = c.ended.result in
     let s = c.in-Ok.ensures.added in
-    ok_gives r (λ small. c.ended.ensures.code ∙ stmt_uncapped f e s small) c.ended.ensures.few
+    ok_gives r (λ small. c.ended.ensures.code ∙ stmt_uncapped f e (simple-well-formed e c.requires) s small) c.ended.ensures.few
 
 pub returns-in-Ok-clause-past : goal.returns-in-Ok-clause-past
 returns-in-Ok-clause-past g c =
@@ -46,8 +48,8 @@ returns-in-Ok-clause-does g c =
     let s = c.in-Ok.ensures.added in
     let laws : Laws f = record { truth = g.met.V.TemplateValue.is_true_of_bool; count = g.met.V.TemplateValue.as_count_of_u64; one_more = g.met.V.TemplateValue.add_one } in
     ok_gives r (λ small.
-    subst (λ (code : List (Instr g.V.TemplateValue.Contents)). DoesStmt f code (length m.code) (length code) e) (sym (c.ended.ensures.code ∙ stmt_uncapped f e s small))
-    (statement_does f laws m.code (here_of m) e refl c.requires)) c.ended.ensures.few
+    subst (λ (code : List (Instr g.V.TemplateValue.Contents)). DoesStmt f code (length m.code) (length code) (placed_stmt f e (here_of m))) (sym (c.ended.ensures.code ∙ stmt_uncapped f e (simple-well-formed e c.requires) s small))
+    (statement_does f laws m.code (here_of m) e refl (simple-well-formed e c.requires))) c.ended.ensures.few
 
 pub returns-in-Ok-clause-too_many : goal.returns-in-Ok-clause-too_many
 returns-in-Ok-clause-too_many g c =

@@ -7,7 +7,7 @@ use Rattle.minijinja_tree.specs.declared.ast.Expr.TheVariants as expr
 use Rattle.minijinja_tree.specs.declared.ast.Expr.TheVariants.{Compare'}
 use Rattle.minijinja_tree.specs.SpannedErasure.{expr_node}
 use Rattle.minijinja_grammar.specs.Grammar.{name_of_variable}
-use Rattle.minijinja_parser.proofs.nodes.variable_name.Goals as goal
+use Rattle.minijinja_parser.proofs.tree_nodes.TreeNodesNodes.variable_name.Goals as goal
 
 no_name : {V F C : Type 0} (c : V → C) (e : Expr V F) → ((s : Spanned Var) → e ≡ expr.Var s → ⊥) → ◌≡◌ {A = _} None (name_of_variable (expr_node c e))
 no_name c (expr.Var s) h = absurd (h s refl)

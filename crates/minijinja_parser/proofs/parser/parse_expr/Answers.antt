@@ -6,7 +6,7 @@ use Rattle.minijinja_tree.specs.SpannedErasure.{expr_node}
 use Rattle.minijinja_grammar.specs.Grammar.{expr_at, max_depth}
 use Rattle.minijinja_stream.specs.TokenStreams.{Comes, stream_at}
 use Rattle.minijinja_parser.proofs.Begun.{begun_refused, begun_only, begun_first}
-use Rattle.minijinja_parser.proofs.parser.parse_expression.Goals as goal
+use Rattle.minijinja_parser.proofs.parser.parse_expr.Goals as goal
 
 pub returns-clause-refused : goal.returns-clause-refused
 returns-clause-refused g c =
@@ -23,7 +23,7 @@ returns-clause-only g c =
     (subst (λ y. Comes (tokens_of_expression y c.args.source.now) (stream_at c.new-parser.result.place)) c.default-syntax.ensures c.new-parser.ensures.stream) (c.parse_standalone_expr.ensures.again OutOfMemory None) c.parse_standalone_expr.ensures.only
 
 pub returns-clause-first : goal.returns-clause-first
-returns-clause-first g c =
+returns-clause-first g c = λ short.
     begun_first (expr_at g.V.TemplateValue.functions max_depth) (expr_node {F = g.row.V-Fault.Denot} g.V.TemplateValue.contents)
     (text_of default_syntax c.args.source.now) (tokens_of_expression default_syntax c.args.source.now) c.new-parser.result.place c.parse_standalone_expr.result
     (c.new-parser.ensures.source ∙ ap (λ y. text_of y c.args.source.now) c.default-syntax.ensures) c.new-parser.ensures.last

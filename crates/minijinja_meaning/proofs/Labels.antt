@@ -1,0 +1,181 @@
+-- Code, places, units and well-formed trees look at no name of a loop.
+use Rattle.std.proofs.Common.{◌≡◌, ℕ, List, [], ◌∷◌, ◌++◌, refl, ap, ◌∙◌}
+use Rattle.std.specs.Prelude.{Bool, true, false}
+use Rattle.minijinja_value.specs.Values.{Functions}
+use Rattle.minijinja_tree.specs.Tree.{Stmt, template, data_text, output, assignment, for_loop, if_cond, with_block, set_block, auto_escape, filter_block, do_call, break_loop, continue_loop, Stmts, done, also, are_any}
+use Rattle.minijinja_tree.specs.WellFormed.{IsInner, AreInner, IsWellFormed}
+use Rattle.minijinja_meaning.specs.Pieces.{Here, behind, Open, OpenScope, OpenAutoEscape, OpenCapture}
+use Rattle.minijinja_meaning.specs.Layout.{expr, assignments, looping, stmt, stmts}
+use Rattle.minijinja_meaning.specs.Naming.{relabel, relabel_all}
+use Rattle.minijinja_meaning.specs.Places.{loop_start, body_start, loop_past, placed, all_placed}
+use Rattle.minijinja_meaning.specs.Units.{RecursiveLoop, and_if, units, all_units}
+
+any_same : {C L M : Type 0} (r : L → M) (ss : Stmts C L) → are_any (relabel_all r ss) ≡ are_any ss
+any_same r done = refl
+any_same r (also s rest) = refl
+
+module _ {C L M : Type 0} (r : L → M) where
+  mutual
+    inner_there : (s : Stmt C L) (l : Bool) → IsInner l s → IsInner l (relabel r s)
+    inner_there (template ss) l is = is
+    inner_there (data_text t) l is = is
+    inner_there (output e) l is = is
+    inner_there (assignment target e) l is = is
+    inner_there (for_loop n target e only recursive body else_body) l is = (is.0, is.1, is.2, all_there body true is.3, all_there else_body l is.4)
+    inner_there (if_cond e true_body false_body) l is = (is.0, all_there true_body l is.1, all_there false_body l is.2)
+    inner_there (with_block ts body) l is = (is.0, all_there body l is.1)
+    inner_there (set_block target chain body) l is = (is.0, is.1, all_there body l is.2)
+    inner_there (auto_escape e body) l is = (is.0, all_there body l is.1)
+    inner_there (filter_block chain body) l is = (is.0, all_there body l is.1)
+    inner_there (do_call e args) l is = is
+    inner_there break_loop l is = is
+    inner_there continue_loop l is = is
+
+    all_there : (ss : Stmts C L) (l : Bool) → AreInner l ss → AreInner l (relabel_all r ss)
+    all_there done l is = tt
+    all_there (also s rest) l is = (inner_there s l is.0, all_there rest l is.1)
+
+  mutual
+    inner_back : (s : Stmt C L) (l : Bool) → IsInner l (relabel r s) → IsInner l s
+    inner_back (template ss) l is = is
+    inner_back (data_text t) l is = is
+    inner_back (output e) l is = is
+    inner_back (assignment target e) l is = is
+    inner_back (for_loop n target e only recursive body else_body) l is = (is.0, is.1, is.2, all_back body true is.3, all_back else_body l is.4)
+    inner_back (if_cond e true_body false_body) l is = (is.0, all_back true_body l is.1, all_back false_body l is.2)
+    inner_back (with_block ts body) l is = (is.0, all_back body l is.1)
+    inner_back (set_block target chain body) l is = (is.0, is.1, all_back body l is.2)
+    inner_back (auto_escape e body) l is = (is.0, all_back body l is.1)
+    inner_back (filter_block chain body) l is = (is.0, all_back body l is.1)
+    inner_back (do_call e args) l is = is
+    inner_back break_loop l is = is
+    inner_back continue_loop l is = is
+
+    all_back : (ss : Stmts C L) (l : Bool) → AreInner l (relabel_all r ss) → AreInner l ss
+    all_back done l is = tt
+    all_back (also s rest) l is = (inner_back s l is.0, all_back rest l is.1)
+
+  pub well_formed_there : (s : Stmt C L) → IsWellFormed s → IsWellFormed (relabel r s)
+  well_formed_there (template ss) is = all_there ss false is
+  well_formed_there (data_text t) is = inner_there (data_text t) false is
+  well_formed_there (output e) is = inner_there (output e) false is
+  well_formed_there (assignment target e) is = inner_there (assignment target e) false is
+  well_formed_there (for_loop n target e only recursive body else_body) is = inner_there (for_loop n target e only recursive body else_body) false is
+  well_formed_there (if_cond e true_body false_body) is = inner_there (if_cond e true_body false_body) false is
+  well_formed_there (with_block ts body) is = inner_there (with_block ts body) false is
+  well_formed_there (set_block target chain body) is = inner_there (set_block target chain body) false is
+  well_formed_there (auto_escape e body) is = inner_there (auto_escape e body) false is
+  well_formed_there (filter_block chain body) is = inner_there (filter_block chain body) false is
+  well_formed_there (do_call e args) is = inner_there (do_call e args) false is
+  well_formed_there break_loop is = is
+  well_formed_there continue_loop is = is
+
+  pub well_formed_back : (s : Stmt C L) → IsWellFormed (relabel r s) → IsWellFormed s
+  well_formed_back (template ss) is = all_back ss false is
+  well_formed_back (data_text t) is = inner_back (data_text t) false is
+  well_formed_back (output e) is = inner_back (output e) false is
+  well_formed_back (assignment target e) is = inner_back (assignment target e) false is
+  well_formed_back (for_loop n target e only recursive body else_body) is = inner_back (for_loop n target e only recursive body else_body) false is
+  well_formed_back (if_cond e true_body false_body) is = inner_back (if_cond e true_body false_body) false is
+  well_formed_back (with_block ts body) is = inner_back (with_block ts body) false is
+  well_formed_back (set_block target chain body) is = inner_back (set_block target chain body) false is
+  well_formed_back (auto_escape e body) is = inner_back (auto_escape e body) false is
+  well_formed_back (filter_block chain body) is = inner_back (filter_block chain body) false is
+  well_formed_back (do_call e args) is = inner_back (do_call e args) false is
+  well_formed_back break_loop is = is
+  well_formed_back continue_loop is = is
+
+module _ {C L M F : Type 0} (f : Functions C F) (r : L → M) where
+  mutual
+    pub stmt_same : (s : Stmt C L) (os : List Open) → stmt f os (relabel r s) ≡ stmt f os s
+    stmt_same (template ss) os = stmts_same ss os
+    stmt_same (data_text t) os = refl
+    stmt_same (output e) os = refl
+    stmt_same (assignment target e) os = refl
+    stmt_same (for_loop n target e only recursive body else_body) os = rw (stmts_same body [], stmts_same else_body os, any_same r else_body) refl
+    stmt_same (if_cond e true_body false_body) os = rw (stmts_same true_body os, stmts_same false_body os, any_same r false_body) refl
+    stmt_same (with_block ts body) os = rw (stmts_same body (OpenScope ∷ os)) refl
+    stmt_same (set_block target chain body) os = rw (stmts_same body (OpenCapture ∷ os)) refl
+    stmt_same (auto_escape e body) os = rw (stmts_same body (OpenAutoEscape ∷ os)) refl
+    stmt_same (filter_block chain body) os = rw (stmts_same body (OpenCapture ∷ os)) refl
+    stmt_same (do_call e args) os = refl
+    stmt_same break_loop os = refl
+    stmt_same continue_loop os = refl
+
+    stmts_same : (ss : Stmts C L) (os : List Open) → stmts f os (relabel_all r ss) ≡ stmts f os ss
+    stmts_same done os = refl
+    stmts_same (also s rest) os = rw (stmt_same s os, stmts_same rest os) refl
+
+  past_same : (target : _) (body else_body : Stmts C L) (h : Here) → loop_past f target (relabel_all r body) (relabel_all r else_body) h ≡ loop_past f target body else_body h
+  past_same target body else_body h =
+      ap (λ p. (looping f target false (are_any (relabel_all r else_body)) p).past h) (stmts_same body [])
+      ∙ ap (λ (t : Bool). (looping f target false t (stmts f [] body)).past h) (any_same r else_body)
+
+  mutual
+    pub placed_same : (s : Stmt C L) (os : List Open) (h : Here) → placed f os (relabel r s) h ≡ placed f os s h
+    placed_same (template ss) os h = ap template (all_placed_same ss os h)
+    placed_same (data_text t) os h = refl
+    placed_same (output e) os h = refl
+    placed_same (assignment target e) os h = refl
+    placed_same (for_loop n target e only recursive body else_body) os h =
+        let start = loop_start f target e only h in
+        let b = body_start f target start in
+        let placed_else = all_placed f os (relabel_all r else_body) in
+        ap (λ (t : Stmts C ℕ). for_loop start.place target e only recursive t (placed_else (behind 1 (loop_past f target (relabel_all r body) (relabel_all r else_body) start)))) (all_placed_same body [] b)
+        ∙ ap (λ (p : Here). for_loop start.place target e only recursive (all_placed f [] body b) (placed_else (behind 1 p))) (past_same target body else_body start)
+        ∙ ap (λ (t : Stmts C ℕ). for_loop start.place target e only recursive (all_placed f [] body b) t) (all_placed_same else_body os (behind 1 (loop_past f target body else_body start)))
+    placed_same (if_cond e true_body false_body) os h =
+        let first = behind 1 ((expr f e).past h) in
+        ap (λ (t : Stmts C ℕ). if_cond e t (all_placed f os (relabel_all r false_body) (behind 1 ((stmts f os (relabel_all r true_body)).past first)))) (all_placed_same true_body os first)
+        ∙ ap (λ p. if_cond e (all_placed f os true_body first) (all_placed f os (relabel_all r false_body) (behind 1 (p.past first)))) (stmts_same true_body os)
+        ∙ ap (λ (t : Stmts C ℕ). if_cond e (all_placed f os true_body first) t) (all_placed_same false_body os (behind 1 ((stmts f os true_body).past first)))
+    placed_same (with_block ts body) os h = ap (with_block ts) (all_placed_same body (OpenScope ∷ os) ((assignments f ts).past (behind 1 h)))
+    placed_same (set_block target chain body) os h = ap (set_block target chain) (all_placed_same body (OpenCapture ∷ os) (behind 1 h))
+    placed_same (auto_escape e body) os h = ap (auto_escape e) (all_placed_same body (OpenAutoEscape ∷ os) (behind 1 ((expr f e).past h)))
+    placed_same (filter_block chain body) os h = ap (filter_block chain) (all_placed_same body (OpenCapture ∷ os) (behind 1 h))
+    placed_same (do_call e args) os h = refl
+    placed_same break_loop os h = refl
+    placed_same continue_loop os h = refl
+
+    all_placed_same : (ss : Stmts C L) (os : List Open) (h : Here) → all_placed f os (relabel_all r ss) h ≡ all_placed f os ss h
+    all_placed_same done os h = refl
+    all_placed_same (also s rest) os h =
+        ap (λ (t : Stmt C ℕ). also t (all_placed f os (relabel_all r rest) ((stmt f os (relabel r s)).past h))) (placed_same s os h)
+        ∙ ap (λ p. also (placed f os s h) (all_placed f os (relabel_all r rest) (p.past h))) (stmt_same s os)
+        ∙ ap (λ (t : Stmts C ℕ). also (placed f os s h) t) (all_placed_same rest os ((stmt f os s).past h))
+
+  mutual
+    pub units_same : (s : Stmt C L) (os : List Open) (h : Here) → units f os (relabel r s) h ≡ units f os s h
+    units_same (template ss) os h = all_units_same ss os h
+    units_same (data_text t) os h = refl
+    units_same (output e) os h = refl
+    units_same (assignment target e) os h = refl
+    units_same (for_loop n target e only recursive body else_body) os h =
+        let start = loop_start f target e only h in
+        let b = body_start f target start in
+        let has_else = are_any else_body in
+        let end = loop_past f target body else_body start in
+        ap (λ (p : Here). and_if recursive (RecursiveLoop start.place p.place target (all_placed f [] (relabel_all r body) b) (are_any (relabel_all r else_body))) (all_units f [] (relabel_all r body) b ++ all_units f os (relabel_all r else_body) (behind 1 p))) (past_same target body else_body start)
+        ∙ ap (λ (t : Stmts C ℕ). and_if recursive (RecursiveLoop start.place end.place target t (are_any (relabel_all r else_body))) (all_units f [] (relabel_all r body) b ++ all_units f os (relabel_all r else_body) (behind 1 end))) (all_placed_same body [] b)
+        ∙ ap (λ (t : Bool). and_if recursive (RecursiveLoop start.place end.place target (all_placed f [] body b) t) (all_units f [] (relabel_all r body) b ++ all_units f os (relabel_all r else_body) (behind 1 end))) (any_same r else_body)
+        ∙ ap (λ us. and_if recursive (RecursiveLoop start.place end.place target (all_placed f [] body b) has_else) (us ++ all_units f os (relabel_all r else_body) (behind 1 end))) (all_units_same body [] b)
+        ∙ ap (λ us. and_if recursive (RecursiveLoop start.place end.place target (all_placed f [] body b) has_else) (all_units f [] body b ++ us)) (all_units_same else_body os (behind 1 end))
+    units_same (if_cond e true_body false_body) os h =
+        let first = behind 1 ((expr f e).past h) in
+        ap (λ us. us ++ all_units f os (relabel_all r false_body) (behind 1 ((stmts f os (relabel_all r true_body)).past first))) (all_units_same true_body os first)
+        ∙ ap (λ p. all_units f os true_body first ++ all_units f os (relabel_all r false_body) (behind 1 (p.past first))) (stmts_same true_body os)
+        ∙ ap (λ us. all_units f os true_body first ++ us) (all_units_same false_body os (behind 1 ((stmts f os true_body).past first)))
+    units_same (with_block ts body) os h = all_units_same body (OpenScope ∷ os) ((assignments f ts).past (behind 1 h))
+    units_same (set_block target chain body) os h = all_units_same body (OpenCapture ∷ os) (behind 1 h)
+    units_same (auto_escape e body) os h = all_units_same body (OpenAutoEscape ∷ os) (behind 1 ((expr f e).past h))
+    units_same (filter_block chain body) os h = all_units_same body (OpenCapture ∷ os) (behind 1 h)
+    units_same (do_call e args) os h = refl
+    units_same break_loop os h = refl
+    units_same continue_loop os h = refl
+
+    all_units_same : (ss : Stmts C L) (os : List Open) (h : Here) → all_units f os (relabel_all r ss) h ≡ all_units f os ss h
+    all_units_same done os h = refl
+    all_units_same (also s rest) os h =
+        ap (λ us. us ++ all_units f os (relabel_all r rest) ((stmt f os (relabel r s)).past h)) (units_same s os h)
+        ∙ ap (λ p. units f os s h ++ all_units f os (relabel_all r rest) (p.past h)) (stmt_same s os)
+        ∙ ap (λ us. units f os s h ++ us) (all_units_same rest os ((stmt f os s).past h))

@@ -1,0 +1,110 @@
+-- The code of each recursive loop within a tree, entered by itself, does what the loop means.
+use Rattle.std.proofs.Common.{ℕ, ◌+◌, ◌≤◌, List, [], ◌∷◌, ◌++◌, length, arith}
+use Rattle.std.specs.Prelude.{Bool, true, false, not, if◌then◌else◌}
+use Rattle.minijinja_value.specs.Values.{Functions}
+use Rattle.minijinja_meaning.specs.Laws.{Laws}
+use Rattle.minijinja_tree.specs.Tree.{Expr, Stmt, template, data_text, output, assignment, for_loop, if_cond, with_block, set_block, auto_escape, filter_block, do_call, break_loop, continue_loop, Stmts, done, also, are_any}
+use Rattle.minijinja_tree.specs.WellFormed.{IsTarget, IsInner, AreInner, IsWellFormed}
+use Rattle.minijinja_meaning.specs.Events.{PushWith, PushAutoEscape}
+use Rattle.minijinja_meaning.specs.Meaning.{looped, stmts as stmts_meaning}
+use Rattle.minijinja_meaning.specs.Code.{Instr, Do}
+use Rattle.minijinja_meaning.specs.Pieces.{Here, behind, Exits, outside, Open, OpenScope, OpenAutoEscape, OpenCapture, one, ◌▸◌}
+use Rattle.minijinja_meaning.specs.Layout.{expr, assignments, passing, looping, if_true, either, stmt, stmts}
+use Rattle.minijinja_meaning.specs.Correct.{fresh}
+use Rattle.minijinja_meaning.specs.Places.{loop_start, body_start, loop_past, all_placed}
+use Rattle.minijinja_meaning.specs.Units.{InnerUnit, RecursiveLoop, and_if, units, all_units, DoesUnit, EachDoes}
+use Rattle.minijinja_meaning.proofs.Roots.{at_root}
+use Rattle.minijinja_meaning.proofs.Runs.{Stands, front, back, first, rest}
+use Rattle.minijinja_meaning.proofs.Lengths.{grows, one_exact, then_exact, expr_exact, assignments_exact, passing_exact, looping_exact, popping_exact, stmt_exact, stmts_exact}
+use Rattle.minijinja_meaning.proofs.Turns.{within}
+use Rattle.minijinja_meaning.proofs.Loops.{looping_gives, body_stands}
+use Rattle.minijinja_meaning.proofs.Settling.{up_to, does_by}
+use Rattle.minijinja_meaning.proofs.StatementSimulation.{stmts_end}
+use Rattle.minijinja_meaning.proofs.Balance.{balanced_from, looped_keeps, stmts_keep}
+
+module _ {C F : Type 0} (f : Functions C F) (laws : Laws f) (code : List (Instr C)) where
+  -- what stands in the code ends within it
+  stands_within : (p : ℕ) (i : Instr C) (is : List (Instr C)) → Stands code p (i ∷ is) → p + length (i ∷ is) ≤ length code
+  stands_within p i [] h = omega (arith, within code p i (first code h))
+  stands_within p i (j ∷ is) h = omega (arith, stands_within (p + 1) j is (rest code h))
+
+  each_append : (us vs : List (InnerUnit C)) → EachDoes f code us → EachDoes f code vs → EachDoes f code (us ++ vs)
+  each_append [] vs a b = b
+  each_append (u ∷ us) vs a b = (a.0, each_append us vs a.1 b)
+
+  -- a recursive loop, entered at its start
+  loop_does : {L : Type 0} (e : Expr C) (body : Stmts C L) (has_else : Bool) (h : Here) → IsTarget e → AreInner true body → Stands code h.place ((looping f e true has_else (stmts f [] body)).code h) → DoesUnit f code (RecursiveLoop h.place ((looping f e true has_else (stmts f [] body)).past h).place e (all_placed f [] body (body_start f e h)) has_else)
+  loop_does e body has_else h is inner stand v below ls answers few =
+      let p = looping f e true has_else (stmts f [] body) in
+      let b = body_start f e h in
+      let x : Exits = record { break_to = ((stmts f [] body).past b).place + 1; continue_to = h.place + 1 } in
+      let end = (p.past h).place in
+      let m = stmts_meaning f (all_placed f [] body b) in
+      let exact = looping_exact f e true has_else (stmts_exact f body []) in
+      let inside : end ≤ length code = omega (arith, stands_within h.place _ _ stand, exact.ends h) in
+      let most = grows (popping_exact {C = C} has_else) (behind 1 ((stmts f [] body).past b)) in
+      does_by f code h.place end (v ∷ []) below (λ came. if has_else then f.of_bool (not came) ∷ [] else []) ls answers (looped f h.place e true m v) inside
+      (balanced_from (looped f h.place e true m v) answers (looped_keeps ℕ f h.place e true (stmts_keep ℕ f (all_placed f [] body b)) v))
+      (looping_gives f laws code (up_to end) e true has_else (stmts f [] body) m v below h ls (fresh answers) is (stmts_exact f body []) few (omega arith) stand
+      (λ w few' there. stmts_end f laws code (up_to end) body (record { in_loop = true; exits = x; opened = []; below = below; loops = true ∷ ls }) b w inner few' (omega arith) there))
+
+  -- that unit, and others
+  own_does : {L : Type 0} (recursive : Bool) (e : Expr C) (body : Stmts C L) (has_else : Bool) (h : Here) (us : List (InnerUnit C)) → IsTarget e → AreInner true body → Stands code h.place ((looping f e recursive has_else (stmts f [] body)).code h) → EachDoes f code us → EachDoes f code (and_if recursive (RecursiveLoop h.place ((looping f e false has_else (stmts f [] body)).past h).place e (all_placed f [] body (body_start f e h)) has_else) us)
+  own_does true e body has_else h us is inner stand others = (loop_does e body has_else h is inner stand, others)
+  own_does false e body has_else h us is inner stand others = others
+
+  sides_do : {L : Type 0} (true_body false_body : Stmts C L) (os : List Open) (x : Exits) (h : Here) → Stands code h.place ((either (are_any false_body) (stmts f os true_body) (stmts f os false_body)).code x h) → (Stands code (behind 1 h).place ((stmts f os true_body).code x (behind 1 h)) → EachDoes f code (all_units f os true_body (behind 1 h))) → (let other = behind 1 ((stmts f os true_body).past (behind 1 h)) in Stands code other.place ((stmts f os false_body).code x other) → EachDoes f code (all_units f os false_body other)) → EachDoes f code (all_units f os true_body (behind 1 h) ++ all_units f os false_body (behind 1 ((stmts f os true_body).past (behind 1 h))))
+  sides_do true_body done os x h stand true_ones false_ones = each_append (all_units f os true_body (behind 1 h)) [] (true_ones (rest code stand)) tt
+  sides_do true_body (also s others) os x h stand true_ones false_ones =
+      let inner = rest code stand in
+      each_append (all_units f os true_body (behind 1 h)) _ (true_ones (front code _ _ inner)) (false_ones (rest code (back code ((stmts f os true_body).code x (behind 1 h)) _ ((stmts_exact f true_body os).ends x (behind 1 h)) inner)))
+
+  else_does : {L : Type 0} (else_body : Stmts C L) (os : List Open) (x : Exits) (h : Here) → Stands code h.place ((if_true (are_any else_body) (stmts f os else_body)).code x h) → (Stands code (behind 1 h).place ((stmts f os else_body).code x (behind 1 h)) → EachDoes f code (all_units f os else_body (behind 1 h))) → EachDoes f code (all_units f os else_body (behind 1 h))
+  else_does done os x h stand k = tt
+  else_does (also s others) os x h stand k = k (rest code stand)
+
+  mutual
+    units_do : {L : Type 0} (s : Stmt C L) (l : Bool) (os : List Open) (x : Exits) (h : Here) → IsInner l s → Stands code h.place ((stmt f os s).code x h) → EachDoes f code (units f os s h)
+    units_do (template ss) l os x h is stand = absurd is
+    units_do (data_text t) l os x h is stand = tt
+    units_do (output e) l os x h is stand = tt
+    units_do (assignment e v) l os x h is stand = tt
+    units_do (for_loop n e v only recursive body else_body) l os x h is stand =
+        let has_else = are_any else_body in
+        let start = loop_start f e v only h in
+        let b = body_start f e start in
+        let end = loop_past f e body else_body start in
+        let own_exits : Exits = record { break_to = ((stmts f [] body).past b).place + 1; continue_to = start.place + 1 } in
+        let exact = passing_exact f e only (expr_exact f v) in
+        let both = then_exact exact (looping_exact f e recursive has_else (stmts_exact f body [])) in
+        let looping_code = back code ((passing f e only (expr f v)).code h) _ (exact.ends h) (front code _ _ stand) in
+        let else_code = back code ((passing f e only (expr f v) ▸ looping f e recursive has_else (stmts f [] body)).code h) _ (both.ends h) stand in
+        own_does recursive e body has_else start (all_units f [] body b ++ all_units f os else_body (behind 1 end)) is.0 is.3 looping_code
+        (each_append (all_units f [] body b) _ (all_units_do body true [] own_exits b is.3 (body_stands f laws code (up_to 0) e recursive has_else (stmts f [] body) start looping_code))
+        (else_does else_body os x end else_code (all_units_do else_body l os x (behind 1 end) is.4)))
+    units_do (if_cond e true_body false_body) l os x h is stand =
+        let start = (expr f e).past h in
+        sides_do true_body false_body os x start (back code ((expr f e).code h) _ ((expr_exact f e).ends h) stand)
+        (all_units_do true_body l os x (behind 1 start) is.1)
+        (all_units_do false_body l os x (behind 1 ((stmts f os true_body).past (behind 1 start))) is.2)
+    units_do (with_block ts body) l os x h is stand =
+        all_units_do body l (OpenScope ∷ os) x ((assignments f ts).past (behind 1 h)) is.1
+        (front code _ _ (back code ((one (Do PushWith [] 0) ▸ assignments f ts).code h) _ ((then_exact (one_exact (Do PushWith [] 0)) (assignments_exact f ts)).ends h) stand))
+    units_do (set_block e chain body) l os x h is stand = all_units_do body l (OpenCapture ∷ os) x (behind 1 h) is.2 (front code _ _ (rest code stand))
+    units_do (auto_escape e body) l os x h is stand =
+        all_units_do body l (OpenAutoEscape ∷ os) x (behind 1 ((expr f e).past h)) is.1
+        (front code _ _ (back code ((expr f e ▸ one (Do PushAutoEscape [] 1)).code h) _ ((then_exact (expr_exact f e) (one_exact (Do PushAutoEscape [] 1))).ends h) stand))
+    units_do (filter_block chain body) l os x h is stand = all_units_do body l (OpenCapture ∷ os) x (behind 1 h) is.1 (front code _ _ (rest code stand))
+    units_do (do_call e args) l os x h is stand = tt
+    units_do break_loop l os x h is stand = tt
+    units_do continue_loop l os x h is stand = tt
+
+    all_units_do : {L : Type 0} (ss : Stmts C L) (l : Bool) (os : List Open) (x : Exits) (h : Here) → AreInner l ss → Stands code h.place ((stmts f os ss).code x h) → EachDoes f code (all_units f os ss h)
+    all_units_do done l os x h is stand = tt
+    all_units_do (also s others) l os x h is stand =
+        each_append (units f os s h) _ (units_do s l os x h is.0 (front code _ _ stand))
+        (all_units_do others l os x ((stmt f os s).past h) is.1 (back code ((stmt f os s).code x h) _ ((stmt_exact f s os).ends x h) stand))
+
+  -- the units of a well-formed tree by itself
+  pub root_units_do : {L : Type 0} (s : Stmt C L) → IsWellFormed s → (h : Here) → Stands code h.place ((stmt f [] s).code outside h) → EachDoes f code (units f [] s h)
+  root_units_do = at_root (λ s. (h : Here) → Stands code h.place ((stmt f [] s).code outside h) → EachDoes f code (units f [] s h)) (λ ss is h. all_units_do ss false [] outside h is) (λ s is h. units_do s false [] outside h is)

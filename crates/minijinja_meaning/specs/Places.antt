@@ -1,0 +1,49 @@
+-- The tree whose loops are named by the places where they start in its code.
+use Rattle.std.specs.Prelude.{ℕ, false, List, [], ◌∷◌}
+use Rattle.minijinja_value.specs.Values.{Functions}
+use Rattle.minijinja_tree.specs.Tree.{Expr, Optional, Stmt, template, data_text, output, assignment, for_loop, if_cond, with_block, set_block, auto_escape, filter_block, do_call, break_loop, continue_loop, Stmts, done, also, are_any}
+use Rattle.minijinja_meaning.specs.Pieces.{Here, behind, Open, OpenScope, OpenAutoEscape, OpenCapture}
+use Rattle.minijinja_meaning.specs.Layout as layout
+use Rattle.minijinja_meaning.specs.Layout.{expr, target, assignments, passing, looping}
+
+-- where a loop starts: behind what gives its items
+abbrev pub loop_start : {C F : Type 0} → Functions C F → (target iterable : Expr C) → Optional C → Here → Here
+loop_start f e v only h = (passing f e only (expr f v)).past h
+
+-- where the body of a loop that starts here begins: behind its start, the question for an item, and its target
+abbrev pub body_start : {C F : Type 0} → Functions C F → (target : Expr C) → Here → Here
+body_start f e h = (target f e).past (behind 1 (behind 1 h))
+
+-- what stands behind a loop that starts here
+abbrev pub loop_past : {C L F : Type 0} → Functions C F → (target : Expr C) → Stmts C L → Stmts C L → Here → Here
+loop_past f e body else_body h = (looping f e false (are_any else_body) (layout.stmts f [] body)).past h
+
+-- a statement of a tree, where its code stands here and this is open within its loop
+abbrev mutual
+  pub placed : {C L F : Type 0} → Functions C F → List Open → Stmt C L → Here → Stmt C ℕ
+  placed f os (template ss) h = template (all_placed f os ss h)
+  placed f os (data_text t) h = data_text t
+  placed f os (output e) h = output e
+  placed f os (assignment e v) h = assignment e v
+  placed f os (for_loop n e v only recursive body else_body) h =
+      let start = loop_start f e v only h in
+      for_loop start.place e v only recursive (all_placed f [] body (body_start f e start)) (all_placed f os else_body (behind 1 (loop_past f e body else_body start)))
+  placed f os (if_cond e true_body false_body) h =
+      let first = behind 1 ((expr f e).past h) in
+      if_cond e (all_placed f os true_body first) (all_placed f os false_body (behind 1 ((layout.stmts f os true_body).past first)))
+  placed f os (with_block ts body) h = with_block ts (all_placed f (OpenScope ∷ os) body ((assignments f ts).past (behind 1 h)))
+  placed f os (set_block e chain body) h = set_block e chain (all_placed f (OpenCapture ∷ os) body (behind 1 h))
+  placed f os (auto_escape e body) h = auto_escape e (all_placed f (OpenAutoEscape ∷ os) body (behind 1 ((expr f e).past h)))
+  placed f os (filter_block chain body) h = filter_block chain (all_placed f (OpenCapture ∷ os) body (behind 1 h))
+  placed f os (do_call e args) h = do_call e args
+  placed f os break_loop h = break_loop
+  placed f os continue_loop h = continue_loop
+
+  -- statements in order
+  pub all_placed : {C L F : Type 0} → Functions C F → List Open → Stmts C L → Here → Stmts C ℕ
+  all_placed f os done h = done
+  all_placed f os (also s rest) h = also (placed f os s h) (all_placed f os rest ((layout.stmt f os s).past h))
+
+-- the tree of a statement outside of all loops
+abbrev pub placed_stmt : {C L F : Type 0} → Functions C F → Stmt C L → Here → Stmt C ℕ
+placed_stmt f s h = placed f [] s h
