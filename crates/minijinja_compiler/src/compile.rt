@@ -36,7 +36,8 @@ pub fn compile<'s, V: TemplateValue>(
     syntax: &SyntaxConfig,
 ) -> Result<Compiled<'s, V>, Error<'s>>
     // The code is that of the one tree of the text, and does what the tree means.
-    ensures compiled { IfOk result (IsCompiled V.functions V.contents syntax.now source.now filename.now) }
+    ensures compiled { IfOk result
+        (IsCompiled V.functions V.contents syntax.now source.now filename.now) }
 
     // A text is refused, as a syntax error or for a bad escape, exactly where the grammar derives no tree of it.
     ensures refused { IfErr result (IsNoTemplate V.functions syntax.now source.now) }
@@ -54,7 +55,8 @@ pub fn compile<'s, V: TemplateValue>(
     // A source is too long exactly from 2^32 bytes on, and code only where the tree's has 2^32 instructions or more.
     ensures too_long { 2 ^ 32 ≤ length source.now → IsErrAnd result IsTooLong }
     ensures too_long_only { IfErr result (λ e. IsTooLong e → 2 ^ 32 ≤ length source.now) }
-    ensures too_many_only { IfErr result (λ e. IsTooMany e → HasTooLongCode V.functions syntax.now source.now) }
+    ensures too_many_only { IfErr result
+        (λ e. IsTooMany e → HasTooLongCode V.functions syntax.now source.now) }
     ensures causes { IfErr result IsCause }
 {
     let template = parse(alloc, source, filename, syntax)?;
@@ -81,7 +83,8 @@ pub fn compile_expression<'s, V: TemplateValue>(
 
     // A text is refused, as a syntax error or for a bad escape, exactly where the grammar derives no tree of it.
     ensures refused { IfErr result (IsNoExpr V.functions default_syntax source.now) }
-    ensures accepted { (t : _) → IsExprDerived V.functions default_syntax source.now t → Succeeds result }
+    ensures accepted { (t : _) → IsExprDerived V.functions default_syntax source.now t →
+        Succeeds result }
 
     // A bad escape is the one that the tokens end with.
     ensures bad_escape { IfErr result (EscapesIn (expr_place default_syntax source.now)) }
@@ -95,7 +98,8 @@ pub fn compile_expression<'s, V: TemplateValue>(
     // A source is too long exactly from 2^32 bytes on, and code only where the tree's has 2^32 instructions or more.
     ensures too_long { 2 ^ 32 ≤ length source.now → IsErrAnd result IsTooLong }
     ensures too_long_only { IfErr result (λ e. IsTooLong e → 2 ^ 32 ≤ length source.now) }
-    ensures too_many_only { IfErr result (λ e. IsTooMany e → HasTooLongExprCode V.functions source.now) }
+    ensures too_many_only { IfErr result
+        (λ e. IsTooMany e → HasTooLongExprCode V.functions source.now) }
     ensures causes { IfErr result IsCause }
 {
     let expr = parse_expr(alloc, source)?;

@@ -38,7 +38,8 @@ impl<
 > Rules<N, F> {
     /// A nested expression.
     fn nested(&self, tokens: &mut N::Input) -> Result<N::Expr, Refusal>
-        requires { Nests N.Input.place N.tree N.functions self.now.depth F.pre F.post self.now.expr }
+        requires { Nests N.Input.place N.tree N.functions self.now.depth F.pre F.post
+            self.now.expr }
         ensures { Parses N.Input.place N.tree (expr_at N.functions self.now.depth) tokens.old result
             tokens.new }
     {

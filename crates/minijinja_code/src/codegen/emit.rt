@@ -119,8 +119,10 @@ impl<'s, V: TemplateValue> Emitter<'s, V> {
 
     /// Takes back what stands from a place on, and loads a constant there.
     pub(super) fn replace(&mut self, place: usize, value: V) -> Result<(), OutOfMemory>
-        ensures { OnOk result (made_of V.contents self.new ≡ record (made_of V.contents self.old)
-            { code = take place (made_of V.contents self.old).code ++ Load (V.contents value) ∷ [] }) }
+        ensures { OnOk result (made_of V.contents self.new ≡ record (made_of V.contents self.old) {
+          code = take place (made_of V.contents self.old).code
+              ++ Load (V.contents value) ∷ [];
+        }) }
     {
         self.list.truncate(place);
         self.list.push(Instruction::LoadConst(value))?;

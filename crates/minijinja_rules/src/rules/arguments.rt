@@ -52,7 +52,8 @@ impl<
     /// The arguments in parentheses, after the opening one.
     #[tactic(auto, unfolding(minijinja_grammar::specs::Forms::reads, minijinja_grammar::specs::Grammar::args))]
     pub(crate) fn args(&self, tokens: &mut N::Input) -> Result<Vec<N::Arg>, Refusal>
-        requires { Nests N.Input.place N.tree N.functions self.now.depth F.pre F.post self.now.expr }
+        requires { Nests N.Input.place N.tree N.functions self.now.depth F.pre F.post
+            self.now.expr }
         ensures { Parses N.Input.place (λ v. map N.arg v.items) (form.args (expr_at N.functions
             self.now.depth)) tokens.old result tokens.new }
     {
@@ -64,7 +65,8 @@ impl<
     /// The arguments between the parentheses.
     #[tactic(auto, using(crate::proofs::CallArgs::arg_items_more, crate::proofs::CallArgs::arg_items_done))]
     fn arg_items(&self, tokens: &mut N::Input) -> Result<Vec<N::Arg>, Refusal>
-        requires { Nests N.Input.place N.tree N.functions self.now.depth F.pre F.post self.now.expr }
+        requires { Nests N.Input.place N.tree N.functions self.now.depth F.pre F.post
+            self.now.expr }
         ensures { Parses N.Input.place (λ v. map N.arg v.items) (form.arg_items (expr_at N.functions
             self.now.depth) []) tokens.old result tokens.new }
     {
@@ -86,7 +88,8 @@ impl<
 
     /// An argument.
     fn arg(&self, tokens: &mut N::Input) -> Result<Argument<N::Name, N::Expr>, Refusal>
-        requires { Nests N.Input.place N.tree N.functions self.now.depth F.pre F.post self.now.expr }
+        requires { Nests N.Input.place N.tree N.functions self.now.depth F.pre F.post
+            self.now.expr }
         ensures { Parses N.Input.place (argument_of N.text N.tree) (form.arg (expr_at N.functions
             self.now.depth)) tokens.old result tokens.new }
     {
@@ -106,7 +109,8 @@ impl<
         tokens: &mut N::Input,
         expr: N::Expr,
     ) -> Result<Argument<N::Name, N::Expr>, Refusal>
-        requires { Nests N.Input.place N.tree N.functions self.now.depth F.pre F.post self.now.expr }
+        requires { Nests N.Input.place N.tree N.functions self.now.depth F.pre F.post
+            self.now.expr }
         ensures { Parses N.Input.place (argument_of N.text N.tree) (form.rest_of_arg (expr_at
             N.functions self.now.depth) (N.tree expr)) tokens.old result tokens.new }
     {
@@ -122,7 +126,8 @@ impl<
     /// The arguments of a filter, if there are any.
     #[tactic(auto, using(crate::proofs::Following::maybe_args_is))]
     pub(crate) fn maybe_args(&self, tokens: &mut N::Input) -> Result<Vec<N::Arg>, Refusal>
-        requires { Nests N.Input.place N.tree N.functions self.now.depth F.pre F.post self.now.expr }
+        requires { Nests N.Input.place N.tree N.functions self.now.depth F.pre F.post
+            self.now.expr }
         ensures { Parses N.Input.place (λ v. map N.arg v.items) (form.maybe_args (expr_at
             N.functions self.now.depth)) tokens.old result tokens.new }
     {

@@ -83,7 +83,8 @@ impl<
     /// An expression, with its ifs: an else part takes all ifs that follow it.
     #[tactic(auto, using(crate::proofs::Ifs::cond_is))]
     fn cond(&self, tokens: &mut N::Input) -> Result<N::Expr, Refusal>
-        requires { Nests N.Input.place N.tree N.functions self.now.depth F.pre F.post self.now.expr }
+        requires { Nests N.Input.place N.tree N.functions self.now.depth F.pre F.post
+            self.now.expr }
         ensures { Parses N.Input.place N.tree (form.cond (or_level N.functions (expr_at N.functions
             self.now.depth) (primary_at N.functions self.now.depth))) tokens.old result tokens.new }
     {
@@ -97,7 +98,8 @@ impl<
 
     /// The ifs after an expression.
     fn ifs(&self, tokens: &mut N::Input, from: Span, expr: N::Expr) -> Result<N::Expr, Refusal>
-        requires { Nests N.Input.place N.tree N.functions self.now.depth F.pre F.post self.now.expr }
+        requires { Nests N.Input.place N.tree N.functions self.now.depth F.pre F.post
+            self.now.expr }
         ensures { Reads N.tree (ifs_at (or_level N.functions
             (expr_at N.functions self.now.depth) (primary_at N.functions self.now.depth))
             from (N.tree expr) (N.Input.place tokens.old)) result (N.Input.place tokens.new) }

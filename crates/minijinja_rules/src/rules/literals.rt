@@ -24,7 +24,8 @@ impl<
     /// A primary: a variable, a constant, a literal or what stands in brackets, braces or parentheses.
     #[tactic(auto, using(crate::proofs::Primaries::primary_is, crate::proofs::Primaries::too_deep))]
     pub(crate) fn primary(&self, tokens: &mut N::Input) -> Result<N::Expr, Refusal>
-        requires { Nests N.Input.place N.tree N.functions self.now.depth F.pre F.post self.now.expr }
+        requires { Nests N.Input.place N.tree N.functions self.now.depth F.pre F.post
+            self.now.expr }
         ensures { Parses N.Input.place N.tree (primary_at N.functions self.now.depth) tokens.old
             result tokens.new }
     {
@@ -48,10 +49,10 @@ impl<
         token: <N::Input as Tokens>::Token,
         from: Span,
     ) -> Result<N::Expr, Refusal>
-        requires { Nests N.Input.place N.tree N.functions self.now.depth F.pre F.post self.now.expr }
-        ensures { Reads N.tree
-            (begun_at N.functions self.now.depth (N.Input.tok token, from) (N.Input.place tokens.old)) result
-            (N.Input.place tokens.new) }
+        requires { Nests N.Input.place N.tree N.functions self.now.depth F.pre F.post
+            self.now.expr }
+        ensures { Reads N.tree (begun_at N.functions self.now.depth (N.Input.tok token, from)
+            (N.Input.place tokens.old)) result (N.Input.place tokens.new) }
     {
         if <N::Input as Tokens>::is(&token, Mark::ParenOpen) {
             return self.group(tokens, from);
@@ -68,7 +69,8 @@ impl<
     /// What stands in parentheses, after the opening one.
     #[tactic(auto, using(crate::proofs::Following::group_is))]
     fn group(&self, tokens: &mut N::Input, from: Span) -> Result<N::Expr, Refusal>
-        requires { Nests N.Input.place N.tree N.functions self.now.depth F.pre F.post self.now.expr }
+        requires { Nests N.Input.place N.tree N.functions self.now.depth F.pre F.post
+            self.now.expr }
         ensures { Parses N.Input.place N.tree (form.group (expr_at N.functions self.now.depth) from)
             tokens.old result tokens.new }
     {
@@ -88,7 +90,8 @@ impl<
         from: Span,
         expr: N::Expr,
     ) -> Result<N::Expr, Refusal>
-        requires { Nests N.Input.place N.tree N.functions self.now.depth F.pre F.post self.now.expr }
+        requires { Nests N.Input.place N.tree N.functions self.now.depth F.pre F.post
+            self.now.expr }
         ensures { Parses N.Input.place N.tree (form.rest_of_group (expr_at N.functions
             self.now.depth) from (N.tree expr)) tokens.old result tokens.new }
     {
@@ -106,7 +109,8 @@ impl<
     /// A list, after its bracket.
     #[tactic(auto, using(crate::proofs::Following::in_brackets_is))]
     fn list(&self, tokens: &mut N::Input, from: Span) -> Result<N::Expr, Refusal>
-        requires { Nests N.Input.place N.tree N.functions self.now.depth F.pre F.post self.now.expr }
+        requires { Nests N.Input.place N.tree N.functions self.now.depth F.pre F.post
+            self.now.expr }
         ensures { Parses N.Input.place N.tree (form.in_brackets (expr_at N.functions self.now.depth)
             from) tokens.old result tokens.new }
     {
@@ -118,7 +122,8 @@ impl<
     /// Expressions between commas, after those so far.
     #[tactic(auto, using(crate::proofs::Steps::exprs_more, crate::proofs::Steps::exprs_done, minijinja_stream::proofs::Turned::read_no_longer, minijinja_stream::proofs::Turned::eaten_shorter))]
     fn exprs(&self, tokens: &mut N::Input, items: Vec<N::Expr>) -> Result<Vec<N::Expr>, Refusal>
-        requires { Nests N.Input.place N.tree N.functions self.now.depth F.pre F.post self.now.expr }
+        requires { Nests N.Input.place N.tree N.functions self.now.depth F.pre F.post
+            self.now.expr }
         ensures { Parses N.Input.place (λ v. map N.tree v.items) (form.exprs (expr_at N.functions
             self.now.depth) (map N.tree items.items)) tokens.old result tokens.new }
     {
@@ -135,7 +140,8 @@ impl<
     /// A map, after its brace.
     #[tactic(auto, using(crate::proofs::Following::in_braces_is))]
     fn map(&self, tokens: &mut N::Input, from: Span) -> Result<N::Expr, Refusal>
-        requires { Nests N.Input.place N.tree N.functions self.now.depth F.pre F.post self.now.expr }
+        requires { Nests N.Input.place N.tree N.functions self.now.depth F.pre F.post
+            self.now.expr }
         ensures { Parses N.Input.place N.tree (form.in_braces (expr_at N.functions self.now.depth)
             from) tokens.old result tokens.new }
     {
@@ -147,7 +153,8 @@ impl<
     /// The keys of a map and its values.
     #[tactic(auto, using(crate::proofs::Entries::entries_more, crate::proofs::Entries::entries_done))]
     fn entries(&self, tokens: &mut N::Input) -> Result<(Vec<N::Expr>, Vec<N::Expr>), Refusal>
-        requires { Nests N.Input.place N.tree N.functions self.now.depth F.pre F.post self.now.expr }
+        requires { Nests N.Input.place N.tree N.functions self.now.depth F.pre F.post
+            self.now.expr }
         ensures { Parses N.Input.place (λ kvs. (map N.tree kvs.0.items, map N.tree kvs.1.items))
             (form.entries (expr_at N.functions self.now.depth) ([], [])) tokens.old result
             tokens.new }

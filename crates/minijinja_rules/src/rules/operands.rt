@@ -25,7 +25,8 @@ impl<
     #[tactic(auto, using(crate::proofs::Postfixes::operand_is))]
     #[inline(always)]
     pub(crate) fn operand(&self, tokens: &mut N::Input) -> Result<N::Expr, Refusal>
-        requires { Nests N.Input.place N.tree N.functions self.now.depth F.pre F.post self.now.expr }
+        requires { Nests N.Input.place N.tree N.functions self.now.depth F.pre F.post
+            self.now.expr }
         ensures { Parses N.Input.place N.tree (form.operand N.functions (expr_at N.functions
             self.now.depth) (primary_at N.functions self.now.depth)) tokens.old result tokens.new }
     {
@@ -38,7 +39,8 @@ impl<
     /// As [`Rules::operand`], where a `-` comes.
     #[tactic(auto, using(crate::proofs::Postfixes::minuses_are, crate::proofs::Postfixes::minuses_more, crate::proofs::Postfixes::minuses_done))]
     fn negated(&self, tokens: &mut N::Input) -> Result<N::Expr, Refusal>
-        requires { Nests N.Input.place N.tree N.functions self.now.depth F.pre F.post self.now.expr }
+        requires { Nests N.Input.place N.tree N.functions self.now.depth F.pre F.post
+            self.now.expr }
         ensures { Parses N.Input.place N.tree (form.operand N.functions (expr_at N.functions
             self.now.depth) (primary_at N.functions self.now.depth)) tokens.old result tokens.new }
     {
@@ -54,7 +56,8 @@ impl<
     /// A primary and what follows it.
     #[tactic(auto, using(crate::proofs::Postfixes::postfixed_is, crate::proofs::Postfixes::postfixed_more, crate::proofs::Postfixes::postfixed_done, crate::proofs::Postfixes::taken_shorter))]
     fn postfixed(&self, tokens: &mut N::Input) -> Result<N::Expr, Refusal>
-        requires { Nests N.Input.place N.tree N.functions self.now.depth F.pre F.post self.now.expr }
+        requires { Nests N.Input.place N.tree N.functions self.now.depth F.pre F.post
+            self.now.expr }
         ensures { Parses N.Input.place N.tree (form.postfixed N.functions (expr_at N.functions
             self.now.depth) (primary_at N.functions self.now.depth)) tokens.old result tokens.new }
     {
@@ -77,7 +80,8 @@ impl<
         from: Span,
         token: &<N::Input as Tokens>::Token,
     ) -> Result<N::Expr, Refusal>
-        requires { Nests N.Input.place N.tree N.functions self.now.depth F.pre F.post self.now.expr }
+        requires { Nests N.Input.place N.tree N.functions self.now.depth F.pre F.post
+            self.now.expr }
         ensures { Parses N.Input.place N.tree (form.postfix (expr_at N.functions self.now.depth)
             N.functions (N.tree expr) from (N.Input.tok token.now)) tokens.old result tokens.new }
     {
@@ -99,7 +103,8 @@ impl<
         expr: N::Expr,
         from: Span,
     ) -> Result<N::Expr, Refusal>
-        requires { Nests N.Input.place N.tree N.functions self.now.depth F.pre F.post self.now.expr }
+        requires { Nests N.Input.place N.tree N.functions self.now.depth F.pre F.post
+            self.now.expr }
         ensures { Parses N.Input.place N.tree (form.subscript (expr_at N.functions self.now.depth)
             (N.tree expr) from) tokens.old result tokens.new }
     {
@@ -119,7 +124,8 @@ impl<
         from: Span,
         index: N::Expr,
     ) -> Result<N::Expr, Refusal>
-        requires { Nests N.Input.place N.tree N.functions self.now.depth F.pre F.post self.now.expr }
+        requires { Nests N.Input.place N.tree N.functions self.now.depth F.pre F.post
+            self.now.expr }
         ensures { Parses N.Input.place N.tree (form.rest_of_subscript (expr_at N.functions
             self.now.depth) (N.tree expr) from (N.tree index)) tokens.old result tokens.new }
     {
@@ -139,7 +145,8 @@ impl<
         from: Span,
         start: Option<N::Expr>,
     ) -> Result<N::Expr, Refusal>
-        requires { Nests N.Input.place N.tree N.functions self.now.depth F.pre F.post self.now.expr }
+        requires { Nests N.Input.place N.tree N.functions self.now.depth F.pre F.post
+            self.now.expr }
         ensures { Parses N.Input.place N.tree (form.range (expr_at N.functions self.now.depth)
             (N.tree expr) from (option_map N.tree start)) tokens.old result tokens.new }
     {
@@ -152,7 +159,8 @@ impl<
     /// The step of a slice, if there is one.
     #[tactic(auto, using(crate::proofs::Following::step_is))]
     fn step(&self, tokens: &mut N::Input) -> Result<Option<N::Expr>, Refusal>
-        requires { Nests N.Input.place N.tree N.functions self.now.depth F.pre F.post self.now.expr }
+        requires { Nests N.Input.place N.tree N.functions self.now.depth F.pre F.post
+            self.now.expr }
         ensures { Parses N.Input.place (option_map N.tree) (form.step (expr_at N.functions
             self.now.depth)) tokens.old result tokens.new }
     {
@@ -165,7 +173,8 @@ impl<
     /// An expression, if one begins.
     #[tactic(auto, unfolding(minijinja_grammar::specs::Forms::reads))]
     fn maybe_expr(&self, tokens: &mut N::Input) -> Result<Option<N::Expr>, Refusal>
-        requires { Nests N.Input.place N.tree N.functions self.now.depth F.pre F.post self.now.expr }
+        requires { Nests N.Input.place N.tree N.functions self.now.depth F.pre F.post
+            self.now.expr }
         ensures { Parses N.Input.place (option_map N.tree) (form.maybe_expr (expr_at N.functions
             self.now.depth)) tokens.old result tokens.new }
     {

@@ -21,7 +21,8 @@ impl<
     /// An operand, and the filters and tests after it.
     #[tactic(auto, using(crate::proofs::Postfixes::unary_is, crate::proofs::Postfixes::unary_more, crate::proofs::Postfixes::unary_done, crate::proofs::Postfixes::taken_shorter))]
     pub(crate) fn unary(&self, tokens: &mut N::Input) -> Result<N::Expr, Refusal>
-        requires { Nests N.Input.place N.tree N.functions self.now.depth F.pre F.post self.now.expr }
+        requires { Nests N.Input.place N.tree N.functions self.now.depth F.pre F.post
+            self.now.expr }
         ensures { Parses N.Input.place N.tree (form.unary_level N.functions (expr_at N.functions
             self.now.depth) (primary_at N.functions self.now.depth)) tokens.old result tokens.new }
     {
@@ -40,7 +41,8 @@ impl<
         expr: N::Expr,
         token: &<N::Input as Tokens>::Token,
     ) -> Result<N::Expr, Refusal>
-        requires { Nests N.Input.place N.tree N.functions self.now.depth F.pre F.post self.now.expr }
+        requires { Nests N.Input.place N.tree N.functions self.now.depth F.pre F.post
+            self.now.expr }
         ensures { Parses N.Input.place N.tree (form.suffix N.functions (expr_at N.functions
             self.now.depth) (primary_at N.functions self.now.depth) (N.tree expr) (N.Input.tok
             token.now)) tokens.old result tokens.new }
@@ -53,7 +55,8 @@ impl<
 
     /// A filter, after its `|`.
     fn filter(&self, tokens: &mut N::Input, expr: N::Expr) -> Result<N::Expr, Refusal>
-        requires { Nests N.Input.place N.tree N.functions self.now.depth F.pre F.post self.now.expr }
+        requires { Nests N.Input.place N.tree N.functions self.now.depth F.pre F.post
+            self.now.expr }
         ensures { Parses N.Input.place N.tree (form.filtered N.functions (expr_at N.functions
             self.now.depth) (primary_at N.functions self.now.depth) (N.tree expr)) tokens.old result
             tokens.new }
@@ -67,7 +70,8 @@ impl<
     /// A test, after the word `is`.
     #[tactic(auto, using(crate::proofs::Following::any_test_is))]
     fn any_test(&self, tokens: &mut N::Input, expr: N::Expr) -> Result<N::Expr, Refusal>
-        requires { Nests N.Input.place N.tree N.functions self.now.depth F.pre F.post self.now.expr }
+        requires { Nests N.Input.place N.tree N.functions self.now.depth F.pre F.post
+            self.now.expr }
         ensures { Parses N.Input.place N.tree (form.any_test N.functions (expr_at N.functions
             self.now.depth) (primary_at N.functions self.now.depth) (N.tree expr)) tokens.old result
             tokens.new }
@@ -82,7 +86,8 @@ impl<
 
     /// The name of a test and its arguments.
     fn named_test(&self, tokens: &mut N::Input, expr: N::Expr) -> Result<N::Expr, Refusal>
-        requires { Nests N.Input.place N.tree N.functions self.now.depth F.pre F.post self.now.expr }
+        requires { Nests N.Input.place N.tree N.functions self.now.depth F.pre F.post
+            self.now.expr }
         ensures { Parses N.Input.place N.tree (form.named_test N.functions (expr_at N.functions
             self.now.depth) (primary_at N.functions self.now.depth) (N.tree expr)) tokens.old result
             tokens.new }
@@ -96,7 +101,8 @@ impl<
     /// The arguments of a test: in parentheses, or one without them.
     #[tactic(auto, using(crate::proofs::Following::test_args_is))]
     fn test_args(&self, tokens: &mut N::Input) -> Result<Vec<N::Arg>, Refusal>
-        requires { Nests N.Input.place N.tree N.functions self.now.depth F.pre F.post self.now.expr }
+        requires { Nests N.Input.place N.tree N.functions self.now.depth F.pre F.post
+            self.now.expr }
         ensures { Parses N.Input.place (λ v. map N.arg v.items) (form.test_args N.functions (expr_at
             N.functions self.now.depth) (primary_at N.functions self.now.depth)) tokens.old result
             tokens.new }
