@@ -7,5 +7,7 @@ pub mod Staying
 pub mod Climbing
 pub mod Sound
 pub mod Standing
+pub mod Targets
+pub mod Statements
 pub mod Templates
 pub mod Trees

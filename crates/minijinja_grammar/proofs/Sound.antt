@@ -22,7 +22,7 @@ use Rattle.minijinja_grammar.specs.private.Ensured.{Holds, Kept, Ensured}
 use Rattle.minijinja_grammar.specs.private.Sound.{IsSound, IsSoundIfAny, AreSound, AreComparedSound, AreArgsSound}
 use Rattle.minijinja_grammar.proofs.Ensured.{weaker}
 
-both : {X Y : Type 0} → X → Y → Holds (X × Y)
+pub both : {X Y : Type 0} → X → Y → Holds (X × Y)
 both x y = record { it = (x, y) }
 
 pair : {X Y : Type 1} → X → Y → X × Y
@@ -44,7 +44,7 @@ module _ (T : SpannedTok → Type 0) (S : Span → Type 0) (spans : (t : Spanned
   pub spanned : {A : Type 0} (from : Span) (make : Span → A) (P : A → Type 1) → S from → ((s : Span) → S s → P (make s)) → Ensured T S (g.spanned from make) P
   spanned from make P h k = λ to i. k (expanded from to) (joins from to h i)
 
-  next : (m : Tok) (P : Span → Type 1) → ((s : Span) → S s → P s) → Ensured T S (g.next m) P
+  pub next : (m : Tok) (P : Span → Type 1) → ((s : Span) → S s → P s) → Ensured T S (g.next m) P
   next m P k = λ t x i j. k x (go t (is m t.0) x (spans t i) j)
     where
       go : (t : SpannedTok) (b : Bool) (x : Span) → S t.1 → (if b then Some t.1 else None) ≡ Some x → S x
@@ -54,10 +54,10 @@ module _ (T : SpannedTok → Type 0) (S : Span → Type 0) (spans : (t : Spanned
           some_is y x e = cc
       go t false x i j = cc
 
-  behind : {A : Type 0} (m : Tok) (f h : Form A) (P : A → Type 1) → Ensured T S f P → Ensured T S h P → Ensured T S (g.behind m f h) P
+  pub behind : {A : Type 0} (m : Tok) (f h : Form A) (P : A → Type 1) → Ensured T S f P → Ensured T S h P → Ensured T S (g.behind m f h) P
   behind m f h P i j = (next m (λ s. Ensured T S f P) (λ s k. i), j)
 
-  items : {A : Type 0} (begins : Tok → Bool) (part : A → Form A) (I : A → Type 0) (P : A → Type 1) →
+  pub items : {A : Type 0} (begins : Tok → Bool) (part : A → Form A) (I : A → Type 0) (P : A → Type 1) →
       ((x : A) → I x → Ensured T S (part x) (λ y. Holds (I y))) → ((x : A) → I x → P x) → (x : A) → I x → Ensured T S (g.items begins part x) P
   items begins part I P k l x i = (
     weaker T S (part x) (λ y. Holds (I y)) _
@@ -91,21 +91,32 @@ module _ (T : SpannedTok → Type 0) (S : Span → Type 0) (spans : (t : Spanned
           same t u e = ap (λ o. elim o [ None ↦ t | Some v ↦ v ]) e
       go false k = cc
 
+  abbrev pub IsName : Text → Type 1
+  IsName x = Holds (Unit {0})
+
+  pub ident_span : (t : SpannedTok) (x : Text × Span) → T t → g.ident_and_span t ≡ Some x → S x.1
+  ident_span (ident y, s) x i e = subst S (ap (span_or s) e) (spans (ident y, s) i)
+  ident_span _ x i e = cc
+
+  pub name : Ensured T S g.name IsName
+  unfolding g.name g.name_part g.name_parts
+  name = λ t x i j. (((λ _. Unit {0}), alone tt, (λ y u h k l m. λ v z n o. alone tt), (λ y k. λ z. alone tt)), alone tt)
+
   module _ {C : Type 0} where
     -- ---- lists
 
-    all_append : (es : List (Expr C)) (e : Expr C) → AreSound T S (exprs_of es) → IsSound T S e → AreSound T S (exprs_of (es ++ e ∷ []))
+    pub all_append : (es : List (Expr C)) (e : Expr C) → AreSound T S (exprs_of es) → IsSound T S e → AreSound T S (exprs_of (es ++ e ∷ []))
     all_append [] e h k = (k, tt)
     all_append (x ∷ es) e h k = (h.0, all_append es e h.1 k)
 
-    abbrev IsOne : Expr C → Type 1
+    abbrev pub IsOne : Expr C → Type 1
     IsOne e = Holds (IsSound T S e)
 
     abbrev Are : List (Expr C) → Type 1
     Are es = Holds (AreSound T S (exprs_of es))
 
     module _ (expr : Form (Expr C)) (he : Ensured T S expr IsOne) where
-      exprs : (es : List (Expr C)) (P : List (Expr C) → Type 1) → AreSound T S (exprs_of es) → ((fs : List (Expr C)) → AreSound T S (exprs_of fs) → P fs) → Ensured T S (g.exprs expr es) P
+      pub exprs : (es : List (Expr C)) (P : List (Expr C) → Type 1) → AreSound T S (exprs_of es) → ((fs : List (Expr C)) → AreSound T S (exprs_of fs) → P fs) → Ensured T S (g.exprs expr es) P
       unfolding g.exprs g.also
       exprs es P h k = items begins_expr (g.also expr) (λ fs. AreSound T S (exprs_of fs)) P
           (λ fs i. weaker T S expr IsOne _ (λ e j. record { it = all_append fs e i j.it }) he) k es h
@@ -188,7 +199,7 @@ module _ (T : SpannedTok → Type 0) (S : Span → Type 0) (spans : (t : Spanned
 
       -- ---- arguments
 
-      abbrev IsArgSound : Arg C → Type 0
+      abbrev pub IsArgSound : Arg C → Type 0
       IsArgSound (positional e) = IsSound T S e
       IsArgSound (starred e) = IsSound T S e
       IsArgSound (keyword x e) = IsSound T S e
@@ -228,7 +239,7 @@ module _ (T : SpannedTok → Type 0) (S : Span → Type 0) (spans : (t : Spanned
       count_append (keyword y e ∷ xs) x = ap suc (count_append xs x)
       count_append (double_starred e ∷ xs) x = ap suc (count_append xs x)
 
-      abbrev AreArgs : List (Arg C) → Type 0
+      abbrev pub AreArgs : List (Arg C) → Type 0
       AreArgs xs = AreArgsSound T S (args_of xs) × (arg_count (bare_args (args_of xs)) ≤ most_arguments)
 
       also_arg : (xs : List (Arg C)) → AreArgs xs → Ensured T S (g.also_arg expr xs) (λ ys. Holds (AreArgs ys))
@@ -240,19 +251,19 @@ module _ (T : SpannedTok → Type 0) (S : Span → Type 0) (spans : (t : Spanned
           given true false x i k = alone tt
           given false c x i k = alone tt
 
-      args : Ensured T S (g.args expr) (λ xs. Holds (AreArgs xs))
+      pub args : Ensured T S (g.args expr) (λ xs. Holds (AreArgs xs))
       unfolding g.args g.arg_items
       args = items begins_arg (g.also_arg expr) AreArgs _ also_arg (λ xs h. λ t u i j. alone h) [] (tt, omega arith)
 
       -- ---- operands
 
-      chosen : {A : Type 0} (m : Tok) (f h : Form A) (P : A → Type 1) → Ensured T S f P → Ensured T S h P → Ensured T S (g.behind m f h) P
+      pub chosen : {A : Type 0} (m : Tok) (f h : Form A) (P : A → Type 1) → Ensured T S f P → Ensured T S h P → Ensured T S (g.behind m f h) P
       chosen m f h P i j = ((λ t u k l. i), j)
 
-      abbrev IsOptionSound : Option (Expr C) → Type 0
+      abbrev pub IsOptionSound : Option (Expr C) → Type 0
       IsOptionSound o = IsSoundIfAny T S (optional_of o)
 
-      maybe_expr : (P : Option (Expr C) → Type 1) → ((o : Option (Expr C)) → IsOptionSound o → P o) → Ensured T S (g.maybe_expr expr) P
+      pub maybe_expr : (P : Option (Expr C) → Type 1) → ((o : Option (Expr C)) → IsOptionSound o → P o) → Ensured T S (g.maybe_expr expr) P
       maybe_expr P k = (weaker T S expr IsOne _ (λ e h. k (Some e) h.it) he, k None tt)
 
       step : (P : Option (Expr C) → Type 1) → ((o : Option (Expr C)) → IsOptionSound o → P o) → Ensured T S (g.step expr) P
@@ -327,17 +338,6 @@ module _ (T : SpannedTok → Type 0) (S : Span → Type 0) (spans : (t : Spanned
           (λ t u i j. args),
           (weaker T S (g.operand f expr prim) IsOne _ (λ e h. alone ((h.it, tt), omega arith)) operand, alone (tt, omega arith)),
         )
-
-        abbrev IsName : Text → Type 1
-        IsName x = Holds (Unit {0})
-
-        ident_span : (t : SpannedTok) (x : Text × Span) → T t → g.ident_and_span t ≡ Some x → S x.1
-        ident_span (ident y, s) x i e = subst S (ap (span_or s) e) (spans (ident y, s) i)
-        ident_span _ x i e = cc
-
-        name : Ensured T S g.name IsName
-        unfolding g.name g.name_part g.name_parts
-        name = λ t x i j. (((λ _. Unit {0}), alone tt, (λ y u h k l m. λ v z n o. alone tt), (λ y k. λ z. alone tt)), alone tt)
 
         named_test : (e : Expr C) → IsSound T S e → Ensured T S (g.named_test f expr prim e) IsOne
         unfolding g.named_test
@@ -454,7 +454,7 @@ module _ (T : SpannedTok → Type 0) (S : Span → Type 0) (spans : (t : Spanned
     -- ---- the levels
 
     module _ {F : Type 0} (f : Functions C F) where
-      or_level : (expr prim : Form (Expr C)) → Ensured T S expr IsOne → Ensured T S prim IsOne → Ensured T S (g.or_level f expr prim) IsOne
+      pub or_level : (expr prim : Form (Expr C)) → Ensured T S expr IsOne → Ensured T S prim IsOne → Ensured T S (g.or_level f expr prim) IsOne
       or_level expr prim he hp =
           let unaries = unary_level expr he f prim hp in
           let powers = level pow_op (g.unary_level f expr prim) unaries in

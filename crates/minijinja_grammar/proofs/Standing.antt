@@ -27,11 +27,11 @@ module _ {C : Type 0} (T : SpannedTok → Type 0) (S : Span → Type 0) where
     stands (tuple es s) h = (h.0, all es h.1)
     stands (map ks vs s) h = (h.0, all ks h.1, all vs h.2)
 
-    if_any : (o : Optional C) → IsSoundIfAny T S o → StandsIfAny T S o
+    pub if_any : (o : Optional C) → IsSoundIfAny T S o → StandsIfAny T S o
     if_any absent h = tt
     if_any (present e) h = stands e h
 
-    all : (es : Exprs C) → AreSound T S es → ExprsStand T S es
+    pub all : (es : Exprs C) → AreSound T S es → ExprsStand T S es
     all no_more h = tt
     all (more e es) h = (stands e h.0, all es h.1)
 
@@ -39,7 +39,7 @@ module _ {C : Type 0} (T : SpannedTok → Type 0) (S : Span → Type 0) where
     compares compared h = tt
     compares (against o e cs) h = (stands e h.0, compares cs h.1)
 
-    all_args : (xs : Args C) → AreArgsSound T S xs → ArgsStand T S xs
+    pub all_args : (xs : Args C) → AreArgsSound T S xs → ArgsStand T S xs
     all_args no_args h = tt
     all_args (pos e xs) h = (stands e h.0, all_args xs h.1)
     all_args (pos_splat e xs) h = (stands e h.0, all_args xs h.1)
@@ -65,11 +65,11 @@ module _ {C : Type 0} (T : SpannedTok → Type 0) (S : Span → Type 0) where
     is_whole (tuple es s) h = all_whole es h.1
     is_whole (map ks vs s) h = (all_whole ks h.1, all_whole vs h.2, h.3)
 
-    whole_if_any : (o : Optional C) → IsSoundIfAny T S o → IsWholeIfAny (bare_optional o)
+    pub whole_if_any : (o : Optional C) → IsSoundIfAny T S o → IsWholeIfAny (bare_optional o)
     whole_if_any absent h = tt
     whole_if_any (present e) h = is_whole e h
 
-    all_whole : (es : Exprs C) → AreSound T S es → AreWhole (bare_exprs es)
+    pub all_whole : (es : Exprs C) → AreSound T S es → AreWhole (bare_exprs es)
     all_whole no_more h = tt
     all_whole (more e es) h = (is_whole e h.0, all_whole es h.1)
 
@@ -77,7 +77,7 @@ module _ {C : Type 0} (T : SpannedTok → Type 0) (S : Span → Type 0) where
     whole_compares compared h = tt
     whole_compares (against o e cs) h = (is_whole e h.0, whole_compares cs h.1)
 
-    whole_args : (xs : Args C) → AreArgsSound T S xs → AreArguments (bare_args xs)
+    pub whole_args : (xs : Args C) → AreArgsSound T S xs → AreArguments (bare_args xs)
     whole_args no_args h = tt
     whole_args (pos e xs) h = (is_whole e h.0, whole_args xs h.1)
     whole_args (pos_splat e xs) h = (is_whole e h.0, whole_args xs h.1)

@@ -10,8 +10,7 @@ use Rattle.minijinja_grammar.specs.Derived.{IsWholeOf, IsTemplateTree, IsExprTre
 use Rattle.minijinja_grammar.specs.private.Ensured.{Holds}
 use Rattle.minijinja_grammar.specs.private.Sound.{IsSound}
 use Rattle.minijinja_tree.specs.SpannedTrees.{Expr, Stmt, bare_expr, bare_stmt}
-use Rattle.minijinja_tree.specs.WellFormed.{IsWhole}
-use Rattle.minijinja_tree.specs.Simple.{IsSimpleTree}
+use Rattle.minijinja_tree.specs.WellFormed.{IsWellFormed, IsWhole}
 use Rattle.minijinja_grammar.specs.Standing.{Stands, StmtStands}
 use Rattle.minijinja_grammar.specs.TokenSpans.{SameStart, SameEnd, StartsAtToken, token_start, start_before, EndsAtToken, token_end, end_before, IsOfTokens}
 use Rattle.minijinja_grammar.proofs.Ensured.{All, Fine, Gives, ensured}
@@ -72,7 +71,7 @@ module _ {C F : Type 0} (f : Functions C F) (p : Place) where
   expression e h = (ensured T S (token_span p.tokens p.last) (expr_at f max_depth) _
       (expr_sound T S (token_span p.tokens p.last) (joined p.tokens p.last) f max_depth) p h.stop e fine h.derived).is.it
 
-  pub template_formed : (t : Stmt C) → IsTemplateTree f p t → IsSimpleTree (bare_stmt t)
+  pub template_formed : (t : Stmt C) → IsTemplateTree f p t → IsWellFormed (bare_stmt t)
   template_formed t h = (template t h).formed
 
   pub template_stands : (t : Stmt C) → IsTemplateTree f p t → StmtStands T S t

@@ -1,6 +1,8 @@
 pub mod Forms
 pub mod Words
 pub mod Grammar
+pub mod Targets
+pub mod Statements
 pub mod Templates
 pub mod TokenSpans
 pub mod Standing

@@ -5,7 +5,7 @@ use Rattle.minijinja_syntax.specs.Tokens.{Tok, ident, template_data}
 use Rattle.minijinja_syntax.specs.declared.tokens.Span.{Span}
 use Rattle.minijinja_tree.specs.CompareOps.{CompareOp}
 use Rattle.minijinja_syntax.specs.Streams.{SpannedTok}
-use Rattle.minijinja_tree.specs.SpannedTrees.{Expr, variable, constant, slice, unary, binary, compare, if_expr, filter, test, attribute, item, call, list, tuple, map, Optional, absent, present, Exprs, no_more, more, Comparisons, compared, against, Args, no_args, pos, pos_splat, kwarg, kwarg_splat, Stmt, template, data_text, output, assignment, Stmts, done, also}
+use Rattle.minijinja_tree.specs.SpannedTrees.{Expr, variable, constant, slice, unary, binary, compare, if_expr, filter, test, attribute, item, call, list, tuple, map, Optional, absent, present, Exprs, no_more, more, Comparisons, compared, against, Args, no_args, pos, pos_splat, kwarg, kwarg_splat, Stmt, template, data_text, output, assignment, for_loop, if_cond, with_block, set_block, auto_escape, filter_block, do_call, break_loop, continue_loop, Stmts, done, also}
 
 module _ {C : Type 0} (T : SpannedTok → Type 0) (S : Span → Type 0) where
   abbrev mutual
@@ -46,6 +46,11 @@ module _ {C : Type 0} (T : SpannedTok → Type 0) (S : Span → Type 0) where
     ArgsStand (kwarg x e xs) = Stands e × ArgsStand xs
     ArgsStand (kwarg_splat e xs) = Stands e × ArgsStand xs
 
+  -- each target and its value
+  abbrev pub BindingsStand : List (Expr C × Expr C) → Type 0
+  BindingsStand [] = Unit {0}
+  BindingsStand (b ∷ bs) = Stands b.0 × Stands b.1 × BindingsStand bs
+
   abbrev mutual
     -- the span of data is that of its token
     pub StmtStands : Stmt C → Type 0
@@ -53,6 +58,15 @@ module _ {C : Type 0} (T : SpannedTok → Type 0) (S : Span → Type 0) where
     StmtStands (data_text t s) = T (template_data t, s)
     StmtStands (output e s) = S s × Stands e
     StmtStands (assignment t e s) = S s × Stands t × Stands e
+    StmtStands (for_loop t e only again ss other s) = S s × Stands t × Stands e × StandsIfAny only × StmtsStand ss × StmtsStand other
+    StmtStands (if_cond e ss other s) = S s × Stands e × StmtsStand ss × StmtsStand other
+    StmtStands (with_block bs ss s) = S s × BindingsStand bs × StmtsStand ss
+    StmtStands (set_block t e ss s) = S s × Stands t × StandsIfAny e × StmtsStand ss
+    StmtStands (auto_escape e ss s) = S s × Stands e × StmtsStand ss
+    StmtStands (filter_block e ss s) = S s × Stands e × StmtsStand ss
+    StmtStands (do_call e args from s) = S s × S from × Stands e × ArgsStand args
+    StmtStands (break_loop s) = S s
+    StmtStands (continue_loop s) = S s
 
     pub StmtsStand : Stmts C → Type 0
     StmtsStand done = Unit {0}

@@ -92,8 +92,49 @@ in_word = ident (codes "in")
 abbrev pub is_word : Tok
 is_word = ident (codes "is")
 
-abbrev pub set_word : Tok
-set_word = ident (codes "set")
+abbrev pub recursive_word : Tok
+recursive_word = ident (codes "recursive")
+
+-- the words that end a body
+
+abbrev pub elif_word : Tok
+elif_word = ident (codes "elif")
+
+abbrev pub endfor_word : Tok
+endfor_word = ident (codes "endfor")
+
+abbrev pub endif_word : Tok
+endif_word = ident (codes "endif")
+
+abbrev pub endwith_word : Tok
+endwith_word = ident (codes "endwith")
+
+abbrev pub endset_word : Tok
+endset_word = ident (codes "endset")
+
+abbrev pub endautoescape_word : Tok
+endautoescape_word = ident (codes "endautoescape")
+
+abbrev pub endfilter_word : Tok
+endfilter_word = ident (codes "endfilter")
+
+-- ---- the words that begin a statement
+
+pub data Keyword : Type 0 where
+  for_keyword if_keyword with_keyword set_keyword autoescape_keyword filter_keyword do_keyword break_keyword continue_keyword : Keyword
+
+abbrev pub keyword_of : Text → Option Keyword
+keyword_of x =
+    if bytes_eq x (codes "for") then Some for_keyword
+    else if bytes_eq x (codes "if") then Some if_keyword
+    else if bytes_eq x (codes "with") then Some with_keyword
+    else if bytes_eq x (codes "set") then Some set_keyword
+    else if bytes_eq x (codes "autoescape") then Some autoescape_keyword
+    else if bytes_eq x (codes "filter") then Some filter_keyword
+    else if bytes_eq x (codes "do") then Some do_keyword
+    else if bytes_eq x (codes "break") then Some break_keyword
+    else if bytes_eq x (codes "continue") then Some continue_keyword
+    else None
 
 -- ---- what a token holds
 

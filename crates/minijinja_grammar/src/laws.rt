@@ -1,8 +1,7 @@
 //! Laws of the grammar.
 ghost use Rattle.std.specs.Prelude.{◌≡◌, Contains};
 ghost use Rattle.minijinja_tree.specs.SpannedTrees.{Expr, Stmt, bare_expr, bare_stmt};
-ghost use Rattle.minijinja_tree.specs.Simple.{IsSimpleTree};
-ghost use Rattle.minijinja_tree.specs.WellFormed.{IsWhole};
+ghost use Rattle.minijinja_tree.specs.WellFormed.{IsWellFormed, IsWhole};
 ghost use Rattle.minijinja_grammar.specs.Derived.{IsExprTree, IsTemplateTree};
 ghost use Rattle.minijinja_grammar.specs.Forms.{Place};
 ghost use Rattle.minijinja_grammar.specs.Standing.{Stands, StmtStands};
@@ -18,10 +17,10 @@ pub fn one_tree<V: TemplateValue>()
         IsExprTree V.functions p u → t ≡ u }
 {}
 
-/// A tree of tokens is well formed: a simple one, of data, outputs and assignments to names, or a whole expression.
+/// A tree of tokens is well formed.
 pub fn trees_are_well_formed<V: TemplateValue>()
     ensures template { (p : Place) (t : Stmt V.Contents) → IsTemplateTree V.functions p t →
-        IsSimpleTree (bare_stmt t) }
+        IsWellFormed (bare_stmt t) }
     ensures expression { (p : Place) (t : Expr V.Contents) → IsExprTree V.functions p t → IsWhole
         (bare_expr t) }
 {}

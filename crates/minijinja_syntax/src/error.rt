@@ -169,6 +169,10 @@ pub enum Detail<'s> {
     TooManyArguments,
     /// A plain argument stands after a keyword argument.
     PlainAfterKeyword,
+    /// The word, `break` or `continue`, stands in no loop's body.
+    OutsideLoop(&'s str),
+    /// What follows `do` is no call.
+    NotACall,
     /// Memory was refused.
     OutOfMemory,
     /// The source has 2^32 bytes or more.
@@ -199,6 +203,8 @@ impl fmt::Display for Detail<'_> {
             Detail::TooDeep => write!(f, "template exceeds maximum recursion limits"),
             Detail::TooManyArguments => write!(f, "too many arguments in function call"),
             Detail::PlainAfterKeyword => write!(f, "non-keyword arg after keyword arg"),
+            Detail::OutsideLoop(word) => write!(f, "'{word}' must be placed inside a loop"),
+            Detail::NotACall => write!(f, "expected call expression"),
             Detail::OutOfMemory => write!(f, "out of memory"),
             Detail::SourceTooLong => write!(f, "source too long"),
             Detail::TooManyInstructions => write!(f, "too many instructions"),

@@ -1,15 +1,20 @@
 -- The tree of a node without its spans is the bare tree of the node.
-use Rattle.std.proofs.Common.{◌≡◌, refl, ap, ◌∙◌}
+use Rattle.std.proofs.Common.{◌≡◌, refl, ap, ap₂, ◌∙◌}
+use Rattle.std.specs.Prelude.{List, [], ◌∷◌, Option, Some, None}
 use Rattle.minijinja_tree.specs.Nodes.{node_of}
-use Rattle.minijinja_tree.specs.Erasure.{expr_tree, optional_tree, exprs_tree, args_tree, arg_tree, compare_tree, comparisons_tree, stmt_tree, stmts_tree}
-use Rattle.minijinja_tree.specs.SpannedErasure.{expr_node, optional_node, exprs_node, args_node, arg_node, compare_node, comparisons_node, stmt_node, stmts_node}
-use Rattle.minijinja_tree.specs.SpannedTrees.{bare_expr, bare_optional, bare_exprs, bare_args, bare_comparisons, bare_stmt, bare_stmts, Args}
+use Rattle.minijinja_tree.specs.Erasure.{expr_tree, optional_tree, exprs_tree, args_tree, arg_tree, compare_tree, comparisons_tree, optional_of, args_of, assignments_of, stmt_tree, stmts_tree}
+use Rattle.minijinja_tree.specs.SpannedErasure.{expr_node, optional_node, exprs_node, args_node, arg_node, compare_node, comparisons_node, arg_view, bindings_of, stmt_node, stmts_node}
+use Rattle.minijinja_tree.specs.SpannedErasure as spanned
+use Rattle.minijinja_tree.specs.SpannedTrees.{bare_expr, bare_optional, bare_exprs, bare_args, bare_comparisons, bare_bindings, bare_stmt, bare_stmts, Args}
+use Rattle.minijinja_tree.specs.Tree as tree
 use Rattle.minijinja_syntax.specs.declared.tokens.Span.{Span}
 use Rattle.minijinja_tree.specs.declared.ast.CallArg.TheBlock as block
 use Rattle.minijinja_tree.specs.declared.ast.Expr.{Expr}
 use Rattle.minijinja_tree.specs.declared.ast.Expr.TheVariants.{Var, Const, GetAttr', Slice', UnaryOp', BinOp', Compare', IfExpr', Filter', Test', GetItem', Call', List', Tuple', Map'}
 use Rattle.minijinja_tree.specs.declared.ast.Stmt.{Stmt, Row_of-Stmt, end_of-Stmt, more_of-Stmt}
-use Rattle.minijinja_tree.specs.declared.ast.Stmt.TheVariants.{Template', EmitExpr, EmitRaw, Set}
+use Rattle.minijinja_tree.specs.declared.ast.CallArg.{CallArg}
+use Rattle.minijinja_tree.specs.declared.ast.CallArg.TheVariants.{Pos, Kwarg, PosSplat, KwargSplat}
+use Rattle.minijinja_tree.specs.declared.ast.Stmt.TheVariants.{Template', EmitExpr, EmitRaw, ForLoop', IfCond', WithBlock', Set, SetBlock', AutoEscape', FilterBlock', Continue, Break, Do}
 
 mutual
   pub expr_is : {V F C : Type 0} (c : V → C) (e : Expr V F) → bare_expr (expr_node c e) ≡ expr_tree c e
@@ -54,12 +59,36 @@ mutual
   comparisons_are c block.end_of-CompareOp = refl
   comparisons_are c (block.more_of-CompareOp op e rest) = rw (expr_is c e, comparisons_are c rest) refl
 
+any_is : {V F C : Type 0} (c : V → C) (o : Option (Expr V F)) → bare_optional (spanned.optional_of c o) ≡ optional_of c o
+any_is c None = refl
+any_is c (Some e) = rw (expr_is c e) refl
+
+args_of_are : {V F C : Type 0} (c : V → C) (xs : List (CallArg V F)) → bare_args (spanned.args_of c xs) ≡ args_of c xs
+args_of_are c [] = refl
+args_of_are c (Pos e ∷ rest) = ap₂ tree.pos (expr_is c e) (args_of_are c rest)
+args_of_are c (Kwarg x e ∷ rest) = ap₂ (tree.kwarg x.now) (expr_is c e) (args_of_are c rest)
+args_of_are c (PosSplat e ∷ rest) = ap₂ tree.pos_splat (expr_is c e) (args_of_are c rest)
+args_of_are c (KwargSplat e ∷ rest) = ap₂ tree.kwarg_splat (expr_is c e) (args_of_are c rest)
+
+bindings_are : {V F C : Type 0} (c : V → C) (bs : List (Expr V F × Expr V F)) → bare_bindings (bindings_of c bs) ≡ assignments_of c bs
+bindings_are c [] = refl
+bindings_are c (b ∷ rest) = ap₂ ◌∷◌ (ap₂ (λ t e. (t, e)) (expr_is c b.0) (expr_is c b.1)) (bindings_are c rest)
+
 mutual
   pub stmt_is : {V F C : Type 0} (c : V → C) (s : Stmt V F) → bare_stmt (stmt_node c s) ≡ stmt_tree c s
   stmt_is c (Template' p k xs s) = rw (stmts_are c xs) refl
   stmt_is c (EmitExpr s) = rw (expr_is c (node_of s).expr) refl
   stmt_is c (EmitRaw s) = refl
+  stmt_is c (ForLoop' p t e only again k xs l ys s) = rw (expr_is c t, expr_is c e, any_is c only, stmts_are c xs, stmts_are c ys) refl
+  stmt_is c (IfCond' p e k xs l ys s) = rw (expr_is c e, stmts_are c xs, stmts_are c ys) refl
+  stmt_is c (WithBlock' p bs k xs s) = rw (bindings_are c bs.items, stmts_are c xs) refl
   stmt_is c (Set s) = rw (expr_is c (node_of s).target, expr_is c (node_of s).expr) refl
+  stmt_is c (SetBlock' p t e k xs s) = rw (expr_is c t, any_is c e, stmts_are c xs) refl
+  stmt_is c (AutoEscape' p e k xs s) = rw (expr_is c e, stmts_are c xs) refl
+  stmt_is c (FilterBlock' p e k xs s) = rw (expr_is c e, stmts_are c xs) refl
+  stmt_is c (Continue s) = refl
+  stmt_is c (Break s) = refl
+  stmt_is c (Do s) = rw (expr_is c (node_of (node_of s).call).expr, args_of_are c (node_of (node_of s).call).args.items) refl
 
   stmts_are : {V F C : Type 0} {m : _} (c : V → C) (row : Row_of-Stmt V F m) → bare_stmts (stmts_node c row) ≡ stmts_tree c row
   stmts_are c end_of-Stmt = refl

@@ -54,11 +54,12 @@ next-argument c xs i x b within h k =
     ∙ split-argument c x (args_of c (drop (i + 1) xs))
     ∙ ap (λ b. b && are_arguments (args_of c (drop (i + 1) xs))) (sym k)
 
-compare-target : {V F C : Type 0} (c : V → C) (q : block.the_data-4 V F) → is_name (compare_tree c q) ≡ false
-compare-target c (block.struct-Compare e k ops) = refl
+compare-name : {V F C : Type 0} (c : V → C) (q : block.the_data-4 V F) → is_name (compare_tree c q) ≡ false
+compare-name c (block.struct-Compare e k ops) = refl
 
--- what is no variable is no target
-pub other-target : {V F C : Type 0} (c : V → C) (e : Expr V F) → ((s : _) → e ≡ expr.Var s → ⊥) → is_name (expr_tree c e) ≡ false
-other-target c (expr.Var s) n = absurd (n s refl)
-other-target c (expr.Compare' p q s) n = compare-target c q
-other-target c _ n = refl
+-- what is no variable and no attribute is no name
+pub other-name : {V F C : Type 0} (c : V → C) (e : Expr V F) → ((s : _) → e ≡ expr.Var s → ⊥) → ((s : _) → e ≡ expr.GetAttr s → ⊥) → is_name (expr_tree c e) ≡ false
+other-name c (expr.Var s) n m = absurd (n s refl)
+other-name c (expr.GetAttr' p e x s) n m = absurd (m (record { place = record { value = record { node = record { expr = e; name = x }; span = s }; ptr = p.ptr; alloc = p.alloc } }) refl)
+other-name c (expr.Compare' p q s) n m = compare-name c q
+other-name c _ n m = refl

@@ -1,11 +1,10 @@
 -- The tests hold exactly of what is well formed.
 use Rattle.std.proofs.Common.{◌≡◌, ℕ, ◌≤◌, true, false, refl, sym, subst, arith}
-use Rattle.std.specs.Prelude.{Bool, ◌&&◌, ◌==◌, ◌↔◌, nat_le, IsTrue}
+use Rattle.std.specs.Prelude.{Bool, ◌&&◌, ◌==◌, ◌↔◌, nat_le, IsTrue, List, [], ◌∷◌}
 use Rattle.std.proofs.lemmas.Bool.Decides.{nat_tests}
-use Rattle.minijinja_tree.specs.Tree.{Expr, variable, constant, slice, unary, binary, compare, if_expr, filter, test, attribute, item, call, list, tuple, map, Optional, absent, present, Exprs, no_more, more, Comparisons, compared, against, Args, no_args, pos, pos_splat, kwarg, kwarg_splat, Stmt, template, data_text, output, assignment, Stmts, done, also}
-use Rattle.minijinja_tree.specs.WellFormed.{most_arguments, expr_count, arg_count, IsChain, IsWhole, IsWholeIfAny, AreWhole, AreCompared, AreArguments}
-use Rattle.minijinja_tree.specs.Simple.{IsName, IsSimple, AreSimple, IsSimpleTree}
-use Rattle.minijinja_tree.specs.private.WellFormedTests.{is_chain, is_whole, is_whole_if_any, are_whole, are_compared, are_arguments, is_name, is_simple, are_simple, is_simple_tree}
+use Rattle.minijinja_tree.specs.Tree.{Expr, variable, constant, slice, unary, binary, compare, if_expr, filter, test, attribute, item, call, list, tuple, map, Optional, absent, present, Exprs, no_more, more, Comparisons, compared, against, Args, no_args, pos, pos_splat, kwarg, kwarg_splat, Stmt, template, data_text, output, assignment, for_loop, if_cond, with_block, set_block, auto_escape, filter_block, do_call, break_loop, continue_loop, Stmts, done, also}
+use Rattle.minijinja_tree.specs.WellFormed.{most_arguments, expr_count, arg_count, IsChain, IsWhole, IsWholeIfAny, AreWhole, AreCompared, AreArguments, IsTarget, AreTargets, AreAssignments, IsChainOfFilters, IsChainIfAny, IsInner, AreInner, IsWellFormed}
+use Rattle.minijinja_tree.specs.private.WellFormedTests.{is_chain, is_whole, is_whole_if_any, are_whole, are_compared, are_arguments, takes_arguments, is_target, are_targets, are_assignments, is_chain_of_filters, is_chain_if_any, is_inner, are_inner, is_well_formed}
 
 -- both hold
 both : (a b : Bool) → IsTrue a → IsTrue b → IsTrue (a && b)
@@ -151,48 +150,139 @@ mutual
 pub whole-decided : {C : Type 0} (e : Expr C) (b : Bool) → b ≡ is_whole e → IsTrue b ↔ IsWhole e
 whole-decided e b h = subst (λ b. IsTrue b ↔ IsWhole e) (sym h) (whole-holds e, whole-tests e)
 
-name-holds : {C : Type 0} (e : Expr C) → IsTrue (is_name e) → IsName e
-name-holds (variable x) h = tt
-name-holds _ h = cc
+mutual
+  target-holds : {C : Type 0} (e : Expr C) → IsTrue (is_target e) → IsTarget e
+  target-holds (variable x) h = tt
+  target-holds (attribute e x) h = whole-holds e h
+  target-holds (list es) h = targets-hold es h
+  target-holds _ h = cc
 
-name-tests : {C : Type 0} (e : Expr C) → IsName e → IsTrue (is_name e)
-name-tests (variable x) h = refl
-name-tests _ h = absurd h
+  targets-hold : {C : Type 0} (es : Exprs C) → IsTrue (are_targets es) → AreTargets es
+  targets-hold no_more h = tt
+  targets-hold (more e es) h = (target-holds e (left (is_target e) (are_targets es) h), targets-hold es (right (is_target e) (are_targets es) h))
 
-simple-holds : {C L : Type 0} (s : Stmt C L) → IsTrue (is_simple s) → IsSimple s
-simple-holds (data_text t) h = tt
-simple-holds (output e) h = whole-holds e h
-simple-holds (assignment e v) h = (name-holds e (left (is_name e) (is_whole v) h), whole-holds v (right (is_name e) (is_whole v) h))
-simple-holds _ h = cc
+mutual
+  target-tests : {C : Type 0} (e : Expr C) → IsTarget e → IsTrue (is_target e)
+  target-tests (variable x) h = refl
+  target-tests (attribute e x) h = whole-tests e h
+  target-tests (list es) h = targets-test es h
+  target-tests _ h = absurd h
 
-all-hold : {C L : Type 0} (ss : Stmts C L) → IsTrue (are_simple ss) → AreSimple ss
-all-hold done h = tt
-all-hold (also s ss) h = (simple-holds s (left (is_simple s) (are_simple ss) h), all-hold ss (right (is_simple s) (are_simple ss) h))
+  targets-test : {C : Type 0} (es : Exprs C) → AreTargets es → IsTrue (are_targets es)
+  targets-test no_more h = refl
+  targets-test (more e es) h = both (is_target e) _ (target-tests e h.0) (targets-test es h.1)
 
-simple-tests : {C L : Type 0} (s : Stmt C L) → IsSimple s → IsTrue (is_simple s)
-simple-tests (data_text t) h = refl
-simple-tests (output e) h = whole-tests e h
-simple-tests (assignment e v) h = both (is_name e) _ (name-tests e h.0) (whole-tests v h.1)
-simple-tests _ h = absurd h
+assignments-hold : {C : Type 0} (xs : List (Expr C × Expr C)) → IsTrue (are_assignments xs) → AreAssignments xs
+assignments-hold [] h = tt
+assignments-hold (a ∷ rest) h = let k = left (is_target a.0 && is_whole a.1) (are_assignments rest) h in (
+  target-holds a.0 (left (is_target a.0) (is_whole a.1) k),
+  whole-holds a.1 (right (is_target a.0) (is_whole a.1) k),
+  assignments-hold rest (right (is_target a.0 && is_whole a.1) (are_assignments rest) h),
+)
 
-all-test : {C L : Type 0} (ss : Stmts C L) → AreSimple ss → IsTrue (are_simple ss)
-all-test done h = refl
-all-test (also s ss) h = both (is_simple s) _ (simple-tests s h.0) (all-test ss h.1)
+assignments-test : {C : Type 0} (xs : List (Expr C × Expr C)) → AreAssignments xs → IsTrue (are_assignments xs)
+assignments-test [] h = refl
+assignments-test (a ∷ rest) h = both (is_target a.0 && is_whole a.1) _ (both (is_target a.0) _ (target-tests a.0 h.0) (whole-tests a.1 h.1)) (assignments-test rest h.2)
 
-tree-holds : {C L : Type 0} (s : Stmt C L) → IsTrue (is_simple_tree s) → IsSimpleTree s
-tree-holds (template ss) h = all-hold ss h
-tree-holds (data_text t) h = tt
-tree-holds (output e) h = whole-holds e h
-tree-holds (assignment e v) h = (name-holds e (left (is_name e) (is_whole v) h), whole-holds v (right (is_name e) (is_whole v) h))
-tree-holds _ h = cc
+taken-hold : {C : Type 0} (args : Args C) → IsTrue (takes_arguments args) → AreArguments args
+taken-hold args h = arguments-hold args (right (nat_le (arg_count args) most_arguments) (are_arguments args) h)
 
-tree-tests : {C L : Type 0} (s : Stmt C L) → IsSimpleTree s → IsTrue (is_simple_tree s)
-tree-tests (template ss) h = all-test ss h
-tree-tests (data_text t) h = refl
-tree-tests (output e) h = whole-tests e h
-tree-tests (assignment e v) h = both (is_name e) _ (name-tests e h.0) (whole-tests v h.1)
-tree-tests _ h = absurd h
+taken-few : {C : Type 0} (args : Args C) → IsTrue (takes_arguments args) → arg_count args ≤ most_arguments
+taken-few args h = few-holds (arg_count args) (left (nat_le (arg_count args) most_arguments) (are_arguments args) h)
+
+taken-test : {C : Type 0} (args : Args C) → AreArguments args → arg_count args ≤ most_arguments → IsTrue (takes_arguments args)
+taken-test args h k = both (nat_le (arg_count args) most_arguments) _ (few-tests (arg_count args) k) (arguments-test args h)
+
+filters-hold : {C : Type 0} (e : Expr C) → IsTrue (is_chain_of_filters e) → IsChainOfFilters e
+filters-hold (filter absent x args) h = (taken-hold args h, taken-few args h)
+filters-hold (filter (present e) x args) h = let k = left (takes_arguments args) (is_chain_of_filters e) h in (
+  filters-hold e (right (takes_arguments args) (is_chain_of_filters e) h),
+  taken-hold args k,
+  taken-few args k,
+)
+filters-hold _ h = cc
+
+filters-test : {C : Type 0} (e : Expr C) → IsChainOfFilters e → IsTrue (is_chain_of_filters e)
+filters-test (filter absent x args) h = taken-test args h.0 h.1
+filters-test (filter (present e) x args) h = both (takes_arguments args) _ (taken-test args h.1 h.2) (filters-test e h.0)
+filters-test _ h = absurd h
+
+any-filters-hold : {C : Type 0} (e : Optional C) → IsTrue (is_chain_if_any e) → IsChainIfAny e
+any-filters-hold absent h = tt
+any-filters-hold (present e) h = filters-hold e h
+
+any-filters-test : {C : Type 0} (e : Optional C) → IsChainIfAny e → IsTrue (is_chain_if_any e)
+any-filters-test absent h = refl
+any-filters-test (present e) h = filters-test e h
+
+mutual
+  inner-holds : {C L : Type 0} (l : Bool) (s : Stmt C L) → IsTrue (is_inner l s) → IsInner l s
+  inner-holds l (template ss) h = cc
+  inner-holds l (data_text t) h = tt
+  inner-holds l (output e) h = whole-holds e h
+  inner-holds l (assignment e v) h = (target-holds e (left (is_target e) (is_whole v) h), whole-holds v (right (is_target e) (is_whole v) h))
+  inner-holds l (for_loop n t e only again ss other) h =
+      let head = left (is_target t && (is_whole e && is_whole_if_any only)) (are_inner true ss && are_inner l other) h in
+      let bodies = right (is_target t && (is_whole e && is_whole_if_any only)) (are_inner true ss && are_inner l other) h in
+      let k = right (is_target t) (is_whole e && is_whole_if_any only) head in (
+        target-holds t (left (is_target t) (is_whole e && is_whole_if_any only) head),
+        whole-holds e (left (is_whole e) (is_whole_if_any only) k),
+        any-holds only (right (is_whole e) (is_whole_if_any only) k),
+        inners-hold true ss (left (are_inner true ss) (are_inner l other) bodies),
+        inners-hold l other (right (are_inner true ss) (are_inner l other) bodies),
+      )
+  inner-holds l (if_cond e ss other) h = let bodies = right (is_whole e) (are_inner l ss && are_inner l other) h in (
+    whole-holds e (left (is_whole e) (are_inner l ss && are_inner l other) h),
+    inners-hold l ss (left (are_inner l ss) (are_inner l other) bodies),
+    inners-hold l other (right (are_inner l ss) (are_inner l other) bodies),
+  )
+  inner-holds l (with_block xs ss) h = (assignments-hold xs (left (are_assignments xs) (are_inner l ss) h), inners-hold l ss (right (are_assignments xs) (are_inner l ss) h))
+  inner-holds l (set_block t e ss) h = let head = left (is_target t && is_chain_if_any e) (are_inner l ss) h in (
+    target-holds t (left (is_target t) (is_chain_if_any e) head),
+    any-filters-hold e (right (is_target t) (is_chain_if_any e) head),
+    inners-hold l ss (right (is_target t && is_chain_if_any e) (are_inner l ss) h),
+  )
+  inner-holds l (auto_escape e ss) h = (whole-holds e (left (is_whole e) (are_inner l ss) h), inners-hold l ss (right (is_whole e) (are_inner l ss) h))
+  inner-holds l (filter_block e ss) h = (filters-hold e (left (is_chain_of_filters e) (are_inner l ss) h), inners-hold l ss (right (is_chain_of_filters e) (are_inner l ss) h))
+  inner-holds l (do_call e args) h = let k = right (is_whole e) (takes_arguments args) h in (whole-holds e (left (is_whole e) (takes_arguments args) h), taken-hold args k, taken-few args k)
+  inner-holds l break_loop h = h
+  inner-holds l continue_loop h = h
+
+  inners-hold : {C L : Type 0} (l : Bool) (ss : Stmts C L) → IsTrue (are_inner l ss) → AreInner l ss
+  inners-hold l done h = tt
+  inners-hold l (also s ss) h = (inner-holds l s (left (is_inner l s) (are_inner l ss) h), inners-hold l ss (right (is_inner l s) (are_inner l ss) h))
+
+mutual
+  inner-tests : {C L : Type 0} (l : Bool) (s : Stmt C L) → IsInner l s → IsTrue (is_inner l s)
+  inner-tests l (template ss) h = absurd h
+  inner-tests l (data_text t) h = refl
+  inner-tests l (output e) h = whole-tests e h
+  inner-tests l (assignment e v) h = both (is_target e) _ (target-tests e h.0) (whole-tests v h.1)
+  inner-tests l (for_loop n t e only again ss other) h =
+      both (is_target t && (is_whole e && is_whole_if_any only)) _
+      (both (is_target t) _ (target-tests t h.0) (both (is_whole e) _ (whole-tests e h.1) (any-tests only h.2)))
+      (both (are_inner true ss) _ (inners-test true ss h.3) (inners-test l other h.4))
+  inner-tests l (if_cond e ss other) h = both (is_whole e) _ (whole-tests e h.0) (both (are_inner l ss) _ (inners-test l ss h.1) (inners-test l other h.2))
+  inner-tests l (with_block xs ss) h = both (are_assignments xs) _ (assignments-test xs h.0) (inners-test l ss h.1)
+  inner-tests l (set_block t e ss) h = both (is_target t && is_chain_if_any e) _ (both (is_target t) _ (target-tests t h.0) (any-filters-test e h.1)) (inners-test l ss h.2)
+  inner-tests l (auto_escape e ss) h = both (is_whole e) _ (whole-tests e h.0) (inners-test l ss h.1)
+  inner-tests l (filter_block e ss) h = both (is_chain_of_filters e) _ (filters-test e h.0) (inners-test l ss h.1)
+  inner-tests l (do_call e args) h = both (is_whole e) _ (whole-tests e h.0) (taken-test args h.1 h.2)
+  inner-tests l break_loop h = h
+  inner-tests l continue_loop h = h
+
+  inners-test : {C L : Type 0} (l : Bool) (ss : Stmts C L) → AreInner l ss → IsTrue (are_inner l ss)
+  inners-test l done h = refl
+  inners-test l (also s ss) h = both (is_inner l s) _ (inner-tests l s h.0) (inners-test l ss h.1)
 
 -- the test of a statement
-pub tree-decided : {C L : Type 0} (s : Stmt C L) (b : Bool) → b ≡ is_simple_tree s → IsTrue b ↔ IsSimpleTree s
-tree-decided s b h = subst (λ b. IsTrue b ↔ IsSimpleTree s) (sym h) (tree-holds s, tree-tests s)
+formed-holds : {C L : Type 0} (s : Stmt C L) → IsTrue (is_well_formed s) → IsWellFormed s
+formed-holds (template ss) h = inners-hold false ss h
+formed-holds s h = inner-holds false s h
+
+formed-tests : {C L : Type 0} (s : Stmt C L) → IsWellFormed s → IsTrue (is_well_formed s)
+formed-tests (template ss) h = inners-test false ss h
+formed-tests s h = inner-tests false s h
+
+pub formed-decided : {C L : Type 0} (s : Stmt C L) (b : Bool) → b ≡ is_well_formed s → IsTrue b ↔ IsWellFormed s
+formed-decided s b h = subst (λ b. IsTrue b ↔ IsWellFormed s) (sym h) (formed-holds s, formed-tests s)

@@ -14,7 +14,7 @@ use Rattle.minijinja_tree.specs.declared.ast.CompareOpKind.{CompareOpKind}
 use Rattle.minijinja_tree.specs.declared.ast.Expr.{Expr}
 use Rattle.minijinja_tree.specs.declared.ast.Expr.TheVariants.{Var, Const, GetAttr', Slice', UnaryOp', BinOp', Compare', IfExpr', Filter', Test', GetItem', Call', List', Tuple', Map'}
 use Rattle.minijinja_tree.specs.declared.ast.Stmt.{Stmt, Row_of-Stmt, end_of-Stmt, more_of-Stmt}
-use Rattle.minijinja_tree.specs.declared.ast.Stmt.TheVariants.{Template', EmitExpr, EmitRaw, Set}
+use Rattle.minijinja_tree.specs.declared.ast.Stmt.TheVariants.{Template', EmitExpr, EmitRaw, ForLoop', IfCond', WithBlock', Set, SetBlock', AutoEscape', FilterBlock', Continue, Break, Do}
 
 abbrev pub unary_op : UnaryOpKind → tree.UnaryOp
 unary_op unary_kind.Not = tree.logical_not
@@ -113,12 +113,27 @@ abbrev pub comparisons_of : {V F C : Type 0} → (V → C) → List (block.the_d
 comparisons_of c [] = tree.compared
 comparisons_of c (a ∷ rest) = tree.against (compare_op a.op) (expr_tree c a.expr) (comparisons_of c rest)
 
+-- targets with their values
+abbrev pub assignments_of : {V F C : Type 0} → (V → C) → List (Expr V F × Expr V F) → List (tree.Expr C × tree.Expr C)
+assignments_of c [] = []
+assignments_of c (a ∷ rest) = (expr_tree c a.0, expr_tree c a.1) ∷ assignments_of c rest
+
+-- loops have no label of their own
 abbrev mutual
   pub stmt_tree : {V F C : Type 0} → (V → C) → Stmt V F → tree.Stmt C (Unit {0})
   stmt_tree c (Template' p k xs s) = tree.template (stmts_tree c xs)
   stmt_tree c (EmitExpr s) = tree.output (expr_tree c (node_of s).expr)
   stmt_tree c (EmitRaw s) = tree.data_text (node_of s).raw.now
+  stmt_tree c (ForLoop' p t e only again k xs l ys s) = tree.for_loop tt (expr_tree c t) (expr_tree c e) (optional_of c only) again (stmts_tree c xs) (stmts_tree c ys)
+  stmt_tree c (IfCond' p e k xs l ys s) = tree.if_cond (expr_tree c e) (stmts_tree c xs) (stmts_tree c ys)
+  stmt_tree c (WithBlock' p bs k xs s) = tree.with_block (assignments_of c bs.items) (stmts_tree c xs)
   stmt_tree c (Set s) = tree.assignment (expr_tree c (node_of s).target) (expr_tree c (node_of s).expr)
+  stmt_tree c (SetBlock' p t e k xs s) = tree.set_block (expr_tree c t) (optional_of c e) (stmts_tree c xs)
+  stmt_tree c (AutoEscape' p e k xs s) = tree.auto_escape (expr_tree c e) (stmts_tree c xs)
+  stmt_tree c (FilterBlock' p e k xs s) = tree.filter_block (expr_tree c e) (stmts_tree c xs)
+  stmt_tree c (Continue s) = tree.continue_loop
+  stmt_tree c (Break s) = tree.break_loop
+  stmt_tree c (Do s) = let call = node_of (node_of s).call in tree.do_call (expr_tree c call.expr) (args_of c call.args.items)
 
   pub stmts_tree : {V F C : Type 0} {m : _} → (V → C) → Row_of-Stmt V F m → tree.Stmts C (Unit {0})
   stmts_tree c end_of-Stmt = tree.done

@@ -9,7 +9,6 @@ pub mod Erasure
 pub mod SpannedTrees
 pub mod SpannedErasure
 pub mod WellFormed
-pub mod Simple
 pub mod Descriptions
 pub mod ExprSpans
 pub mod Callees

@@ -13,7 +13,7 @@ use Rattle.minijinja_tree.specs.declared.ast.CallArg.TheBlock as block
 use Rattle.minijinja_tree.specs.declared.ast.Expr.{Expr}
 use Rattle.minijinja_tree.specs.declared.ast.Expr.TheVariants.{Var, Const, GetAttr', Slice', UnaryOp', BinOp', Compare', IfExpr', Filter', Test', GetItem', Call', List', Tuple', Map'}
 use Rattle.minijinja_tree.specs.declared.ast.Stmt.{Stmt, Row_of-Stmt, end_of-Stmt, more_of-Stmt}
-use Rattle.minijinja_tree.specs.declared.ast.Stmt.TheVariants.{Template', EmitExpr, EmitRaw, Set}
+use Rattle.minijinja_tree.specs.declared.ast.Stmt.TheVariants.{Template', EmitExpr, EmitRaw, ForLoop', IfCond', WithBlock', Set, SetBlock', AutoEscape', FilterBlock', Continue, Break, Do}
 
 abbrev mutual
   pub expr_node : {V F C : Type 0} → (V → C) → Expr V F → tree.Expr C
@@ -80,13 +80,38 @@ compared c o = (compare_op o.op, expr_node c o.expr)
 abbrev pub all_compared : {V F C : Type 0} → (V → C) → List (CompareOp V F) → List (cmp.CompareOp × tree.Expr C)
 all_compared c os = map (compared c) os
 
+-- an expression that may be absent
+abbrev pub optional_of : {V F C : Type 0} → (V → C) → Option (Expr V F) → tree.Optional C
+optional_of c e = tree.optional_of (any_tree c e)
+
+-- the arguments of a list
+abbrev pub args_of : {V F C : Type 0} → (V → C) → List (CallArg V F) → tree.Args C
+args_of c xs = tree.args_of (args_view c xs)
+
+-- targets with their values
+abbrev pub bindings_of : {V F C : Type 0} → (V → C) → List (Expr V F × Expr V F) → List (tree.Expr C × tree.Expr C)
+bindings_of c bs = map (λ b. (expr_node c b.0, expr_node c b.1)) bs
+
 abbrev mutual
   pub stmt_node : {V F C : Type 0} → (V → C) → Stmt V F → tree.Stmt C
   stmt_node c (Template' p k xs s) = tree.template (stmts_node c xs) s
   stmt_node c (EmitExpr s) = tree.output (expr_node c (node_of s).expr) (span_of s)
   stmt_node c (EmitRaw s) = tree.data_text (node_of s).raw.now (span_of s)
+  stmt_node c (ForLoop' p t e only again k xs l ys s) = tree.for_loop (expr_node c t) (expr_node c e) (optional_of c only) again (stmts_node c xs) (stmts_node c ys) s
+  stmt_node c (IfCond' p e k xs l ys s) = tree.if_cond (expr_node c e) (stmts_node c xs) (stmts_node c ys) s
+  stmt_node c (WithBlock' p bs k xs s) = tree.with_block (bindings_of c bs.items) (stmts_node c xs) s
   stmt_node c (Set s) = tree.assignment (expr_node c (node_of s).target) (expr_node c (node_of s).expr) (span_of s)
+  stmt_node c (SetBlock' p t e k xs s) = tree.set_block (expr_node c t) (optional_of c e) (stmts_node c xs) s
+  stmt_node c (AutoEscape' p e k xs s) = tree.auto_escape (expr_node c e) (stmts_node c xs) s
+  stmt_node c (FilterBlock' p e k xs s) = tree.filter_block (expr_node c e) (stmts_node c xs) s
+  stmt_node c (Continue s) = tree.continue_loop (span_of s)
+  stmt_node c (Break s) = tree.break_loop (span_of s)
+  stmt_node c (Do s) = let call = node_of (node_of s).call in tree.do_call (expr_node c call.expr) (args_of c call.args.items) (span_of (node_of s).call) (span_of s)
 
   pub stmts_node : {V F C : Type 0} {m : _} → (V → C) → Row_of-Stmt V F m → tree.Stmts C
   stmts_node c end_of-Stmt = tree.done
   stmts_node c (more_of-Stmt s rest) = tree.also (stmt_node c s) (stmts_node c rest)
+
+-- the statements of a list
+abbrev pub stmt_nodes : {V F C : Type 0} → (V → C) → List (Stmt V F) → List (tree.Stmt C)
+stmt_nodes c ss = map (stmt_node c) ss

@@ -1,5 +1,5 @@
 -- Trees whose nodes have spans, over what values hold: the same trees as without them, and where each node stands.
-use Rattle.std.specs.Prelude.{List, [], ◌∷◌, Option, Some, None}
+use Rattle.std.specs.Prelude.{Bool, List, [], ◌∷◌, Option, Some, None}
 use Rattle.minijinja_syntax.specs.Texts.{Text}
 use Rattle.minijinja_syntax.specs.declared.tokens.Span.{Span}
 use Rattle.minijinja_tree.specs.BinOps.{BinOp}
@@ -51,6 +51,15 @@ mutual
     data_text : Text → Span → Stmt C
     output : Expr C → Span → Stmt C
     assignment : Expr C → Expr C → Span → Stmt C
+    for_loop : Expr C → Expr C → Optional C → Bool → Stmts C → Stmts C → Span → Stmt C
+    if_cond : Expr C → Stmts C → Stmts C → Span → Stmt C
+    with_block : List (Expr C × Expr C) → Stmts C → Span → Stmt C
+    set_block : Expr C → Optional C → Stmts C → Span → Stmt C
+    auto_escape : Expr C → Stmts C → Span → Stmt C
+    filter_block : Expr C → Stmts C → Span → Stmt C
+    -- what is called, the arguments, and where the call stands
+    do_call : Expr C → Args C → Span → Span → Stmt C
+    break_loop continue_loop : Span → Stmt C
 
   pub data Stmts (C : Type 0) : Type 0 where
     done : Stmts C
@@ -127,12 +136,26 @@ abbrev mutual
   bare_args (kwarg x e xs) = bare.kwarg x (bare_expr e) (bare_args xs)
   bare_args (kwarg_splat e xs) = bare.kwarg_splat (bare_expr e) (bare_args xs)
 
+abbrev pub bare_bindings : {C : Type 0} → List (Expr C × Expr C) → List (bare.Expr C × bare.Expr C)
+bare_bindings [] = []
+bare_bindings (b ∷ bs) = (bare_expr b.0, bare_expr b.1) ∷ bare_bindings bs
+
+-- loops have no label of their own
 abbrev mutual
   pub bare_stmt : {C : Type 0} → Stmt C → bare.Stmt C (Unit {0})
   bare_stmt (template ss s) = bare.template (bare_stmts ss)
   bare_stmt (data_text t s) = bare.data_text t
   bare_stmt (output e s) = bare.output (bare_expr e)
   bare_stmt (assignment t e s) = bare.assignment (bare_expr t) (bare_expr e)
+  bare_stmt (for_loop t e only again ss other s) = bare.for_loop tt (bare_expr t) (bare_expr e) (bare_optional only) again (bare_stmts ss) (bare_stmts other)
+  bare_stmt (if_cond e ss other s) = bare.if_cond (bare_expr e) (bare_stmts ss) (bare_stmts other)
+  bare_stmt (with_block bs ss s) = bare.with_block (bare_bindings bs) (bare_stmts ss)
+  bare_stmt (set_block t e ss s) = bare.set_block (bare_expr t) (bare_optional e) (bare_stmts ss)
+  bare_stmt (auto_escape e ss s) = bare.auto_escape (bare_expr e) (bare_stmts ss)
+  bare_stmt (filter_block e ss s) = bare.filter_block (bare_expr e) (bare_stmts ss)
+  bare_stmt (do_call e args from s) = bare.do_call (bare_expr e) (bare_args args)
+  bare_stmt (break_loop s) = bare.break_loop
+  bare_stmt (continue_loop s) = bare.continue_loop
 
   pub bare_stmts : {C : Type 0} → Stmts C → bare.Stmts C (Unit {0})
   bare_stmts done = bare.done

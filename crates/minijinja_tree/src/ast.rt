@@ -3,6 +3,8 @@ ghost use Rattle.std.specs.Prelude.{◌≡◌, IfErr, IfOk};
 ghost use Rattle.minijinja_syntax.specs.Errors.{IsOutOfMemory};
 ghost use Rattle.minijinja_tree.specs.Nodes.{node_of, span_of};
 
+mod lists;
+
 use minijinja_base::error::Error;
 use minijinja_base::tokens::Span;
 use minijinja_base::value::{TemplateValue, Value};
@@ -52,12 +54,51 @@ impl<T> Spanned<T> {
 
 /// A statement.
 #[cycle(stmt)]
-#[derive(Drop)]
 pub enum Stmt<'s, V: TemplateValue = Value> {
     Template(Spanned<Template<'s, V>>),
     EmitExpr(Spanned<EmitExpr<'s, V>>),
     EmitRaw(Spanned<EmitRaw<'s>>),
+    ForLoop(Spanned<ForLoop<'s, V>>),
+    IfCond(Spanned<IfCond<'s, V>>),
+    WithBlock(Spanned<WithBlock<'s, V>>),
     Set(Spanned<Set<'s, V>>),
+    SetBlock(Spanned<SetBlock<'s, V>>),
+    AutoEscape(Spanned<AutoEscape<'s, V>>),
+    FilterBlock(Spanned<FilterBlock<'s, V>>),
+    Continue(Spanned<Continue>),
+    Break(Spanned<Break>),
+    Do(Spanned<Do<'s, V>>),
+}
+
+/// The last statement of a false body goes in a loop, so that a row of `elif` takes no more stack than one of them.
+impl<'s, V: TemplateValue> Drop for Stmt<'s, V> {
+    #[cycle(stmt)]
+    fn drop(mut self) {
+        loop {
+            match self {
+                Stmt::IfCond(Spanned { place }) => {
+                    let Placed { node, .. } = Box::into_inner(place);
+                    let IfCond { mut false_body, .. } = node;
+                    match false_body.pop() {
+                        Some(last) => self = last,
+                        None => return,
+                    }
+                }
+                Stmt::Template(_template) => return,
+                Stmt::EmitExpr(_output) => return,
+                Stmt::EmitRaw(_data) => return,
+                Stmt::ForLoop(_loop) => return,
+                Stmt::WithBlock(_block) => return,
+                Stmt::Set(_assignment) => return,
+                Stmt::SetBlock(_block) => return,
+                Stmt::AutoEscape(_block) => return,
+                Stmt::FilterBlock(_block) => return,
+                Stmt::Continue(_jump) => return,
+                Stmt::Break(_jump) => return,
+                Stmt::Do(_call) => return,
+            }
+        }
+    }
 }
 
 /// An expression.
@@ -80,8 +121,8 @@ pub enum Expr<'s, V: TemplateValue = Value> {
     Map(Spanned<Map<'s, V>>),
 }
 
-/// What stands on the left goes in a loop, and so does the last part of an if expression, so that a row of operators, attributes,
-/// filters, calls or else parts takes no more stack than one of them.
+/// What stands on the left goes in a loop, and so do the last part of an if expression and the lists in a list, so that a row of
+/// operators, attributes, filters, calls, else parts or lists takes no more stack than one of them.
 impl<'s, V: TemplateValue> Drop for Expr<'s, V> {
     #[cycle(expr)]
     fn drop(mut self) {
@@ -150,9 +191,12 @@ impl<'s, V: TemplateValue> Drop for Expr<'s, V> {
                     let Call { expr, .. } = node;
                     self = expr;
                 }
+                Expr::List(list) => {
+                    lists::let_go(list);
+                    return;
+                }
                 Expr::Var(_variable) => return,
                 Expr::Const(_constant) => return,
-                Expr::List(_list) => return,
                 Expr::Tuple(_tuple) => return,
                 Expr::Map(_map) => return,
             }
@@ -161,7 +205,9 @@ impl<'s, V: TemplateValue> Drop for Expr<'s, V> {
 }
 
 impl<'s, V: TemplateValue> Expr<'s, V> {
+    ghost use Rattle.std.specs.Prelude.{IfNone, IfSome};
     ghost use Rattle.minijinja_tree.specs.Descriptions as words;
+    ghost use Rattle.minijinja_tree.specs.declared.ast.Expr.TheVariants as expr;
     ghost use Rattle.minijinja_tree.specs.Erasure.{expr_tree};
     ghost use Rattle.minijinja_tree.specs.ExprSpans.{expr_span};
 
@@ -185,6 +231,17 @@ impl<'s, V: TemplateValue> Expr<'s, V> {
             Expr::Map(_) => "map literal",
             Expr::Test(_) => "test expression",
             Expr::Filter(_) => "filter expression",
+        }
+    }
+
+    /// The call that the expression is, if it is one.
+    pub fn into_call(self) -> Option<Spanned<Call<'s, V>>>
+        ensures call { IfSome result (λ call. self.entry ≡ expr.Call call) }
+        ensures other { IfNone result ((call : _) → self.entry ≡ expr.Call call → ⊥) }
+    {
+        match self {
+            Expr::Call(call) => Some(call),
+            _ => None,
         }
     }
 
@@ -231,12 +288,81 @@ pub struct EmitRaw<'s> {
     pub raw: &'s str,
 }
 
+/// A loop: `{% for target in iter %}`. Only items that pass `filter_expr` are gone through; the else body stands in where
+/// there are none.
+#[cycle(stmt)]
+#[derive(Drop)]
+pub struct ForLoop<'s, V: TemplateValue = Value> {
+    pub target: Expr<'s, V>,
+    pub iter: Expr<'s, V>,
+    pub filter_expr: Option<Expr<'s, V>>,
+    pub recursive: bool,
+    pub body: Vec<Stmt<'s, V>>,
+    pub else_body: Vec<Stmt<'s, V>>,
+}
+
+/// A condition: `{% if expr %}`. An `elif` is a false body that holds one condition.
+#[cycle(stmt)]
+#[derive(Drop)]
+pub struct IfCond<'s, V: TemplateValue = Value> {
+    pub expr: Expr<'s, V>,
+    pub true_body: Vec<Stmt<'s, V>>,
+    pub false_body: Vec<Stmt<'s, V>>,
+}
+
+/// A scope with variables of its own: `{% with target = expr %}`.
+#[cycle(stmt)]
+#[derive(Drop)]
+pub struct WithBlock<'s, V: TemplateValue = Value> {
+    pub assignments: Vec<(Expr<'s, V>, Expr<'s, V>)>,
+    pub body: Vec<Stmt<'s, V>>,
+}
+
 /// An assignment: `{% set target = expr %}`.
 #[derive(Drop)]
 pub struct Set<'s, V: TemplateValue = Value> {
     pub target: Expr<'s, V>,
     pub expr: Expr<'s, V>,
 }
+
+/// An assignment of what a body writes: `{% set target | filter %}`.
+#[cycle(stmt)]
+#[derive(Drop)]
+pub struct SetBlock<'s, V: TemplateValue = Value> {
+    pub target: Expr<'s, V>,
+    pub filter: Option<Expr<'s, V>>,
+    pub body: Vec<Stmt<'s, V>>,
+}
+
+/// A body that is escaped or not: `{% autoescape enabled %}`.
+#[cycle(stmt)]
+#[derive(Drop)]
+pub struct AutoEscape<'s, V: TemplateValue = Value> {
+    pub enabled: Expr<'s, V>,
+    pub body: Vec<Stmt<'s, V>>,
+}
+
+/// Filters over what a body writes: `{% filter filter %}`.
+#[cycle(stmt)]
+#[derive(Drop)]
+pub struct FilterBlock<'s, V: TemplateValue = Value> {
+    pub filter: Expr<'s, V>,
+    pub body: Vec<Stmt<'s, V>>,
+}
+
+/// A call whose answer is dropped: `{% do call %}`.
+#[derive(Drop)]
+pub struct Do<'s, V: TemplateValue = Value> {
+    pub call: Spanned<Call<'s, V>>,
+}
+
+/// On to the loop's next item: `{% continue %}`.
+#[derive(Drop)]
+pub struct Continue;
+
+/// Out of the loop: `{% break %}`.
+#[derive(Drop)]
+pub struct Break;
 
 /// A variable.
 #[derive(Drop)]

@@ -1,14 +1,19 @@
 //! Which trees code is made of.
-ghost use Rattle.std.specs.Prelude.{◌≡◌, ◌==◌, ◌↔◌, ◌<◌, ◌&&◌, IfSome, IsTrue, map, nat_le, option_map};
-ghost use Rattle.minijinja_tree.specs.Erasure.{expr_tree, optional_of, exprs_of, arg_tree, args_of, comparisons_of, stmt_tree};
+ghost use Rattle.std.specs.Prelude.{◌≡◌, ◌==◌, ◌↔◌, ◌<◌, ◌≤◌, ◌&&◌, IfSome, IsTrue, map, nat_le, option_map, true};
+ghost use Rattle.minijinja_tree.specs.Erasure.{expr_tree, optional_of, exprs_of, arg_tree, args_of, comparisons_of, assignments_of, stmt_tree};
 ghost use Rattle.minijinja_tree.specs.Tree as tree;
 ghost use Rattle.minijinja_tree.specs.Tree.{stmts_of};
-ghost use Rattle.minijinja_tree.specs.WellFormed.{IsWhole, most_arguments, arg_count, expr_count};
-ghost use Rattle.minijinja_tree.specs.Simple.{IsSimpleTree};
-ghost use Rattle.minijinja_tree.specs.private.Sizes.{size_of};
+ghost use Rattle.minijinja_tree.specs.WellFormed.{IsWhole, IsWellFormed, most_arguments, arg_count, expr_count};
+ghost use Rattle.minijinja_tree.specs.private.Sizes.{size_of, list_size, stmt_size};
+ghost use Rattle.minijinja_tree.specs.private.FilterParts.{filter_tree, only_filter};
+ghost use Rattle.minijinja_tree.specs.private.TargetRests.{rest_decides, rest_size, are_targets_if_some};
 ghost use Rattle.minijinja_tree.specs.private.WellFormedTests as tests;
+ghost use Rattle.minijinja_tree.specs.private.WellFormedTests.{only_item};
 
-use crate::ast::{CallArg, CompareOp, Expr, IfExpr, MOST_ARGUMENTS, Map, Slice, Stmt};
+use crate::ast::{
+    Call, CallArg, CompareOp, Expr, Filter, ForLoop, IfCond, IfExpr, List, MOST_ARGUMENTS, Map,
+    Slice, Stmt,
+};
 use minijinja_base::value::TemplateValue;
 
 impl<'s, V: TemplateValue> Expr<'s, V> {
@@ -22,52 +27,341 @@ impl<'s, V: TemplateValue> Expr<'s, V> {
 }
 
 impl<'s, V: TemplateValue> Stmt<'s, V> {
-    /// Whether no template stands within it, its targets are names, and its expressions are well formed.
+    /// Whether no template stands within it, its targets are variables, attributes or lists of targets, `break` and `continue`
+    /// stand only in a loop's body, the filter of a set or filter block is a chain of filters whose innermost has no operand,
+    /// and its other expressions are well formed.
     pub fn is_well_formed(&self) -> bool
-        ensures { IsTrue result ↔ IsSimpleTree (stmt_tree V.contents self.now) }
+        ensures { IsTrue result ↔ IsWellFormed (stmt_tree V.contents self.now) }
     {
         is_formed(self)
     }
 }
 
 fn is_formed<V: TemplateValue>(stmt: &Stmt<'_, V>) -> bool
-    ensures { result ≡ tests.is_simple_tree (stmt_tree V.contents stmt.now) }
+    ensures { result ≡ tests.is_well_formed (stmt_tree V.contents stmt.now) }
 {
     match stmt {
-        Stmt::Template(template) => are_inner(&template.node().children),
-        Stmt::EmitExpr(_) | Stmt::EmitRaw(_) | Stmt::Set(_) => is_inner(stmt),
+        Stmt::Template(template) => are_inner(&template.node().children, false),
+        _ => is_inner(stmt, false),
     }
 }
 
-fn are_inner<V: TemplateValue>(stmts: &[Stmt<'_, V>]) -> bool
-    ensures { result ≡ tests.are_simple (stmts_of (map (stmt_tree V.contents) stmts.now)) }
+#[cycle(inner)]
+fn are_inner<V: TemplateValue>(stmts: &[Stmt<'_, V>], in_loop: bool) -> bool
+    ensures { result ≡ tests.are_inner in_loop (stmts_of (map (stmt_tree V.contents) stmts.now)) }
 {
     for stmt in stmts {
-        if !is_inner(stmt) {
+        if !is_inner(stmt, in_loop) {
             return false;
         }
     }
     true
 }
 
-fn is_inner<V: TemplateValue>(stmt: &Stmt<'_, V>) -> bool
-    ensures { result ≡ tests.is_simple (stmt_tree V.contents stmt.now) }
+/// Goes down false bodies in a loop, so that a row of `elif` takes no more stack than one of them.
+#[cycle(inner)]
+fn is_inner<V: TemplateValue>(stmt: &Stmt<'_, V>, in_loop: bool) -> bool
+    ensures { result ≡ tests.is_inner in_loop (stmt_tree V.contents stmt.now) }
+{
+    let mut rest = Some(stmt);
+    while let Some(part) = rest {
+        if !is_inner_beside(part, in_loop) {
+            return false;
+        }
+        rest = otherwise(part);
+    }
+    true
+}
+
+/// The only statement of a false body: rows of `elif` nest in it without a bound.
+fn otherwise<'a, 's, V: TemplateValue>(stmt: &'a Stmt<'s, V>) -> Option<&'a Stmt<'s, V>>
+    ensures part { option_map (λ s. stmt_tree V.contents s.now) result ≡ tests.otherwise
+        (stmt_tree V.contents stmt.now) }
+    ensures smaller { IfSome result (λ s. stmt_size s.now < stmt_size stmt.now) }
+{
+    match stmt {
+        Stmt::IfCond(condition) => only(&condition.node().false_body),
+        _ => None,
+    }
+}
+
+/// The statement, if there is one alone.
+fn only<'a, 's, V: TemplateValue>(stmts: &'a [Stmt<'s, V>]) -> Option<&'a Stmt<'s, V>>
+    ensures { option_map (λ s. s.now) result ≡ only_item stmts.now }
+{
+    match stmts {
+        [stmt] => Some(stmt),
+        _ => None,
+    }
+}
+
+/// Whether all but that statement is well formed.
+#[cycle(inner)]
+fn is_inner_beside<V: TemplateValue>(stmt: &Stmt<'_, V>, in_loop: bool) -> bool
+    ensures { result ≡ (tests.is_headed in_loop (stmt_tree V.contents stmt.now)
+        && tests.has_bodies in_loop (stmt_tree V.contents stmt.now)) }
+{
+    is_headed(stmt, in_loop) && has_bodies(stmt, in_loop)
+}
+
+/// Whether the bodies are well formed, but for the only statement of a false body.
+#[cycle(inner)]
+fn has_bodies<V: TemplateValue>(stmt: &Stmt<'_, V>, in_loop: bool) -> bool
+    ensures { result ≡ tests.has_bodies in_loop (stmt_tree V.contents stmt.now) }
+{
+    match stmt {
+        Stmt::ForLoop(repeated) => has_loop_bodies(repeated.node(), in_loop),
+        Stmt::IfCond(condition) => has_branches(condition.node(), in_loop),
+        Stmt::WithBlock(block) => are_inner(&block.node().body, in_loop),
+        Stmt::SetBlock(block) => are_inner(&block.node().body, in_loop),
+        Stmt::AutoEscape(block) => are_inner(&block.node().body, in_loop),
+        Stmt::FilterBlock(block) => are_inner(&block.node().body, in_loop),
+        _ => true,
+    }
+}
+
+/// A loop's else body does not belong to it.
+#[cycle(inner)]
+fn has_loop_bodies<V: TemplateValue>(repeated: &ForLoop<'_, V>, in_loop: bool) -> bool
+    ensures { result ≡
+        (tests.are_inner true (stmts_of (map (stmt_tree V.contents) repeated.now.body.items))
+        && tests.are_inner in_loop
+        (stmts_of (map (stmt_tree V.contents) repeated.now.else_body.items))) }
+{
+    are_inner(&repeated.body, true) && are_inner(&repeated.else_body, in_loop)
+}
+
+#[cycle(inner)]
+fn has_branches<V: TemplateValue>(condition: &IfCond<'_, V>, in_loop: bool) -> bool
+    ensures { result ≡
+        (tests.are_inner in_loop
+        (stmts_of (map (stmt_tree V.contents) condition.now.true_body.items))
+        && tests.are_inner_but_one in_loop
+        (stmts_of (map (stmt_tree V.contents) condition.now.false_body.items))) }
+{
+    are_inner(&condition.true_body, in_loop) && are_inner_but_one(&condition.false_body, in_loop)
+}
+
+#[cycle(inner)]
+fn are_inner_but_one<V: TemplateValue>(stmts: &[Stmt<'_, V>], in_loop: bool) -> bool
+    ensures { result ≡ tests.are_inner_but_one in_loop
+        (stmts_of (map (stmt_tree V.contents) stmts.now)) }
+{
+    match only(stmts) {
+        Some(_) => true,
+        None => are_inner(stmts, in_loop),
+    }
+}
+
+/// Whether a statement is well formed but for its bodies.
+fn is_headed<V: TemplateValue>(stmt: &Stmt<'_, V>, in_loop: bool) -> bool
+    ensures { result ≡ tests.is_headed in_loop (stmt_tree V.contents stmt.now) }
 {
     match stmt {
         Stmt::Template(_) => false,
         Stmt::EmitExpr(output) => is_whole(&output.node().expr),
         Stmt::EmitRaw(_) => true,
-        Stmt::Set(set) => {
-            let set = set.node();
-            is_target(&set.target) && is_whole(&set.expr)
+        Stmt::ForLoop(repeated) => has_head(repeated.node()),
+        Stmt::IfCond(condition) => is_whole(&condition.node().expr),
+        Stmt::WithBlock(block) => are_assignments(&block.node().assignments),
+        Stmt::Set(assignment) => {
+            let assignment = assignment.node();
+            is_target(&assignment.target) && is_whole(&assignment.expr)
         }
+        Stmt::SetBlock(block) => {
+            let block = block.node();
+            is_target(&block.target) && is_chain_if_any(&block.filter)
+        }
+        Stmt::AutoEscape(block) => is_whole(&block.node().enabled),
+        Stmt::FilterBlock(block) => is_chain_of_filters(&block.node().filter),
+        Stmt::Continue(_) => in_loop,
+        Stmt::Break(_) => in_loop,
+        Stmt::Do(statement) => is_call(statement.node().call.node()),
     }
 }
 
+fn has_head<V: TemplateValue>(repeated: &ForLoop<'_, V>) -> bool
+    ensures { result ≡ (tests.is_target (expr_tree V.contents repeated.now.target)
+        && (tests.is_whole (expr_tree V.contents repeated.now.iter)
+        && tests.is_whole_if_any (optional_of V.contents repeated.now.filter_expr))) }
+{
+    is_target(&repeated.target)
+        && is_whole(&repeated.iter)
+        && is_whole_if_any(&repeated.filter_expr)
+}
+
+fn is_call<V: TemplateValue>(call: &Call<'_, V>) -> bool
+    ensures { result ≡ (tests.is_whole (expr_tree V.contents call.now.expr)
+        && tests.takes_arguments (args_of V.contents call.now.args.items)) }
+{
+    is_whole(&call.expr) && are_arguments(&call.args)
+}
+
+fn are_assignments<V: TemplateValue>(assignments: &[(Expr<'_, V>, Expr<'_, V>)]) -> bool
+    ensures { result ≡ tests.are_assignments (assignments_of V.contents assignments.now) }
+{
+    for (target, value) in assignments {
+        if !(is_target(target) && is_whole(value)) {
+            return false;
+        }
+    }
+    true
+}
+
 fn is_target<V: TemplateValue>(expr: &Expr<'_, V>) -> bool
+    ensures { result ≡ tests.is_target (expr_tree V.contents expr.now) }
+{
+    match list_of(expr) {
+        Some(list) => are_targets(list),
+        None => is_name(expr),
+    }
+}
+
+/// The expression, if it is a list.
+fn list_of<'a, 's, V: TemplateValue>(expr: &'a Expr<'s, V>) -> Option<&'a List<'s, V>>
+    ensures items { option_map (λ l. exprs_of V.contents l.now.items.items) result ≡ tests.items_of
+        (expr_tree V.contents expr.now) }
+    ensures smaller { IfSome result (λ l. list_size l.now < size_of expr.now) }
+{
+    match expr {
+        Expr::List(list) => Some(list.node()),
+        Expr::Var(_) => None,
+        Expr::Const(_) => None,
+        Expr::Slice(_) => None,
+        Expr::UnaryOp(_) => None,
+        Expr::BinOp(_) => None,
+        Expr::Compare(_) => None,
+        Expr::IfExpr(_) => None,
+        Expr::Filter(_) => None,
+        Expr::Test(_) => None,
+        Expr::GetAttr(_) => None,
+        Expr::GetItem(_) => None,
+        Expr::Call(_) => None,
+        Expr::Tuple(_) => None,
+        Expr::Map(_) => None,
+    }
+}
+
+/// Whether it is a target that is no list.
+fn is_name<V: TemplateValue>(expr: &Expr<'_, V>) -> bool
     ensures { result ≡ tests.is_name (expr_tree V.contents expr.now) }
 {
-    matches!(expr, Expr::Var(_))
+    match expr {
+        Expr::Var(_) => true,
+        Expr::GetAttr(attribute) => is_whole(&attribute.node().expr),
+        _ => false,
+    }
+}
+
+/// Goes down the last list in a loop, so that lists which hold one list each take no more stack than one of them.
+#[cycle(targets)]
+fn are_targets<V: TemplateValue>(list: &List<'_, V>) -> bool
+    ensures { result ≡ tests.are_targets (exprs_of V.contents list.now.items.items) }
+{
+    let mut rest = Rest::List(list);
+    while let Rest::List(list) = rest {
+        rest = last_list(list);
+    }
+    matches!(rest, Rest::Over)
+}
+
+/// What is left to look at of the items of a list.
+#[derive(Drop)]
+enum Rest<'a, 's, V: TemplateValue> {
+    /// Nothing, since one of them is no target.
+    Refused,
+    /// Nothing, since all are targets.
+    Over,
+    /// The last list among them; the others are targets.
+    List(&'a List<'s, V>),
+}
+
+/// Looks at all items but for the last list.
+#[cycle(targets)]
+fn last_list<'a, 's, V: TemplateValue>(list: &'a List<'s, V>) -> Rest<'a, 's, V>
+    ensures decides { rest_decides V.contents result ≡ tests.are_targets
+        (exprs_of V.contents list.now.items.items) }
+    ensures smaller { rest_size result ≤ list_size list.now }
+{
+    let mut last = None;
+    for expr in &list.items {
+        let Some(items) = list_of(expr) else {
+            if !is_name(expr) {
+                return Rest::Refused;
+            }
+            continue;
+        };
+        if !are_targets_if_any(last) {
+            return Rest::Refused;
+        }
+        last = Some(items);
+    }
+    match last {
+        Some(list) => Rest::List(list),
+        None => Rest::Over,
+    }
+}
+
+#[cycle(targets)]
+fn are_targets_if_any<V: TemplateValue>(list: Option<&List<'_, V>>) -> bool
+    ensures { result ≡ are_targets_if_some V.contents list.entry }
+{
+    match list {
+        Some(list) => are_targets(list),
+        None => true,
+    }
+}
+
+fn is_chain_if_any<V: TemplateValue>(chain: &Option<Expr<'_, V>>) -> bool
+    ensures { result ≡ tests.is_chain_if_any (optional_of V.contents chain.now) }
+{
+    match chain {
+        Some(chain) => is_chain_of_filters(chain),
+        None => true,
+    }
+}
+
+/// Whether it is filters alone, of which the innermost has no operand.
+fn is_chain_of_filters<V: TemplateValue>(expr: &Expr<'_, V>) -> bool
+    ensures { result ≡ tests.is_chain_of_filters (expr_tree V.contents expr.now) }
+{
+    let mut rest = Some(expr);
+    while let Some(part) = rest {
+        let Some(filter) = filter_of(part) else {
+            return false;
+        };
+        if !are_arguments(&filter.args) {
+            return false;
+        }
+        rest = filter.expr.as_ref();
+    }
+    true
+}
+
+/// The expression, if it is a filter.
+fn filter_of<'a, 's, V: TemplateValue>(expr: &'a Expr<'s, V>) -> Option<&'a Filter<'s, V>>
+    ensures filter { option_map (λ f. filter_tree V.contents f.now) result ≡ only_filter
+        (expr_tree V.contents expr.now) }
+    ensures smaller { IfSome result
+        (λ f. IfSome f.now.expr (λ e. size_of e < size_of expr.now)) }
+{
+    match expr {
+        Expr::Filter(filter) => Some(filter.node()),
+        Expr::Var(_) => None,
+        Expr::Const(_) => None,
+        Expr::Slice(_) => None,
+        Expr::UnaryOp(_) => None,
+        Expr::BinOp(_) => None,
+        Expr::Compare(_) => None,
+        Expr::IfExpr(_) => None,
+        Expr::Test(_) => None,
+        Expr::GetAttr(_) => None,
+        Expr::GetItem(_) => None,
+        Expr::Call(_) => None,
+        Expr::List(_) => None,
+        Expr::Tuple(_) => None,
+        Expr::Map(_) => None,
+    }
 }
 
 /// Goes down the long side in a loop, so that a row of operators, calls or else parts takes no more stack than one of them.

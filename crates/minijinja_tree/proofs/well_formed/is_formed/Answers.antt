@@ -1,7 +1,7 @@
-use Rattle.std.proofs.Common.{map, sym, ap, ◌∙◌}
+use Rattle.std.proofs.Common.{false, map, sym, ap, ◌∙◌}
 use Rattle.minijinja_tree.specs.Erasure.{stmt_tree}
 use Rattle.minijinja_tree.specs.Tree.{template, stmts_of}
-use Rattle.minijinja_tree.specs.private.WellFormedTests.{is_simple_tree, are_simple}
+use Rattle.minijinja_tree.specs.private.WellFormedTests.{is_well_formed, are_inner}
 use Rattle.minijinja_tree.proofs.Rows.{template_is}
 use Rattle.minijinja_tree.proofs.well_formed.is_formed.Goals as goal
 
@@ -9,7 +9,7 @@ pub returns-in-Template : goal.returns-in-Template
 returns-in-Template g c =
     let v = g.V.TemplateValue.contents in
     c.are_inner.ensures
-    ∙ ap (λ xs. are_simple (stmts_of (map (stmt_tree v) xs))) c.deref.ensures.value
-    ∙ ap (λ n. is_simple_tree (template (stmts_of (map (stmt_tree v) n.children.items)))) c.node.ensures
-    ∙ ap is_simple_tree (sym (template_is v c.in-Template.template))
-    ∙ ap (λ s. is_simple_tree (stmt_tree v s)) (sym c.in-Template.is)
+    ∙ ap (λ xs. are_inner false (stmts_of (map (stmt_tree v) xs))) c.deref.ensures.value
+    ∙ ap (λ n. is_well_formed (template (stmts_of (map (stmt_tree v) n.children.items)))) c.node.ensures
+    ∙ ap is_well_formed (sym (template_is v c.in-Template.template))
+    ∙ ap (λ s. is_well_formed (stmt_tree v s)) (sym c.in-Template.is)

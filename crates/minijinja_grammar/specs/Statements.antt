@@ -1,0 +1,314 @@
+-- The grammar of statements, over that of expressions.
+use Rattle.std.specs.Prelude.{ℕ, zero, suc, List, [], ◌∷◌, ◌++◌, Bool, true, false, ◌||◌, if◌then◌else◌, Option, Some, None, codes}
+use Rattle.std.specs.Option.{option_map}
+use Rattle.minijinja_syntax.specs.Texts.{Text}
+use Rattle.minijinja_value.specs.Values.{Functions}
+use Rattle.minijinja_syntax.specs.Tokens.{Tok, ident, template_data, variable_start, variable_end, block_start, block_end, assign, comma, pipe, paren_open, paren_close}
+use Rattle.minijinja_syntax.specs.declared.tokens.Span.{Span}
+use Rattle.minijinja_tree.specs.SpannedTrees.{Expr, Args, call, filter, tuple, absent, present, optional_of, exprs_of, args_of, Stmt, template, data_text, output, assignment, for_loop, if_cond, with_block, set_block, auto_escape, filter_block, do_call, break_loop, continue_loop, stmts_of}
+use Rattle.minijinja_grammar.specs.Words.{is, in_word, if_word, else_word, elif_word, recursive_word, endfor_word, endif_word, endwith_word, endset_word, endautoescape_word, endfilter_word, Keyword, for_keyword, if_keyword, with_keyword, set_keyword, autoescape_keyword, filter_keyword, do_keyword, break_keyword, continue_keyword, keyword_of}
+use Rattle.minijinja_syntax.specs.Streams.{SpannedTok}
+use Rattle.minijinja_grammar.specs.Forms.{Form, Turn, go_on, over, pure, nothing, one, start, last, many, either, ◌>>=◌, ◌>>◌}
+use Rattle.minijinja_grammar.specs.Grammar.{next, of_kind, span_of_mark, when, spanned, behind, ident_and_span, exprs, maybe_args, name, expanded, expr_at, primary_at, or_level, max_depth}
+use Rattle.minijinja_grammar.specs.Targets.{named_target, any_targets}
+
+-- ---- words
+
+-- the statement that a word begins, and where the word stands
+abbrev pub keyword_and_span : SpannedTok → Option (Keyword × Span)
+keyword_and_span (ident x, s) = option_map (λ k. (k, s)) (keyword_of x)
+keyword_and_span _ = None
+
+-- ---- bodies
+
+-- what a body may end at: the words that may follow its last `{%`; a template's own goes on to the end of the text
+pub data Ends : Type 0 where
+  at_end_of_text at_endfor_or_else at_endfor at_endif_else_or_elif at_endif at_endwith at_endset at_endautoescape at_endfilter : Ends
+
+abbrev pub ends_body : Ends → Tok → Bool
+ends_body at_end_of_text t = false
+ends_body at_endfor_or_else t = is endfor_word t || is else_word t
+ends_body at_endfor t = is endfor_word t
+ends_body at_endif_else_or_elif t = is endif_word t || is else_word t || is elif_word t
+ends_body at_endif t = is endif_word t
+ends_body at_endwith t = is endwith_word t
+ends_body at_endset t = is endset_word t
+ends_body at_endautoescape t = is endautoescape_word t
+ends_body at_endfilter t = is endfilter_word t
+
+abbrev pub begins_part : Tok → Bool
+begins_part (template_data t) = true
+begins_part variable_start = true
+begins_part block_start = true
+begins_part _ = false
+
+-- an output, after its start: it ends before the end of its tag
+unfoldable pub shown : {C : Type 0} → Form (Expr C) → Span → Form (Stmt C)
+shown expr from = do
+  e ← expr
+  s ← spanned from (output e)
+  next variable_end
+  pure s
+
+-- a statement and the end of its tag, after the start of it
+unfoldable pub tag : {C : Type 0} → Form (Stmt C) → Form (Stmt C)
+tag stmt = do
+  s ← stmt
+  next block_end
+  pure s
+
+-- one part more
+abbrev pub also_part : {C : Type 0} → List (Stmt C) → Form (Stmt C) → Form (Turn (List (Stmt C)))
+also_part ss f = f >>= (λ s. pure (go_on (ss ++ s ∷ [])))
+
+-- Data | {{ Expr }} | {% Stmt %}, from its first token on, or the {% of the word that the body ends at
+abbrev pub part : {C : Type 0} → Form (Expr C) → Form (Stmt C) → Ends → List (Stmt C) → SpannedTok → Form (Turn (List (Stmt C)))
+part expr stmt ends ss (template_data t, s) = pure (go_on (ss ++ data_text t s ∷ []))
+part expr stmt ends ss (variable_start, s) = also_part ss (shown expr s)
+part expr stmt ends ss (block_start, s) = either (ends_body ends) (pure (over ss)) (also_part ss (tag stmt))
+part expr stmt ends ss _ = nothing
+
+-- Body w = { Data | {{ Expr }} | {% Stmt %} } up to the first {% whose next token is a word of w
+unfoldable pub body : {C : Type 0} → Form (Expr C) → Form (Stmt C) → Ends → Form (List (Stmt C))
+body expr stmt ends = many (of_kind begins_part) (part expr stmt ends) []
+
+-- ---- statements
+
+-- Expr [ , [ Expr { , Expr } [,] ] ]: with a comma a tuple, which begins after that comma
+unfoldable pub value : {C : Type 0} → Form (Expr C) → Form (Expr C)
+value expr = do
+  e ← expr
+  behind comma
+      (do
+        from ← start
+        es ← exprs expr (e ∷ [])
+        spanned from (tuple (exprs_of es)))
+      (pure e)
+
+-- Name [Args], on an operand that is absent at the start of a chain
+unfoldable pub chained : {C : Type 0} → Form (Expr C) → Option (Expr C) → Form (Expr C)
+chained expr e = do
+  from ← start
+  x ← name
+  xs ← maybe_args expr
+  spanned from (filter (optional_of e) x (args_of xs))
+
+-- Chain = Name [Args] { | Name [Args] }
+unfoldable pub chain : {C : Type 0} → Form (Expr C) → Form (Expr C)
+chain expr = do
+  e ← chained expr None
+  many (span_of_mark pipe) (λ e _. chained expr (Some e) >>= (λ x. pure (go_on x))) e
+
+-- ( Targets ) | Ident
+unfoldable pub bound_target : {C : Type 0} → Form (Expr C)
+bound_target = behind paren_open
+    (do
+      t ← any_targets false
+      next paren_close
+      pure t)
+    (named_target false)
+
+-- With = ( ( Targets ) | Ident ) = Expr
+unfoldable pub binding : {C : Type 0} → Form (Expr C) → Form (Expr C × Expr C)
+binding expr = do
+  t ← bound_target
+  next assign
+  e ← expr
+  pure (t, e)
+
+-- [ With { , With } ]
+unfoldable pub bindings : {C : Type 0} → Form (Expr C) → Form (List (Expr C × Expr C))
+bindings expr = either (is block_end) (pure [])
+    (binding expr >>= (λ b. many (span_of_mark comma) (λ bs _. binding expr >>= (λ c. pure (go_on (bs ++ c ∷ [])))) (b ∷ [])))
+
+-- ["if" Expr], the test that the items of a loop have to pass
+unfoldable pub loop_filter : {C : Type 0} → Form (Expr C) → Form (Option (Expr C))
+loop_filter expr = behind if_word (expr >>= (λ e. pure (Some e))) (pure None)
+
+-- [ | Chain ]
+unfoldable pub filters_if_any : {C : Type 0} → Form (Expr C) → Form (Option (Expr C))
+filters_if_any chain' = behind pipe (chain' >>= (λ e. pure (Some e))) (pure None)
+
+-- = Expr [ , [ Expr { , Expr } [,] ] ], after the targets of a `set`
+unfoldable pub rest_of_set : {C : Type 0} → Form (Expr C) → Span → Expr C → Form (Stmt C)
+rest_of_set value' from t = do
+  next assign
+  v ← value'
+  spanned from (assignment t v)
+
+-- a branch of an `if`: where it begins, its test and its body
+pub record Branch (C : Type 0) : Type 0 where
+  pub from : Span
+  pub test : Expr C
+  pub body : List (Stmt C)
+
+-- a branch and what stands where its test fails, up to the end of the token taken last
+abbrev pub if_of : {C : Type 0} → Span → Branch C → List (Stmt C) → Stmt C
+if_of to b other = if_cond b.test (stmts_of b.body) (stmts_of other) (expanded b.from to)
+
+-- the first branch, the others, the last of them first, and the else body: each of the others is all of the false body before it
+abbrev pub chosen : {C : Type 0} → Span → Branch C → List (Branch C) → List (Stmt C) → Stmt C
+chosen to b [] other = if_of to b other
+chosen to b (c ∷ cs) other = chosen to b cs (if_of to c other ∷ [])
+
+-- a call: what is called, the arguments, and where the call stands
+abbrev pub call_of : {C : Type 0} → Expr C → Option (Expr C × Args C × Span)
+call_of (call e xs s) = Some (e, xs, s)
+call_of _ = None
+
+-- `do` wants a call
+abbrev pub done : {C : Type 0} → Span → Option (Expr C × Args C × Span) → Form (Stmt C)
+done from None = nothing
+done from (Some c) = spanned from (do_call c.0 c.1 c.2)
+
+-- "do" Expr
+unfoldable pub do_stmt : {C : Type 0} → Form (Expr C) → Span → Form (Stmt C)
+do_stmt expr from = expr >>= (λ e. done from (call_of e))
+
+-- what follows the targets of a set block: the end of its tag, or filters
+abbrev pub begins_set_block : Tok → Bool
+begins_set_block t = is block_end t || is pipe t
+
+-- What statements are made of: expressions, those that no `if` part ends, values that may be tuples, chains of filters, bodies,
+-- and the bodies of loops.
+pub record Parts (C : Type 0) : Type 1 where
+  pub expr : Form (Expr C)
+  pub or : Form (Expr C)
+  pub value : Form (Expr C)
+  pub chain : Form (Expr C)
+  pub body : Ends → Form (List (Stmt C))
+  pub loop_body : Ends → Form (List (Stmt C))
+
+module _ {C : Type 0} (p : Parts C) where
+  -- %} Body w, and the word w
+  unfoldable pub closed_body : Ends → Tok → Form (List (Stmt C))
+  closed_body ends word = do
+    next block_end
+    ss ← p.body ends
+    next word
+    pure ss
+
+  -- [ "else" %} Body w ], and the word w
+  unfoldable pub else_body : Ends → Tok → Form (List (Stmt C))
+  else_body ends word = behind else_word (closed_body ends word) (next word >> pure [])
+
+  -- %} Body, of a loop
+  unfoldable pub loop_body : Form (List (Stmt C))
+  loop_body = next block_end >> p.loop_body at_endfor_or_else
+
+  -- "for" Targets "in" Or ["if" Expr] ["recursive"] %} Body [ "else" %} Body ] "endfor"
+  unfoldable pub for_stmt : Span → Form (Stmt C)
+  for_stmt from = do
+    t ← any_targets false
+    next in_word
+    e ← p.or
+    only ← loop_filter p.expr
+    again ← behind recursive_word (pure true) (pure false)
+    ss ← loop_body
+    other ← else_body at_endfor endfor_word
+    spanned from (for_loop t e (optional_of only) again (stmts_of ss) (stmts_of other))
+
+  -- Or %} Body, after the `if` or `elif` at the span
+  unfoldable pub branch : Span → Form (Branch C)
+  branch from = do
+    e ← p.or
+    next block_end
+    ss ← p.body at_endif_else_or_elif
+    pure (record { from = from; test = e; body = ss })
+
+  abbrev pub branch_turn : List (Branch C) → Span → Form (Turn (List (Branch C)))
+  branch_turn bs from = branch from >>= (λ b. pure (go_on (b ∷ bs)))
+
+  -- { "elif" Or %} Body }, the last of them first
+  unfoldable pub others : List (Branch C) → Form (List (Branch C))
+  others = many (span_of_mark elif_word) branch_turn
+
+  -- If = Or %} Body { "elif" Or %} Body } [ "else" %} Body ] "endif"
+  unfoldable pub if_stmt : Span → Form (Stmt C)
+  if_stmt from = do
+    b ← branch from
+    bs ← others []
+    other ← else_body at_endif endif_word
+    to ← last
+    pure (chosen to b bs other)
+
+  -- "with" [ With { , With } ] %} Body "endwith"
+  unfoldable pub with_stmt : Span → Form (Stmt C)
+  with_stmt from = do
+    bs ← bindings p.expr
+    ss ← closed_body at_endwith endwith_word
+    spanned from (with_block bs (stmts_of ss))
+
+  -- [ | Chain ] %} Body "endset", after the targets
+  unfoldable pub rest_of_set_block : Span → Expr C → Form (Stmt C)
+  rest_of_set_block from t = do
+    e ← filters_if_any p.chain
+    ss ← closed_body at_endset endset_word
+    spanned from (set_block t (optional_of e) (stmts_of ss))
+
+  -- "set" Targets, and a block or a value
+  unfoldable pub set_stmt : Span → Form (Stmt C)
+  set_stmt from = do
+    t ← any_targets true
+    either begins_set_block (rest_of_set_block from t) (rest_of_set p.value from t)
+
+  -- "autoescape" Expr %} Body "endautoescape"
+  unfoldable pub autoescape_stmt : Span → Form (Stmt C)
+  autoescape_stmt from = do
+    e ← p.expr
+    ss ← closed_body at_endautoescape endautoescape_word
+    spanned from (auto_escape e (stmts_of ss))
+
+  -- "filter" Chain %} Body "endfilter"
+  unfoldable pub filter_stmt : Span → Form (Stmt C)
+  filter_stmt from = do
+    e ← p.chain
+    ss ← closed_body at_endfilter endfilter_word
+    spanned from (filter_block e (stmts_of ss))
+
+-- ---- in their context
+
+-- where a statement stands
+pub record Context : Type 0 where
+  pub in_loop : Bool
+
+abbrev pub outside : Context
+outside = record { in_loop = false }
+
+abbrev pub inside_loop : Context → Context
+inside_loop c = record c { in_loop = true }
+
+unfoldable pub break_stmt : {C : Type 0} → Context → Span → Form (Stmt C)
+break_stmt c from = when c.in_loop (spanned from break_loop)
+
+unfoldable pub continue_stmt : {C : Type 0} → Context → Span → Form (Stmt C)
+continue_stmt c from = when c.in_loop (spanned from continue_loop)
+
+-- Stmt, after its first word
+abbrev pub stmt_of : {C : Type 0} → Context → Parts C → Keyword × Span → Form (Stmt C)
+stmt_of c p (for_keyword, from) = for_stmt p from
+stmt_of c p (if_keyword, from) = if_stmt p from
+stmt_of c p (with_keyword, from) = with_stmt p from
+stmt_of c p (set_keyword, from) = set_stmt p from
+stmt_of c p (autoescape_keyword, from) = autoescape_stmt p from
+stmt_of c p (filter_keyword, from) = filter_stmt p from
+stmt_of c p (do_keyword, from) = do_stmt p.expr from
+stmt_of c p (break_keyword, from) = break_stmt c from
+stmt_of c p (continue_keyword, from) = continue_stmt c from
+
+-- the level of expressions that takes no `if` part, with so much depth left for what nests in it
+abbrev pub or_at : {C F : Type 0} → Functions C F → ℕ → Form (Expr C)
+or_at f d = or_level f (expr_at f d) (primary_at f d)
+
+-- the parts of statements of such expressions, in which such statements nest, and such in the body of a loop
+abbrev pub parts_of : {C : Type 0} → (expr or : Form (Expr C)) → (nested in_loop : Form (Stmt C)) → Parts C
+parts_of expr or nested in_loop = record { expr = expr; or = or; value = value expr; chain = chain expr; body = body expr nested; loop_body = body expr in_loop }
+
+-- each nested Stmt counts 1
+unfoldable pub stmt_at : {C F : Type 0} → Functions C F → Context → ℕ → Form (Stmt C)
+stmt_at f c zero = nothing
+stmt_at f c (suc d) = one keyword_and_span >>= stmt_of c (parts_of (expr_at f d) (or_at f d) (stmt_at f c d) (stmt_at f (inside_loop c) d))
+
+-- the parts of a statement in which statements and expressions nest so deep at most
+abbrev pub parts_at : {C F : Type 0} → Functions C F → Context → ℕ → Parts C
+parts_at f c d = parts_of (expr_at f d) (or_at f d) (stmt_at f c d) (stmt_at f (inside_loop c) d)

@@ -1,0 +1,72 @@
+-- The grammar of what may be assigned to.
+use Rattle.std.specs.Prelude.{ℕ, zero, suc, ◌^◌, List, [], ◌∷◌, ◌++◌, Bool, true, false, ◌||◌, if◌then◌else◌, Option, Some, None, codes}
+use Rattle.std.specs.Str.{bytes_eq}
+use Rattle.minijinja_syntax.specs.Texts.{Text}
+use Rattle.minijinja_syntax.specs.Tokens.{Tok, ident, comma, dot, paren_open, paren_close, block_end}
+use Rattle.minijinja_syntax.specs.declared.tokens.Span.{Span}
+use Rattle.minijinja_tree.specs.SpannedTrees.{Expr, variable, attribute, list, exprs_of}
+use Rattle.minijinja_grammar.specs.Words.{is, is_reserved, in_word}
+use Rattle.minijinja_syntax.specs.Streams.{SpannedTok}
+use Rattle.minijinja_grammar.specs.Forms.{Form, Turn, go_on, over, pure, nothing, one, start, many, either, ◌>>=◌, ◌>>◌}
+use Rattle.minijinja_grammar.specs.Grammar.{next, span_of_mark, ident_and_span, spanned, behind}
+
+-- an identifier that is neither `in` nor reserved
+abbrev pub target_word : SpannedTok → Option (Text × Span)
+target_word (ident x, s) = if bytes_eq x (codes "in") || is_reserved x then None else Some (x, s)
+target_word _ = None
+
+-- . Ident, after a target so far: an attribute, which stands where its name does
+unfoldable pub target_part : {C : Type 0} → Expr C → Span → Form (Turn (Expr C))
+target_part e at = do
+  x ← one ident_and_span
+  pure (go_on (attribute e x.0 x.1))
+
+-- { . Ident }, after a target
+unfoldable pub attributes : {C : Type 0} → Expr C → Form (Expr C)
+attributes = many (span_of_mark dot) target_part
+
+-- likewise, where dots may follow
+abbrev pub target_parts : {C : Type 0} → Bool → Expr C → Form (Expr C)
+target_parts false e = pure e
+target_parts true e = attributes e
+
+-- Ident { . Ident }, with the dots in `set` alone
+unfoldable pub named_target : {C : Type 0} → Bool → Form (Expr C)
+named_target dotted = do
+  x ← one target_word
+  target_parts dotted (variable x.0 x.1)
+
+-- what ends targets: `)`, `%}` or `in`
+abbrev pub ends_targets : Tok → Bool
+ends_targets t = is paren_close t || is block_end t || is in_word t
+
+module _ {C : Type 0} (target : Form (Expr C)) where
+  -- the target after a comma, unless that was the last one
+  unfoldable pub next_target : List (Expr C) → Span → Form (Turn (List (Expr C)))
+  next_target ts at = either ends_targets (pure (over ts)) (target >>= (λ t. pure (go_on (ts ++ t ∷ []))))
+
+  -- Targets = [ Target { , Target } [,] ]: one without a comma is itself, else they are a list
+  unfoldable pub targets : Form (Expr C)
+  targets = do
+    from ← start
+    either ends_targets (spanned from (list (exprs_of [])))
+        (target >>= (λ t. either (is comma)
+        (many (span_of_mark comma) next_target (t ∷ []) >>= (λ ts. spanned from (list (exprs_of ts))))
+        (pure t)))
+
+-- Target = ( Targets ) | Ident { . Ident }, in so many parentheses at most
+unfoldable pub target_in : {C : Type 0} → Bool → ℕ → Form (Expr C)
+target_in dotted zero = named_target dotted
+target_in dotted (suc n) = behind paren_open
+    (do
+      t ← targets (target_in dotted n)
+      next paren_close
+      pure t)
+    (named_target dotted)
+
+-- More parentheses than a source has bytes: they are not counted.
+abbrev pub most_parentheses : ℕ
+most_parentheses = 2 ^ 32
+
+unfoldable pub any_targets : {C : Type 0} → Bool → Form (Expr C)
+any_targets dotted = targets (target_in dotted most_parentheses)
