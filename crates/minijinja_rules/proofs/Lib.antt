@@ -10,3 +10,4 @@ pub mod Repeated
 pub mod Climbed
 pub mod Compared
 pub mod Ifs
+pub mod FilterChains

@@ -46,7 +46,8 @@ pub enum Node<N, E, A, K> {
     Compare(E, Vec<K>),
     /// The test, the true part and the false part.
     IfExpr(E, E, Option<E>),
-    Filter(N, E, Vec<A>),
+    /// The operand, which the innermost filter of a set or filter block lacks.
+    Filter(N, Option<E>, Vec<A>),
     Test(N, E, Vec<A>),
     Call(E, Vec<A>),
     List(Vec<E>),

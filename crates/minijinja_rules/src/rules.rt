@@ -17,6 +17,7 @@ pub mod conditions;
 mod literals;
 mod operands;
 mod operators;
+pub mod statement_parts;
 mod suffixes;
 mod wrapping;
 

@@ -4,11 +4,12 @@ use Rattle.std.specs.Option.{option_map}
 use Rattle.minijinja_syntax.specs.Texts.{Text}
 use Rattle.minijinja_syntax.specs.Tokens.{Tok, ident}
 use Rattle.minijinja_syntax.specs.declared.tokens.Span.{Span}
-use Rattle.minijinja_grammar.specs.Words.{is}
+use Rattle.minijinja_grammar.specs.Words.{is, keyword_of}
 use Rattle.minijinja_syntax.specs.Streams.{SpannedTok}
 use Rattle.minijinja_grammar.specs.Forms.{Place, one, comes, after, Read, got, short, wrong, read_then, held_or_wrong, read_one, reads}
 use Rattle.minijinja_grammar.specs.Grammar.{next, ident_and_span, span_of_mark}
 use Rattle.minijinja_stream.specs.private.Reads.{eaten, next_ident, skipped}
+use Rattle.minijinja_grammar.specs.Statements.{keyword_and_span}
 
 pub one_is : {A : Type 0} (held : SpannedTok → Option A) (p : Place) → reads (one held) p ≡ read_then (reads (one Some) p) (λ t q. held_or_wrong (held t) q)
 unfolding reads
@@ -55,5 +56,21 @@ ident_is p = go p.tokens
     at_token _ s q = refl
 
     go : (ts : List SpannedTok) → read_one ident_and_span p ts ≡ read_then (read_one (λ t. Some t.1) p ts) (λ s q. named (next_ident ts) s q)
+    go [] = refl
+    go (t ∷ ts) = at_token t.0 t.1 (after p t ts)
+
+-- the word of a statement, by the identifier taken
+pub keyword_is : (p : Place) → reads (one keyword_and_span) p ≡
+    read_then (reads (one ident_and_span) p) (λ x q. held_or_wrong (option_map (λ k. (k, x.1)) (keyword_of x.0)) q)
+unfolding reads
+keyword_is p = go p.tokens
+  where
+    at_token : (t : Tok) (s : Span) (q : Place) → held_or_wrong (keyword_and_span (t, s)) q ≡
+        read_then (held_or_wrong (ident_and_span (t, s)) q) (λ x r. held_or_wrong (option_map (λ k. (k, x.1)) (keyword_of x.0)) r)
+    at_token (ident x) s q = refl
+    at_token _ s q = refl
+
+    go : (ts : List SpannedTok) → read_one keyword_and_span p ts ≡
+        read_then (read_one ident_and_span p ts) (λ x q. held_or_wrong (option_map (λ k. (k, x.1)) (keyword_of x.0)) q)
     go [] = refl
     go (t ∷ ts) = at_token t.0 t.1 (after p t ts)

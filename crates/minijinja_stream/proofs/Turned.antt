@@ -92,3 +92,17 @@ eaten_shorter m p q e = go (comes (is m) p.tokens) (reads (next m) p) refl e
     go true (short r) i k = cc
     go true (wrong r) i k = cc
     go false o i k = let j : (p ≡ q) × (false ≡ true) = same_read _ _ _ _ k in cc
+
+-- whether a token comes, which is taken
+pub flag_is : (m : Tok) (p : Place) → reads (behind m (pure true) (pure false)) p ≡ eaten m p
+unfolding reads
+flag_is m p = behind_is m (pure true) (pure false) p ∙ go (eaten m p)
+  where
+    chosen : (b : Bool) (q : Place) → (if b then got true q else got false q) ≡ got b q
+    chosen true q = refl
+    chosen false q = refl
+
+    go : (o : Read Bool) → read_then o (λ b q. if b then got true q else got false q) ≡ o
+    go (got b q) = chosen b q
+    go (short q) = refl
+    go (wrong q) = refl

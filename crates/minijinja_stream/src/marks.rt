@@ -3,8 +3,9 @@ ghost use Rattle.std.specs.Prelude.{◌≡◌};
 ghost use Rattle.std.specs.Option.{option_map};
 ghost use Rattle.minijinja_syntax.specs.Tokens.{tok_of};
 ghost use Rattle.minijinja_tree.specs.Erasure.{compare_op};
-ghost use Rattle.minijinja_stream.specs.private.Marks.{begins, mark_tok};
-ghost use Rattle.minijinja_grammar.specs.Templates as templates;
+ghost use Rattle.minijinja_stream.specs.private.Marks.{begins, ends_view, mark_tok};
+ghost use Rattle.minijinja_grammar.specs.Statements as statements;
+ghost use Rattle.minijinja_grammar.specs.Targets as targets;
 ghost use Rattle.minijinja_grammar.specs.Words as words;
 ghost use Rattle.minijinja_stream.specs.declared.marks.Part.TheVariants.{Text as TextPart};
 
@@ -16,7 +17,15 @@ use minijinja_tree::ast::CompareOpKind;
 #[derive(Clone, Copy)]
 pub enum Mark {
     If,
+    Elif,
     Else,
+    Recursive,
+    EndFor,
+    EndIf,
+    EndWith,
+    EndSet,
+    EndAutoEscape,
+    EndFilter,
     Not,
     In,
     Is,
@@ -49,6 +58,26 @@ pub enum Part {
     Bare,
     Text,
     Template,
+    /// What follows the targets of a `set` block.
+    SetBlock,
+    /// What ends targets.
+    TargetsEnd,
+    /// What ends such a body.
+    BodyEnd(Ends),
+}
+
+/// What a body may end at: the words that may follow its last `{%`. A template's own goes on to the end of the text.
+#[derive(Clone, Copy)]
+pub enum Ends {
+    Text,
+    EndForOrElse,
+    EndFor,
+    EndIfElseOrElif,
+    EndIf,
+    EndWith,
+    EndSet,
+    EndAutoEscape,
+    EndFilter,
 }
 
 /// Whether the token is that word.
@@ -63,6 +92,15 @@ pub fn expected(mark: Mark) -> Expected {
     match mark {
         Mark::If => Expected::If,
         Mark::Else => Expected::Else,
+        // These come where a body ends, in a tag.
+        Mark::Elif
+        | Mark::Recursive
+        | Mark::EndFor
+        | Mark::EndIf
+        | Mark::EndWith
+        | Mark::EndSet
+        | Mark::EndAutoEscape
+        | Mark::EndFilter => Expected::BlockKeyword,
         Mark::Not => Expected::Not,
         Mark::In => Expected::In,
         Mark::Is => Expected::Is,
@@ -92,7 +130,15 @@ pub fn is_mark(token: &Token<'_>, mark: Mark) -> bool
 {
     match mark {
         Mark::If => is_word(token, "if"),
+        Mark::Elif => is_word(token, "elif"),
         Mark::Else => is_word(token, "else"),
+        Mark::Recursive => is_word(token, "recursive"),
+        Mark::EndFor => is_word(token, "endfor"),
+        Mark::EndIf => is_word(token, "endif"),
+        Mark::EndWith => is_word(token, "endwith"),
+        Mark::EndSet => is_word(token, "endset"),
+        Mark::EndAutoEscape => is_word(token, "endautoescape"),
+        Mark::EndFilter => is_word(token, "endfilter"),
         Mark::Not => is_word(token, "not"),
         Mark::In => is_word(token, "in"),
         Mark::Is => is_word(token, "is"),
@@ -208,12 +254,43 @@ fn is_text(token: &Token<'_>) -> bool
 }
 
 fn begins_template_part(token: &Token<'_>) -> bool
-    ensures { result ≡ templates.begins_part (tok_of token.now) }
+    ensures { result ≡ statements.begins_part (tok_of token.now) }
 {
     matches!(
         token,
         Token::TemplateData(_) | Token::VariableStart | Token::BlockStart
     )
+}
+
+fn begins_set_block(token: &Token<'_>) -> bool
+    ensures { result ≡ statements.begins_set_block (tok_of token.now) }
+{
+    is_mark(token, Mark::BlockEnd) || is_mark(token, Mark::Pipe)
+}
+
+fn ends_targets(token: &Token<'_>) -> bool
+    ensures { result ≡ targets.ends_targets (tok_of token.now) }
+{
+    is_mark(token, Mark::ParenClose) || is_mark(token, Mark::BlockEnd) || is_mark(token, Mark::In)
+}
+
+/// Whether such a body ends at the token.
+fn ends_body(token: &Token<'_>, ends: Ends) -> bool
+    ensures { result ≡ statements.ends_body (ends_view ends) (tok_of token.now) }
+{
+    match ends {
+        Ends::Text => false,
+        Ends::EndForOrElse => is_mark(token, Mark::EndFor) || is_mark(token, Mark::Else),
+        Ends::EndFor => is_mark(token, Mark::EndFor),
+        Ends::EndIfElseOrElif => {
+            is_mark(token, Mark::EndIf) || is_mark(token, Mark::Else) || is_mark(token, Mark::Elif)
+        }
+        Ends::EndIf => is_mark(token, Mark::EndIf),
+        Ends::EndWith => is_mark(token, Mark::EndWith),
+        Ends::EndSet => is_mark(token, Mark::EndSet),
+        Ends::EndAutoEscape => is_mark(token, Mark::EndAutoEscape),
+        Ends::EndFilter => is_mark(token, Mark::EndFilter),
+    }
 }
 
 /// Whether the token begins the part.
@@ -229,5 +306,8 @@ pub fn begins_part(token: &Token<'_>, part: Part) -> bool
         Part::Bare => begins_bare(token),
         Part::Text => is_text(token),
         Part::Template => begins_template_part(token),
+        Part::SetBlock => begins_set_block(token),
+        Part::TargetsEnd => ends_targets(token),
+        Part::BodyEnd(ends) => ends_body(token, ends),
     }
 }

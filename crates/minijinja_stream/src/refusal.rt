@@ -20,6 +20,10 @@ pub enum Wanted {
     FewerArguments,
     /// A plain argument stands after a keyword argument.
     Keyword,
+    /// The word leaves or goes on with a loop, and no loop's body is round it.
+    Loop,
+    /// The expression is no call.
+    Call,
 }
 
 /// Why a rule does not read the tokens that come. It stands at the token taken last.

@@ -12,15 +12,17 @@ ghost use Rattle.minijinja_grammar.specs.Forms.{Place, comes, one, reads, start_
 ghost use Rattle.minijinja_grammar.specs.Grammar.{expanded, ident_and_span, next};
 ghost use Rattle.minijinja_grammar.specs.Words.{is};
 ghost use Rattle.minijinja_stream.specs.private.Levels.{compare_op_at, next_compare, next_operator};
-ghost use Rattle.minijinja_stream.specs.private.Marks.{begins, mark_tok};
+ghost use Rattle.minijinja_stream.specs.private.Marks.{begins, keyword_view, mark_tok};
 ghost use Rattle.minijinja_stream.specs.private.Reads.{Misfits, Reads, eaten, next_ident, skipped};
 ghost use Rattle.minijinja_stream.specs.TokenStreams.{stream_at};
+ghost use Rattle.minijinja_grammar.specs.Statements.{keyword_and_span};
 
 use crate::marks::{Mark, Part, begins_part, compare_operator, is_mark};
 use crate::operators::{Level, Operator, operator_of};
 use crate::refusal::{Refusal, Wanted};
 use crate::token_stream::TokenStream;
-use minijinja_base::error::ErrorKind;
+use crate::words::{Keyword, keyword_of};
+use minijinja_base::error::{ErrorKind, Expected};
 use minijinja_base::tokens::{Span, Token};
 use minijinja_tree::ast::CompareOpKind;
 use std::mem;
@@ -80,6 +82,11 @@ pub trait Tokens {
     /// Takes that token, if it comes next, and says whether it did.
     fn eat(&mut self, mark: Mark) -> Result<bool, Refusal>
         ensures { Reads (λ b. b) (eaten (mark_tok mark) (place self.old)) result (place self.new) };
+
+    /// Takes the word that begins a statement.
+    fn keyword(&mut self) -> Result<(Keyword, Span), Refusal>
+        ensures { Reads (λ k. (keyword_view k.0, k.1)) (reads (one keyword_and_span)
+            (place self.old)) result (place self.new) };
 
     /// Takes the operator of a comparison.
     fn compare_operator(&mut self) -> Result<CompareOpKind, Refusal>
@@ -229,6 +236,15 @@ impl<'s, 'c> Tokens for TokenStream<'s, 'c> {
         }
         self.skip(Wanted::Mark(mark))?;
         Ok(true)
+    }
+
+    #[tactic(auto, using(crate::proofs::Taking::keyword_is))]
+    fn keyword(&mut self) -> Result<(Keyword, Span), Refusal> {
+        let (word, span) = ident(self, Wanted::Part(Expected::BlockKeyword))?;
+        match keyword_of(word) {
+            Some(keyword) => Ok((keyword, span)),
+            None => Err(Refusal::Wrong(Wanted::Statement)),
+        }
     }
 
     #[tactic(auto, using(crate::proofs::Comparisons::compare_op_is))]

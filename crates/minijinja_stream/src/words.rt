@@ -1,6 +1,40 @@
 //! The words that mean something to the grammar.
 ghost use Rattle.std.specs.Prelude.{◌≡◌};
+ghost use Rattle.std.specs.Option.{option_map};
 ghost use Rattle.minijinja_grammar.specs.Words as words;
+ghost use Rattle.minijinja_stream.specs.private.Marks.{keyword_view};
+
+/// The words that begin a statement.
+#[derive(Clone, Copy)]
+pub enum Keyword {
+    For,
+    If,
+    With,
+    Set,
+    AutoEscape,
+    Filter,
+    Do,
+    Break,
+    Continue,
+}
+
+/// The statement that the word begins.
+pub fn keyword_of(word: &str) -> Option<Keyword>
+    ensures { option_map keyword_view result ≡ words.keyword_of word.now }
+{
+    match word {
+        "for" => Some(Keyword::For),
+        "if" => Some(Keyword::If),
+        "with" => Some(Keyword::With),
+        "set" => Some(Keyword::Set),
+        "autoescape" => Some(Keyword::AutoEscape),
+        "filter" => Some(Keyword::Filter),
+        "do" => Some(Keyword::Do),
+        "break" => Some(Keyword::Break),
+        "continue" => Some(Keyword::Continue),
+        _ => None,
+    }
+}
 
 /// Whether the word is the constant true.
 pub fn is_true_word(word: &str) -> bool

@@ -9,7 +9,7 @@ use Rattle.minijinja_tree.specs.CompareOps as cmp
 use Rattle.minijinja_tree.specs.CompareOps.{CompareOp}
 use Rattle.minijinja_tree.specs.Erasure.{bin_op, unary_op}
 use Rattle.minijinja_tree.specs.SpannedTrees as tree
-use Rattle.minijinja_tree.specs.SpannedTrees.{Arg, Expr, args_of, comparisons_of, exprs_of, optional_of, present, positional, starred, double_starred}
+use Rattle.minijinja_tree.specs.SpannedTrees.{Arg, Expr, args_of, comparisons_of, exprs_of, optional_of, positional, starred, double_starred}
 use Rattle.minijinja_rules.specs.declared.nodes.Argument.{Argument}
 use Rattle.minijinja_rules.specs.declared.nodes.Argument.TheVariants as argument
 use Rattle.minijinja_rules.specs.declared.nodes.Node.{Node}
@@ -29,7 +29,7 @@ node_tree text of arg compared (node.UnaryOp op e) s = tree.unary (unary_op op) 
 node_tree text of arg compared (node.BinOp op l r) s = tree.binary (bin_op op) (of l) (of r) s
 node_tree text of arg compared (node.Compare e os) s = tree.compare (of e) (comparisons_of (map compared os.items)) s
 node_tree text of arg compared (node.IfExpr t e f) s = tree.if_expr (of t) (of e) (optional_of (option_map of f)) s
-node_tree text of arg compared (node.Filter x e xs) s = tree.filter (present (of e)) (text x) (args_of (map arg xs.items)) s
+node_tree text of arg compared (node.Filter x e xs) s = tree.filter (optional_of (option_map of e)) (text x) (args_of (map arg xs.items)) s
 node_tree text of arg compared (node.Test x e xs) s = tree.test (of e) (text x) (args_of (map arg xs.items)) s
 node_tree text of arg compared (node.Call e xs) s = tree.call (of e) (args_of (map arg xs.items)) s
 node_tree text of arg compared (node.List es) s = tree.list (exprs_of (map of es.items)) s

@@ -121,7 +121,11 @@ impl<
 
     /// Expressions between commas, after those so far.
     #[tactic(auto, using(crate::proofs::Steps::exprs_more, crate::proofs::Steps::exprs_done, minijinja_stream::proofs::Turned::read_no_longer, minijinja_stream::proofs::Turned::eaten_shorter))]
-    fn exprs(&self, tokens: &mut N::Input, items: Vec<N::Expr>) -> Result<Vec<N::Expr>, Refusal>
+    pub(crate) fn exprs(
+        &self,
+        tokens: &mut N::Input,
+        items: Vec<N::Expr>,
+    ) -> Result<Vec<N::Expr>, Refusal>
         requires { Nests N.Input.place N.tree N.functions self.now.depth F.pre F.post
             self.now.expr }
         ensures { Parses N.Input.place (λ v. map N.tree v.items) (form.exprs (expr_at N.functions

@@ -64,7 +64,7 @@ impl<
         let from = tokens.current_span();
         let name = self.nodes.name(tokens)?;
         let args = self.maybe_args(tokens)?;
-        self.spanned(tokens, from, Node::Filter(name, expr, args))
+        self.spanned(tokens, from, Node::Filter(name, Some(expr), args))
     }
 
     /// A test, after the word `is`.

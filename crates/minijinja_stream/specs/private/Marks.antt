@@ -3,17 +3,30 @@
 use Rattle.std.specs.Prelude.{Bool, is_some}
 use Rattle.minijinja_syntax.specs.Tokens as tok
 use Rattle.minijinja_syntax.specs.Tokens.{Tok}
-use Rattle.minijinja_grammar.specs.Templates as templates
+use Rattle.minijinja_grammar.specs.Statements as statements
+use Rattle.minijinja_grammar.specs.Targets as targets
 use Rattle.minijinja_grammar.specs.Words as words
+use Rattle.minijinja_stream.specs.declared.marks.Ends.{Ends}
+use Rattle.minijinja_stream.specs.declared.marks.Ends.TheVariants as ends
 use Rattle.minijinja_stream.specs.declared.marks.Mark.{Mark}
 use Rattle.minijinja_stream.specs.declared.marks.Mark.TheVariants as mark
+use Rattle.minijinja_stream.specs.declared.words.Keyword.{Keyword}
+use Rattle.minijinja_stream.specs.declared.words.Keyword.TheVariants as keyword
 use Rattle.minijinja_stream.specs.declared.marks.Part.{Part}
 use Rattle.minijinja_stream.specs.declared.marks.Part.TheVariants as part
 
 -- the token
 abbrev pub mark_tok : Mark → Tok
 mark_tok mark.If = words.if_word
+mark_tok mark.Elif = words.elif_word
 mark_tok mark.Else = words.else_word
+mark_tok mark.Recursive = words.recursive_word
+mark_tok mark.EndFor = words.endfor_word
+mark_tok mark.EndIf = words.endif_word
+mark_tok mark.EndWith = words.endwith_word
+mark_tok mark.EndSet = words.endset_word
+mark_tok mark.EndAutoEscape = words.endautoescape_word
+mark_tok mark.EndFilter = words.endfilter_word
 mark_tok mark.Not = words.not_word
 mark_tok mark.In = words.in_word
 mark_tok mark.Is = words.is_word
@@ -34,6 +47,30 @@ mark_tok mark.BraceClose = tok.brace_close
 mark_tok mark.VariableEnd = tok.variable_end
 mark_tok mark.BlockEnd = tok.block_end
 
+-- the word that begins a statement
+abbrev pub keyword_view : Keyword → words.Keyword
+keyword_view keyword.For = words.for_keyword
+keyword_view keyword.If = words.if_keyword
+keyword_view keyword.With = words.with_keyword
+keyword_view keyword.Set = words.set_keyword
+keyword_view keyword.AutoEscape = words.autoescape_keyword
+keyword_view keyword.Filter = words.filter_keyword
+keyword_view keyword.Do = words.do_keyword
+keyword_view keyword.Break = words.break_keyword
+keyword_view keyword.Continue = words.continue_keyword
+
+-- what a body ends at
+abbrev pub ends_view : Ends → statements.Ends
+ends_view ends.Text = statements.at_end_of_text
+ends_view ends.EndForOrElse = statements.at_endfor_or_else
+ends_view ends.EndFor = statements.at_endfor
+ends_view ends.EndIfElseOrElif = statements.at_endif_else_or_elif
+ends_view ends.EndIf = statements.at_endif
+ends_view ends.EndWith = statements.at_endwith
+ends_view ends.EndSet = statements.at_endset
+ends_view ends.EndAutoEscape = statements.at_endautoescape
+ends_view ends.EndFilter = statements.at_endfilter
+
 -- whether the token begins the part
 abbrev pub begins : Part → Tok → Bool
 begins part.Expr = words.begins_expr
@@ -43,4 +80,7 @@ begins part.Suffix = words.begins_suffix
 begins part.Comparison = words.begins_comparison
 begins part.Bare = words.begins_bare
 begins part.Text = λ t. is_some (words.text_of t)
-begins part.Template = templates.begins_part
+begins part.Template = statements.begins_part
+begins part.SetBlock = statements.begins_set_block
+begins part.TargetsEnd = targets.ends_targets
+begins (part.BodyEnd e) = statements.ends_body (ends_view e)

@@ -1,0 +1,20 @@
+use Rattle.std.proofs.Common.{◌≡◌, true, Some, arith, ap, ◌∙◌}
+use Rattle.minijinja_syntax.specs.Tokens.{pipe}
+use Rattle.minijinja_grammar.specs.Forms.{got}
+use Rattle.minijinja_grammar.specs.Grammar.{expr_at}
+use Rattle.minijinja_grammar.specs.Statements as form
+use Rattle.minijinja_stream.specs.private.Reads.{eaten}
+use Rattle.minijinja_stream.proofs.Turned.{eaten_shorter, read_no_longer}
+use Rattle.minijinja_rules.proofs.rules.statement_parts.chain.Goals as goal
+
+pub loop-rules-smaller : goal.loop-rules-smaller
+loop-rules-smaller g c =
+    let p = g.N.Input.Tokens.place c.loop-rules.tokens in
+    let q = g.N.Input.Tokens.place c.eat.new.self in
+    let r = g.N.Input.Tokens.place c.link-in-loop-rules.new.tokens in
+    let b : eaten pipe p ≡ got true q = c.in_ok-eat.ensures ∙ ap (λ x. got x q) c.if-branch.true in
+    omega (
+      arith,
+      eaten_shorter pipe p q b,
+      read_no_longer (form.chained (expr_at g.N.Nodes.functions c.args.depth) (Some (g.N.Nodes.tree c.loop-rules.chain))) q r _ c.in_ok-chain-2.ensures,
+    )
