@@ -1,3 +1,7 @@
-pub mod Targets
-pub mod Tags
-pub mod Parts
+pub mod OpenTargets
+pub mod Names
+pub mod Bodies
+pub mod Branches
+pub mod Calls
+pub mod Bindings
+pub mod Keywords

@@ -2,5 +2,5 @@
 pub mod Parses
 pub mod Made
 pub mod Targets
-pub mod Tags
-pub mod Parts
+pub mod Bodies
+pub mod Branches

@@ -1,14 +1,14 @@
 //! What the rules of templates make of tokens. The rules know neither what holds the tokens, nor how expressions are read, nor how
 //! the tree is laid out.
-ghost use Rattle.std.specs.Prelude.{◌≡◌, IfOk};
+ghost use Rattle.std.specs.Prelude.{◌≡◌, [], false, IfOk, None};
 ghost use Rattle.std.specs.Option.{option_map};
 ghost use Rattle.minijinja_syntax.specs.Texts.{Text};
 ghost use Rattle.minijinja_value.specs.Values.{Functions};
-ghost use Rattle.minijinja_tree.specs.SpannedTrees.{Expr, Stmt, variable};
+ghost use Rattle.minijinja_tree.specs.SpannedTrees.{Expr, Stmt};
 ghost use Rattle.minijinja_grammar.specs.Forms.{one};
-ghost use Rattle.minijinja_grammar.specs.Grammar.{expr_at, ident_and_span};
-ghost use Rattle.minijinja_templates.specs.private.Made.{opening_of, opening_tok, statement_tree};
-ghost use Rattle.minijinja_templates.specs.private.Parses.{Parses};
+ghost use Rattle.minijinja_grammar.specs.Grammar.{ident_and_span};
+ghost use Rattle.minijinja_templates.specs.private.Made.{is_a_call, opening_of, opening_tok, statement_tree, target_tree};
+ghost use Rattle.minijinja_templates.specs.private.Parses.{Parses, expr_of};
 
 use minijinja_base::tokens::Span;
 use minijinja_stream::refusal::{Refusal, Wanted};
@@ -26,17 +26,93 @@ pub enum Opening<N> {
     Statement,
 }
 
-/// The parts of a statement, over names, expressions and statements.
+/// What an expression may be where it stands.
+#[derive(Clone, Copy)]
+pub enum ExprForm {
+    /// Any expression.
+    Full,
+    /// One that takes no `if` part at its end.
+    Or,
+    /// Any expression, or a tuple where a comma follows it.
+    Value,
+    /// A chain of filters, the innermost of which has no operand.
+    Chain,
+}
+
+/// The parts of a target, over names and expressions.
 #[derive(Drop)]
-pub enum Statement<N, E, S> {
+pub enum Target<N, E> {
+    /// A name.
+    Name(N),
+    /// An attribute of a target.
+    Attribute(E, N),
+    /// Targets in parentheses or with a comma.
+    List(Vec<E>),
+}
+
+/// What kind of statement it is.
+#[derive(Clone, Copy)]
+pub enum Kind {
+    Data,
+    Output,
+    Set,
+    Template,
+    For,
+    If,
+    With,
+    SetBlock,
+    AutoEscape,
+    FilterBlock,
+    Do,
+    Break,
+    Continue,
+}
+
+/// The parts of a statement, of which each kind has some. They are no enum of all statements: where the rules are called for one type,
+/// an enum over its types costs more to compare than can be checked.
+#[derive(Drop)]
+pub struct StatementParts<N, E, S> {
+    pub kind: Kind,
     /// Text as it stands in the source.
-    Data(N),
-    /// The output of an expression.
-    Output(E),
-    /// A target and what is assigned to it.
-    Set(E, E),
-    /// Statements, one after another.
-    Template(Vec<S>),
+    pub name: Option<N>,
+    pub target: Option<E>,
+    /// What is written, assigned, tested or gone through, or the chain of filters of a filter block.
+    pub expr: Option<E>,
+    /// The test that an item of a loop has to pass, or the filters of a set block.
+    pub filter: Option<E>,
+    /// Targets with their values.
+    pub assignments: Vec<(E, E)>,
+    pub body: Vec<S>,
+    pub else_body: Vec<S>,
+    pub recursive: bool,
+}
+
+/// A statement of that kind, without parts.
+pub(crate) fn of_kind<N: Copy + Drop, E: Drop, S: Drop>(
+    alloc: Global,
+    kind: Kind,
+) -> StatementParts<N, E, S>
+    ensures kind { result.kind ≡ kind }
+    ensures name { result.name ≡ None }
+    ensures target { result.target ≡ None }
+    ensures expr { result.expr ≡ None }
+    ensures filter { result.filter ≡ None }
+    ensures assignments { result.assignments.items ≡ [] }
+    ensures body { result.body.items ≡ [] }
+    ensures else_body { result.else_body.items ≡ [] }
+    ensures recursive { result.recursive ≡ false }
+{
+    StatementParts {
+        kind,
+        name: None,
+        target: None,
+        expr: None,
+        filter: None,
+        assignments: Vec::new(alloc),
+        body: Vec::new(alloc),
+        else_body: Vec::new(alloc),
+        recursive: false,
+    }
 }
 
 /// Statements to make, and what of them is read from tokens without any statement nested in it.
@@ -67,12 +143,17 @@ pub trait Statements: Copy {
 
     ghost stmt: { Self.Stmt → Stmt Contents };
 
-    /// Where lists of statements are put.
+    /// Where lists of expressions and statements are put.
     fn alloc(&self) -> Global;
 
-    /// An expression, in which expressions and primaries nest `depth` deep at most.
-    fn expr(&self, tokens: &mut Self::Input, depth: usize) -> Result<Self::Expr, Refusal>
-        ensures { Parses Self.Input.place tree (expr_at functions depth) tokens.old result
+    /// An expression of that form, in which expressions and primaries nest `depth` deep at most.
+    fn expr(
+        &self,
+        tokens: &mut Self::Input,
+        form: ExprForm,
+        depth: usize,
+    ) -> Result<Self::Expr, Refusal>
+        ensures { Parses Self.Input.place tree (expr_of functions form depth) tokens.old result
             tokens.new };
 
     /// An identifier, which a refusal calls `wanted`.
@@ -84,19 +165,28 @@ pub trait Statements: Copy {
     fn letters(name: &Self::Name) -> &str
         ensures { result.now ≡ text name.now };
 
+    /// A target. Refused memory is the only error.
+    fn target(
+        &self,
+        target: Target<Self::Name, Self::Expr>,
+        span: Span,
+    ) -> Result<Self::Expr, AllocError>
+        ensures { IfOk result (λ e. tree e ≡ target_tree text tree target span) };
+
     /// What part of a template the token begins, if it begins one.
     fn opening(token: &<Self::Input as Tokens>::Token) -> Option<Opening<Self::Name>>
-        ensures { option_map (opening_tok text) result ≡ opening_of (Self.Input.tok token.now) };
+        ensures { option_map (opening_tok text) result ≡ opening_of
+            (Self.Input.tok token.now) };
 
-    /// A variable of that name. Refused memory is the only error.
-    fn variable(&self, name: Self::Name, span: Span) -> Result<Self::Expr, AllocError>
-        ensures { IfOk result (λ e. tree e ≡ variable (text name) span) };
+    /// Whether an expression is a call.
+    fn is_call(expr: &Self::Expr) -> bool
+        ensures { result ≡ is_a_call (tree expr.now) };
 
-    /// A statement. Refused memory is the only error.
+    /// A statement of these parts. Refused memory is the only error.
     fn statement(
         &self,
-        statement: Statement<Self::Name, Self::Expr, Self::Stmt>,
+        parts: StatementParts<Self::Name, Self::Expr, Self::Stmt>,
         span: Span,
     ) -> Result<Self::Stmt, AllocError>
-        ensures { IfOk result (λ s. stmt s ≡ statement_tree text tree stmt statement span) };
+        ensures { IfOk result (λ s. stmt s ≡ statement_tree text tree stmt parts span) };
 }

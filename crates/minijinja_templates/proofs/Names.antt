@@ -1,0 +1,58 @@
+-- Names that may be assigned to, and attributes after them.
+use Rattle.std.proofs.Common.{◌≡◌, ◌<◌, ◌≤◌, length, arith, Bool, true, false, if◌then◌else◌, List, [], ◌∷◌, Option, Some, None, refl, ap, ◌∙◌}
+use Rattle.minijinja_syntax.specs.Texts.{Text}
+use Rattle.minijinja_syntax.specs.Tokens.{Tok, ident, dot}
+use Rattle.minijinja_syntax.specs.Streams.{SpannedTok}
+use Rattle.minijinja_syntax.specs.declared.tokens.Span.{Span}
+use Rattle.minijinja_tree.specs.SpannedTrees.{Expr, attribute}
+use Rattle.minijinja_grammar.specs.Words.{is}
+use Rattle.minijinja_grammar.specs.Forms.{Place, Read, Turn, go_on, got, short, wrong, one, comes, read_then, read_turn, read_any, read_one, held_or_wrong, if_held, after, reads}
+use Rattle.minijinja_grammar.specs.Grammar.{ident_and_span, next, span_of_mark}
+use Rattle.minijinja_grammar.specs.Targets.{attributes, target_part, target_word}
+use Rattle.minijinja_grammar.proofs.Unrolled.{many_is}
+use Rattle.minijinja_stream.specs.private.Reads.{eaten}
+use Rattle.minijinja_templates.specs.private.Targets.{is_no_target}
+
+-- a name, by the identifier taken
+pub word_is : (p : Place) → reads (one target_word) p ≡ read_then (reads (one ident_and_span) p) (λ x q. if is_no_target x.0 then wrong q else got x q)
+unfolding reads
+word_is p = go p.tokens
+  where
+    held : (b : Bool) (x : Text × Span) (q : Place) → held_or_wrong (if b then None else Some x) q ≡ (if b then wrong q else got x q)
+    held true x q = refl
+    held false x q = refl
+
+    at_token : (t : Tok) (s : Span) (q : Place) → held_or_wrong (target_word (t, s)) q ≡
+        read_then (held_or_wrong (ident_and_span (t, s)) q) (λ x r. if is_no_target x.0 then wrong r else got x r)
+    at_token (ident x) s q = held (is_no_target x) (x, s) q
+    at_token _ s q = refl
+
+    go : (ts : List SpannedTok) → read_one target_word p ts ≡ read_then (read_one ident_and_span p ts) (λ x q. if is_no_target x.0 then wrong q else got x q)
+    go [] = refl
+    go (t ∷ ts) = at_token t.0 t.1 (after p t ts)
+
+-- attributes, by the dot before each
+pub attributes_is : {C : Type 0} (e : Expr C) (p : Place) → reads (attributes e) p ≡
+    read_then (eaten dot p) (λ b q. if b then read_then (reads (one ident_and_span) q) (λ x r. reads (attributes (attribute e x.0 x.1)) r) else got e q)
+unfolding reads attributes target_part
+attributes_is {C} e p = many_is (span_of_mark dot) target_part e p ∙ go p.tokens refl
+  where
+    turned : (o : Read (Text × Span)) → read_turn (read_then o (λ x q. got (go_on (attribute e x.0 x.1)) q)) (λ y s. reads (attributes y) s) ≡
+        read_then o (λ x r. reads (attributes (attribute e x.0 x.1)) r)
+    turned (got x q) = refl
+    turned (short q) = refl
+    turned (wrong q) = refl
+
+    at_token : (t : SpannedTok) (ts : List SpannedTok) (b : Bool) →
+        if_held (if b then Some t.1 else None) (λ h. read_turn (reads (target_part e h) (after p t ts)) (λ y s. reads (attributes y) s)) (got e p) ≡
+        read_then (if b then read_then (held_or_wrong (if b then Some t.1 else None) (after p t ts)) (λ s u. got true u) else got false p)
+        (λ c q. if c then read_then (reads (one ident_and_span) q) (λ x r. reads (attributes (attribute e x.0 x.1)) r) else got e q)
+    at_token t ts true = turned (reads (one ident_and_span) (after p t ts))
+    at_token t ts false = refl
+
+    go : (ts : List SpannedTok) → p.tokens ≡ ts →
+        read_any (span_of_mark dot) (λ h s. read_turn (reads (target_part e h) s) (λ y u. reads (attributes y) u)) e p ts ≡
+        read_then (if comes (is dot) ts then read_then (read_one (span_of_mark dot) p ts) (λ s u. got true u) else got false p)
+        (λ c q. if c then read_then (reads (one ident_and_span) q) (λ x r. reads (attributes (attribute e x.0 x.1)) r) else got e q)
+    go [] k = refl
+    go (t ∷ ts) k = at_token t ts (is dot t.0)

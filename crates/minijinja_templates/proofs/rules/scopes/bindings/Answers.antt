@@ -1,0 +1,33 @@
+use Rattle.std.proofs.Common.{◌≡◌, true, ◌∷◌, ◌++◌, [], map, arith, refl, sym, ap, ◌∙◌}
+use Rattle.std.proofs.lemmas.List.{map-append}
+use Rattle.minijinja_syntax.specs.Tokens.{comma}
+use Rattle.minijinja_grammar.specs.Forms.{got, reads}
+use Rattle.minijinja_grammar.specs.Grammar.{expr_at}
+use Rattle.minijinja_grammar.specs.Statements as form
+use Rattle.minijinja_stream.specs.private.Reads.{eaten}
+use Rattle.minijinja_stream.proofs.Turned.{eaten_shorter, read_no_longer}
+use Rattle.minijinja_templates.specs.private.Made.{binding_of}
+use Rattle.minijinja_templates.proofs.Bindings.{more_bindings, others_is}
+use Rattle.minijinja_templates.proofs.rules.scopes.bindings.Goals as goal
+
+pub loop-bindings-smaller : goal.loop-bindings-smaller
+loop-bindings-smaller g c =
+    let p = g.S.Input.Tokens.place c.loop-bindings.tokens in
+    let q = g.S.Input.Tokens.place c.eat.new.self in
+    let r = g.S.Input.Tokens.place c.binding-in-loop-bindings.new.tokens in
+    let b : eaten comma p ≡ got true q = c.in_ok-eat.ensures ∙ ap (λ x. got x q) c.if-branch.true in
+    omega (arith, eaten_shorter comma p q b, read_no_longer (form.binding (expr_at g.S.Statements.functions c.args.depth)) q r _ c.in_ok-binding-2.ensures)
+
+pub loop-bindings-preserved : goal.loop-bindings-preserved
+loop-bindings-preserved g c =
+    let v = binding_of g.S.Statements.tree in
+    let expr = expr_at g.S.Statements.functions c.args.depth in
+    let p = g.S.Input.Tokens.place c.loop-bindings.tokens in
+    let q = g.S.Input.Tokens.place c.eat.new.self in
+    let r = g.S.Input.Tokens.place c.binding-in-loop-bindings.new.tokens in
+    let bs = map v c.loop-bindings.bindings.items in
+    let w = v c.in_ok-binding-2.field-0 in
+    let b : eaten comma p ≡ got true q = c.in_ok-eat.ensures ∙ ap (λ x. got x q) c.if-branch.true in
+    let h : reads (form.binding expr) q ≡ got w r = c.in_ok-binding-2.ensures in
+    let pushed : bs ++ w ∷ [] ≡ map v c.push-in-loop-bindings.new.self.items = rw (c.in_ok-push-2.ensures.items, map-append) refl in
+    c.loop-bindings.invariant ∙ others_is expr bs p ∙ rw (b, h) refl ∙ ap (λ xs. more_bindings expr xs r) pushed
