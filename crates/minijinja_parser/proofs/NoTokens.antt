@@ -9,6 +9,7 @@ use Rattle.minijinja_tree.specs.SpannedTrees.{Expr, Stmt, template, done, bare_s
 use Rattle.minijinja_grammar.specs.Forms.{Place, got, short, reads}
 use Rattle.minijinja_grammar.specs.Grammar.{expr_at, expanded, cond, level, unary_level, operand, postfixed, primary_at, primary, compared_level}
 use Rattle.minijinja_grammar.specs.Derived.{IsWholeOf}
+use Rattle.minijinja_grammar.specs.Statements.{body}
 use Rattle.minijinja_grammar.specs.Templates.{template_at}
 use Rattle.minijinja_grammar.proofs.Forms.{same_read, sound}
 
@@ -28,7 +29,7 @@ no_expr f d p q x e k =
     cc
 
 empty_there : {C F : Type 0} (f : Functions C F) (d : ℕ) (s : Text) (n : Ending) (l : Span) → reads (template_at f d) (spent s n l) ≡ got (template done (expanded l l)) (spent s n l)
-unfolding reads template_at
+unfolding reads template_at body
 empty_there f d s n l = refl
 
 pub empty_template : {C F : Type 0} (f : Functions C F) (d : ℕ) (p q : Place) (t : Stmt C) → p.tokens ≡ [] → reads (template_at f d) p ≡ got t q → bare_stmt t ≡ bare.template bare.done

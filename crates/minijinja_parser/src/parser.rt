@@ -9,8 +9,7 @@ ghost use Rattle.minijinja_lexer.specs.TextTokens.{text_of};
 ghost use Rattle.minijinja_tree.specs.Erasure.{expr_tree, stmt_tree};
 ghost use Rattle.minijinja_tree.specs.SpannedErasure.{expr_node, stmt_node};
 ghost use Rattle.minijinja_tree.specs.Tree.{template};
-ghost use Rattle.minijinja_tree.specs.Simple.{IsSimpleTree};
-ghost use Rattle.minijinja_tree.specs.WellFormed.{IsWhole};
+ghost use Rattle.minijinja_tree.specs.WellFormed.{IsWellFormed, IsWhole};
 ghost use Rattle.minijinja_grammar.specs.Forms.{reads};
 ghost use Rattle.minijinja_grammar.specs.Grammar.{expr_at, max_depth};
 ghost use Rattle.minijinja_grammar.specs.Templates.{template_at};
@@ -21,18 +20,17 @@ ghost use Rattle.minijinja_parser.specs.Parsing.{HasRefused, IsSpent};
 ghost use Rattle.minijinja_stream.specs.TokenStreams.{Comes, no_place, stream_at};
 ghost use Rattle.minijinja_parser.specs.private.Wholes.{Ends, IsErrorAt, ReadsWhole};
 
-use crate::tree_nodes::TreeNodes;
-use crate::tree_statements::TreeStatements;
 use minijinja_base::error::{Detail, Error, ErrorKind, Expected};
 use minijinja_base::syntax::SyntaxConfig;
 use minijinja_base::value::TemplateValue;
+use minijinja_nodes::tree_nodes::TreeNodes;
+use minijinja_nodes::tree_statements::template;
 use minijinja_rules::rules::conditions::expr;
 use minijinja_stream::marks::expected;
 use minijinja_stream::refusal::{Refusal, Wanted};
 pub use minijinja_stream::token_stream::TokenStream;
 use minijinja_stream::token_stream::{set_refusal, tokenizer_refusal};
 use minijinja_stream::tokens::Tokens;
-use minijinja_templates::rules::parts::template;
 use minijinja_tree::ast::{Expr, Stmt};
 use std::alloc::{AllocError, Global};
 use std::marker::{Model, PhantomData};
@@ -105,6 +103,8 @@ impl<'s, 'c> Parser<'s, 'c> {
             Wanted::Flatter => return Detail::TooDeep,
             Wanted::FewerArguments => return Detail::TooManyArguments,
             Wanted::Keyword => return Detail::PlainAfterKeyword,
+            Wanted::Loop => return Detail::OutsideLoop(self.last_word()),
+            Wanted::Call => return Detail::NotACall,
         };
         if is_over {
             Detail::UnexpectedEnd(part)
@@ -223,10 +223,8 @@ impl<'s, 'c> Parser<'s, 'c> {
             (reads (template_at V.functions max_depth) self.old.place) result self.new.place }
         ensures filename { self.new.filename ≡ self.old.filename }
     {
-        let statements = TreeStatements {
-            nodes: self.nodes(),
-        };
-        let template = template(statements, &mut self.tokens, MAX_DEPTH)?;
+        let nodes = self.nodes();
+        let template = template(nodes, &mut self.tokens, MAX_DEPTH)?;
         self.end()?;
         Ok(template)
     }
@@ -268,7 +266,7 @@ impl<'s, 'c> Parser<'s, 'c> {
         // The tokenizer's refusal is answered where all tokens before it fit.
         ensures first { AnswersTokenizerAt V.functions self.old.place result }
 
-        ensures well_formed { IfOk result (λ s. IsSimpleTree (stmt_tree V.contents s)) }
+        ensures well_formed { IfOk result (λ s. IsWellFormed (stmt_tree V.contents s)) }
 
         // Each node goes from token to token, and a variable and data stand where their own tokens do.
         ensures spans { IfOk result (StandsAt V.contents self.old.place) }
@@ -378,7 +376,7 @@ pub fn parse<'s, V: TemplateValue>(
     // A refusal names the source, unless memory ran out.
     ensures named { IfErr result (λ e. kind_of e ≢ OutOfMemory → IsNamed filename.now e) }
 
-    ensures well_formed { IfOk result (λ s. IsSimpleTree (stmt_tree V.contents s)) }
+    ensures well_formed { IfOk result (λ s. IsWellFormed (stmt_tree V.contents s)) }
     ensures spans { IfOk result (StandsAt V.contents (template_place syntax.now source.now)) }
 {
     if source.len() >= SOURCE_LIMIT {

@@ -1,6 +1,6 @@
 use Rattle.std.proofs.Common.{◌∙◌, sym, ap, subst}
 use Rattle.minijinja_tree.specs.SpannedErasure.{stmt_node}
-use Rattle.minijinja_tree.specs.Simple.{IsSimpleTree}
+use Rattle.minijinja_tree.specs.WellFormed.{IsWellFormed}
 use Rattle.minijinja_grammar.specs.Grammar.{max_depth}
 use Rattle.minijinja_grammar.specs.Templates.{template_at}
 use Rattle.minijinja_grammar.proofs.Trees.{template_formed, template_stands}
@@ -24,7 +24,7 @@ returns-in-Ok-clause-first g c = λ kind span e h.
 
 pub returns-in-Ok-clause-well_formed : goal.returns-in-Ok-clause-well_formed
 returns-in-Ok-clause-well_formed g c =
-    subst (λ t. IsSimpleTree t) (stmt_is g.V.TemplateValue.contents c.in-Ok.template)
+    subst (λ t. IsWellFormed t) (stmt_is g.V.TemplateValue.contents c.in-Ok.template)
     (template_formed g.V.TemplateValue.functions c.args.self.now.place (stmt_node g.V.TemplateValue.contents c.in-Ok.template)
     (whole_of (template_at g.V.TemplateValue.functions max_depth) c.args.self.now.place c.whole_template.new.self.place (stmt_node g.V.TemplateValue.contents c.in-Ok.template) c.in-Ok.ensures.read.0 c.in-Ok.ensures.read.1))
 

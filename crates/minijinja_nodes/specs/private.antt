@@ -1,0 +1,2 @@
+-- What proofs and the contracts of private functions cite.
+pub mod Texts

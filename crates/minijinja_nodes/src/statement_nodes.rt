@@ -1,0 +1,206 @@
+//! The nodes of statements, each on the heap. Refused memory is the only error.
+ghost use Rattle.std.specs.Prelude.{◌≡◌, map, IfOk};
+ghost use Rattle.minijinja_tree.specs.Nodes.{node_of, span_of};
+ghost use Rattle.minijinja_tree.specs.SpannedErasure.{any_tree, args_of, bindings_of, expr_node, stmt_node};
+ghost use Rattle.minijinja_tree.specs.SpannedTrees as tree;
+ghost use Rattle.minijinja_tree.specs.SpannedTrees.{optional_of, stmts_of};
+
+use crate::nodes::spanned;
+use minijinja_base::tokens::Span;
+use minijinja_base::value::TemplateValue;
+use minijinja_tree::ast::{
+    AutoEscape, Break, Call, Continue, Do, EmitExpr, EmitRaw, Expr, FilterBlock, ForLoop, IfCond,
+    Set, SetBlock, Spanned, Stmt, Template, WithBlock,
+};
+use std::alloc::{AllocError, Global};
+
+/// Text as it stands in the source.
+pub fn data<'s, V: TemplateValue>(
+    alloc: Global,
+    raw: &'s str,
+    span: Span,
+) -> Result<Stmt<'s, V>, AllocError>
+    ensures tree { IfOk result (λ s. stmt_node V.contents s ≡ tree.data_text raw.now span) }
+{
+    Ok(Stmt::EmitRaw(spanned(alloc, EmitRaw { raw }, span)?))
+}
+
+/// The output of an expression.
+pub fn output<'s, V: TemplateValue>(
+    alloc: Global,
+    expr: Expr<'s, V>,
+    span: Span,
+) -> Result<Stmt<'s, V>, AllocError>
+    ensures tree { IfOk result
+        (λ s. stmt_node V.contents s ≡ tree.output (expr_node V.contents expr.entry) span) }
+{
+    Ok(Stmt::EmitExpr(spanned(alloc, EmitExpr { expr }, span)?))
+}
+
+/// An assignment.
+pub fn assignment<'s, V: TemplateValue>(
+    alloc: Global,
+    set: Set<'s, V>,
+    span: Span,
+) -> Result<Stmt<'s, V>, AllocError>
+    ensures tree { IfOk result (λ s. stmt_node V.contents s ≡ tree.assignment
+        (expr_node V.contents set.entry.target) (expr_node V.contents set.entry.expr) span) }
+{
+    Ok(Stmt::Set(spanned(alloc, set, span)?))
+}
+
+/// A template of these statements.
+pub fn template<'s, V: TemplateValue>(
+    alloc: Global,
+    children: Vec<Stmt<'s, V>>,
+    span: Span,
+) -> Result<Stmt<'s, V>, AllocError>
+    ensures tree { IfOk result (λ s. stmt_node V.contents s ≡ tree.template
+        (stmts_of (map (stmt_node V.contents) children.entry.items)) span) }
+{
+    Ok(Stmt::Template(spanned(alloc, Template { children }, span)?))
+}
+
+/// A loop.
+pub fn for_loop<'s, V: TemplateValue>(
+    alloc: Global,
+    target: Expr<'s, V>,
+    iter: Expr<'s, V>,
+    filter_expr: Option<Expr<'s, V>>,
+    recursive: bool,
+    body: Vec<Stmt<'s, V>>,
+    else_body: Vec<Stmt<'s, V>>,
+    span: Span,
+) -> Result<Stmt<'s, V>, AllocError>
+    ensures tree { IfOk result (λ s. stmt_node V.contents s ≡ tree.for_loop
+        (expr_node V.contents target.entry) (expr_node V.contents iter.entry)
+        (optional_of (any_tree V.contents filter_expr.entry)) recursive
+        (stmts_of (map (stmt_node V.contents) body.entry.items))
+        (stmts_of (map (stmt_node V.contents) else_body.entry.items)) span) }
+{
+    let node = ForLoop {
+        target,
+        iter,
+        filter_expr,
+        recursive,
+        body,
+        else_body,
+    };
+    Ok(Stmt::ForLoop(spanned(alloc, node, span)?))
+}
+
+/// A condition.
+pub fn if_cond<'s, V: TemplateValue>(
+    alloc: Global,
+    expr: Expr<'s, V>,
+    true_body: Vec<Stmt<'s, V>>,
+    false_body: Vec<Stmt<'s, V>>,
+    span: Span,
+) -> Result<Stmt<'s, V>, AllocError>
+    ensures tree { IfOk result (λ s. stmt_node V.contents s ≡ tree.if_cond
+        (expr_node V.contents expr.entry)
+        (stmts_of (map (stmt_node V.contents) true_body.entry.items))
+        (stmts_of (map (stmt_node V.contents) false_body.entry.items)) span) }
+{
+    let node = IfCond {
+        expr,
+        true_body,
+        false_body,
+    };
+    Ok(Stmt::IfCond(spanned(alloc, node, span)?))
+}
+
+/// A scope with these assignments.
+pub fn with_block<'s, V: TemplateValue>(
+    alloc: Global,
+    assignments: Vec<(Expr<'s, V>, Expr<'s, V>)>,
+    body: Vec<Stmt<'s, V>>,
+    span: Span,
+) -> Result<Stmt<'s, V>, AllocError>
+    ensures tree { IfOk result (λ s. stmt_node V.contents s ≡ tree.with_block
+        (bindings_of V.contents assignments.entry.items)
+        (stmts_of (map (stmt_node V.contents) body.entry.items)) span) }
+{
+    Ok(Stmt::WithBlock(spanned(alloc, WithBlock { assignments, body }, span)?))
+}
+
+/// An assignment of what a body writes.
+pub fn set_block<'s, V: TemplateValue>(
+    alloc: Global,
+    target: Expr<'s, V>,
+    filter: Option<Expr<'s, V>>,
+    body: Vec<Stmt<'s, V>>,
+    span: Span,
+) -> Result<Stmt<'s, V>, AllocError>
+    ensures tree { IfOk result (λ s. stmt_node V.contents s ≡ tree.set_block
+        (expr_node V.contents target.entry) (optional_of (any_tree V.contents filter.entry))
+        (stmts_of (map (stmt_node V.contents) body.entry.items)) span) }
+{
+    let node = SetBlock {
+        target,
+        filter,
+        body,
+    };
+    Ok(Stmt::SetBlock(spanned(alloc, node, span)?))
+}
+
+/// A body that is escaped or not.
+pub fn auto_escape<'s, V: TemplateValue>(
+    alloc: Global,
+    enabled: Expr<'s, V>,
+    body: Vec<Stmt<'s, V>>,
+    span: Span,
+) -> Result<Stmt<'s, V>, AllocError>
+    ensures tree { IfOk result (λ s. stmt_node V.contents s ≡ tree.auto_escape
+        (expr_node V.contents enabled.entry)
+        (stmts_of (map (stmt_node V.contents) body.entry.items)) span) }
+{
+    Ok(Stmt::AutoEscape(spanned(alloc, AutoEscape { enabled, body }, span)?))
+}
+
+/// Filters over what a body writes.
+pub fn filter_block<'s, V: TemplateValue>(
+    alloc: Global,
+    filter: Expr<'s, V>,
+    body: Vec<Stmt<'s, V>>,
+    span: Span,
+) -> Result<Stmt<'s, V>, AllocError>
+    ensures tree { IfOk result (λ s. stmt_node V.contents s ≡ tree.filter_block
+        (expr_node V.contents filter.entry)
+        (stmts_of (map (stmt_node V.contents) body.entry.items)) span) }
+{
+    Ok(Stmt::FilterBlock(spanned(alloc, FilterBlock { filter, body }, span)?))
+}
+
+/// A call whose answer is dropped.
+pub fn do_call<'s, V: TemplateValue>(
+    alloc: Global,
+    call: Spanned<Call<'s, V>>,
+    span: Span,
+) -> Result<Stmt<'s, V>, AllocError>
+    ensures tree { IfOk result (λ s. stmt_node V.contents s ≡ tree.do_call
+        (expr_node V.contents (node_of call.entry).expr)
+        (args_of V.contents (node_of call.entry).args.items) (span_of call.entry) span) }
+{
+    Ok(Stmt::Do(spanned(alloc, Do { call }, span)?))
+}
+
+/// `break`.
+pub fn break_loop<'s, V: TemplateValue>(
+    alloc: Global,
+    span: Span,
+) -> Result<Stmt<'s, V>, AllocError>
+    ensures tree { IfOk result (λ s. stmt_node V.contents s ≡ tree.break_loop span) }
+{
+    Ok(Stmt::Break(spanned(alloc, Break, span)?))
+}
+
+/// `continue`.
+pub fn continue_loop<'s, V: TemplateValue>(
+    alloc: Global,
+    span: Span,
+) -> Result<Stmt<'s, V>, AllocError>
+    ensures tree { IfOk result (λ s. stmt_node V.contents s ≡ tree.continue_loop span) }
+{
+    Ok(Stmt::Continue(spanned(alloc, Continue, span)?))
+}
