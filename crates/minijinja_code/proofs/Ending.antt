@@ -5,7 +5,7 @@ use Rattle.minijinja_syntax.specs.Errors.{kind_of}
 use Rattle.minijinja_syntax.specs.declared.error.Error.{Error}
 use Rattle.minijinja_syntax.specs.declared.error.ErrorKind.TheVariants.{TooManyInstructions}
 use Rattle.minijinja_code.specs.Generator.{OnlyWhereTooLong}
-use Rattle.minijinja_code.specs.private.Making.{Made, here_of, Adds}
+use Rattle.minijinja_expression_code.specs.private.Making.{Made, here_of, Adds}
 use Rattle.minijinja_code.proofs.Uncapped.{added_length}
 use Rattle.minijinja_meaning.specs.Pieces.{Piece}
 

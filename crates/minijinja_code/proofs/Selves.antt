@@ -5,7 +5,7 @@ use Rattle.minijinja_tree.specs.declared.ast.CallArg.TheBlock as block
 use Rattle.minijinja_tree.specs.declared.ast.Expr.{Expr}
 use Rattle.minijinja_tree.specs.declared.ast.Expr.TheVariants as expr
 use Rattle.minijinja_tree.specs.declared.ast.Expr.TheVariants.{Var, Compare'}
-use Rattle.minijinja_code.specs.private.Calling.{is_self}
+use Rattle.minijinja_expression_code.specs.private.Calling.{is_self}
 
 compare_not : {V F C : Type 0} (c : V → C) (q : block.the_data-4 V F) → false ≡ is_self (compare_tree c q)
 compare_not c (block.struct-Compare e k ops) = refl

@@ -8,11 +8,11 @@ abbrev mutual
   data_bytes (template ss) = all_data_bytes ss
   data_bytes (data_text t) = length t
   data_bytes (output e) = 0
-  data_bytes (assignment target e) = 0
-  data_bytes (for_loop n target e only recursive body else_body) = all_data_bytes body + all_data_bytes else_body
+  data_bytes (assignment e v) = 0
+  data_bytes (for_loop n e v only recursive body else_body) = all_data_bytes body + all_data_bytes else_body
   data_bytes (if_cond e true_body false_body) = all_data_bytes true_body + all_data_bytes false_body
-  data_bytes (with_block assignments body) = all_data_bytes body
-  data_bytes (set_block target chain body) = all_data_bytes body
+  data_bytes (with_block ts body) = all_data_bytes body
+  data_bytes (set_block e chain body) = all_data_bytes body
   data_bytes (auto_escape e body) = all_data_bytes body
   data_bytes (filter_block chain body) = all_data_bytes body
   data_bytes (do_call e args) = 0

@@ -1,45 +1,39 @@
 //! The generator: it makes instructions of trees.
-ghost use Rattle.std.specs.Prelude.{◌≡◌, ◌+◌, ◌<◌, ◌≤◌, ◌^◌, ◌++◌, [], length, map, min, is_none, vec_len, IfOk, IfErr, OnOk, OnErr, IfNone, IfSome, Ok, Err, Some, None};
+ghost use Rattle.std.specs.Prelude.{◌≡◌, ◌+◌, ◌<◌, ◌≤◌, ◌^◌, ◌++◌, [], length, min, is_none, IfOk, IfErr, OnOk, IfNone, IfSome, Ok, Err, Some, None};
 ghost use Rattle.std.specs.BTreeMap.{IsEmpty};
 ghost use Rattle.minijinja_tree.specs.Erasure.{expr_tree, stmt_tree};
-ghost use Rattle.minijinja_tree.specs.Tree.{stmts_of};
-ghost use Rattle.minijinja_tree.specs.Simple.{IsName, IsSimple, AreSimple, IsSimpleTree};
-ghost use Rattle.minijinja_tree.specs.WellFormed.{IsWhole};
+ghost use Rattle.minijinja_tree.specs.WellFormed.{IsTarget, IsWhole, IsWellFormed};
 ghost use Rattle.minijinja_instructions.specs.Instructions.{code_of};
 ghost use Rattle.minijinja_meaning.specs.Correct.{DoesExpr, DoesStmt};
 ghost use Rattle.minijinja_syntax.specs.Errors.{kind_of};
 ghost use Rattle.minijinja_syntax.specs.declared.error.ErrorKind.TheVariants.{TooManyInstructions};
 ghost use Rattle.minijinja_code.specs.Generator.{IsUnplaced, OnlyWhereTooLong};
-ghost use Rattle.minijinja_meaning.specs.Calls.{written};
-ghost use Rattle.minijinja_code.specs.Hint.{IsHint, data_bytes, all_data_bytes};
+ghost use Rattle.minijinja_code.specs.Hint.{IsHint, data_bytes};
 ghost use Rattle.minijinja_instructions.specs.InstructionLists.{IsAddError, name_of, source_of};
 ghost use Rattle.minijinja_meaning.specs.Places.{placed_stmt};
+ghost use Rattle.minijinja_meaning.specs.Units.{DoUnits};
 ghost use Rattle.minijinja_meaning.specs.Layout.{expr_code, past_expr, target_code, past_target, stmt_code, past_stmt};
-ghost use Rattle.minijinja_meaning.specs.Layout as layout;
-ghost use Rattle.minijinja_code.specs.private.Statements.{stmt_piece, stmts_piece};
+ghost use Rattle.minijinja_code.specs.private.Statements.{stmt_piece};
 ghost use Rattle.minijinja_code.specs.private.AtGenerator.{generated, here_so_far, counted_bytes, blocks_of, file_of, text_of, refusal_of};
-ghost use Rattle.minijinja_code.specs.private.Making.{made_of, Adds};
+ghost use Rattle.minijinja_expression_code.specs.private.Making.{made_of, Adds};
 ghost use Rattle.minijinja_meaning.specs.Pieces.{start};
 
-mod arguments;
-mod branches;
-mod chain;
-mod emit;
-mod expr;
-mod leading;
-mod literals;
-mod memory;
-mod names;
-mod operators;
-mod output;
+mod blocks;
+mod conditions;
+mod loops;
+mod stmt;
+mod targets;
+mod turn;
 
-use crate::codegen::emit::Emitter;
-use crate::codegen::expr::expression;
-use crate::codegen::memory::OutOfMemory;
-use crate::codegen::output::{Output, output_of};
+use crate::codegen::stmt::statement;
+use crate::codegen::targets::assign;
+use crate::codegen::turn::Turn;
 use minijinja_base::error::Error;
 use minijinja_base::value::{TemplateValue, Value};
-use minijinja_instructions::instructions::{Instruction, Instructions};
+use minijinja_expression_code::emit::Emitter;
+use minijinja_expression_code::expr::expression;
+use minijinja_expression_code::memory::OutOfMemory;
+use minijinja_instructions::instructions::Instructions;
 use minijinja_instructions::lists::{LIMIT, listed, too_many};
 use minijinja_tree::ast::{Expr, Stmt};
 use std::alloc::{AllocError, Global};
@@ -80,7 +74,7 @@ impl<'s, V: TemplateValue> CodeGenerator<'s, V> {
     /// Adds the instructions of a statement. Refused are memory, and a list that would have 2^32 instructions or more; that refusal
     /// comes again from then on.
     pub fn compile_stmt(&mut self, stmt: &Stmt<'s, V>) -> Result<(), Error<'s>>
-        requires { IsSimpleTree (stmt_tree V.contents stmt.now) }
+        requires { IsWellFormed (stmt_tree V.contents stmt.now) }
         ensures added { OnOk result (generated V.contents self.new ≡ generated V.contents self.old
             ++ stmt_code V.functions (stmt_tree V.contents stmt.now)
             (here_so_far V.contents self.old)) }
@@ -91,6 +85,9 @@ impl<'s, V: TemplateValue> CodeGenerator<'s, V> {
             (length (generated V.contents self.old)) (length (generated V.contents self.new))
             (placed_stmt V.functions (stmt_tree V.contents stmt.now)
             (here_so_far V.contents self.old))) }
+        // So do those of each unit in it that can be entered by itself.
+        ensures units { OnOk result (DoUnits V.functions (generated V.contents self.new)
+            (stmt_tree V.contents stmt.now) (here_so_far V.contents self.old)) }
         ensures counted { OnOk result (counted_bytes self.new
             ≡ min usize.MAX (counted_bytes self.old + data_bytes (stmt_tree V.contents stmt.now))) }
 
@@ -157,18 +154,18 @@ impl<'s, V: TemplateValue> CodeGenerator<'s, V> {
 
     /// Adds the instructions that assign the value on top to a target. The refusals are those of `compile_stmt`.
     pub fn compile_assignment(&mut self, target: &Expr<'s, V>) -> Result<(), Error<'s>>
-        requires { IsName (expr_tree V.contents target.now) }
+        requires { IsTarget (expr_tree V.contents target.now) }
         ensures added { OnOk result (generated V.contents self.new ≡ generated V.contents self.old
             ++ target_code V.functions (expr_tree V.contents target.now)
             (here_so_far V.contents self.old)) }
         ensures few { OnOk result (length (generated V.contents self.new) < 2 ^ 32) }
-        ensures past { OnOk result (here_so_far V.contents self.new ≡ past_target
-            V.functions (expr_tree V.contents target.now) (here_so_far V.contents self.old)) }
+        ensures past { OnOk result (here_so_far V.contents self.new ≡ past_target V.functions
+            (expr_tree V.contents target.now) (here_so_far V.contents self.old)) }
         ensures causes { IfNone (refusal_of self.old) (IfErr result IsAddError) }
         ensures unplaced { IfNone (refusal_of self.old) (IfErr result IsUnplaced) }
         ensures too_many { IfNone (refusal_of self.old) (IfErr result
-            (λ e. OnlyWhereTooLong e (generated V.contents self.old ++ target_code
-            V.functions (expr_tree V.contents target.now) (here_so_far V.contents self.old)))) }
+            (λ e. OnlyWhereTooLong e (generated V.contents self.old ++ target_code V.functions
+            (expr_tree V.contents target.now) (here_so_far V.contents self.old)))) }
         ensures kept { IfErr result (λ e. refusal_of self.new ≡ Some e) }
         ensures again { IfSome (refusal_of self.old) (λ e. result ≡ Err e) }
         ensures ready { OnOk result (refusal_of self.new ≡ None) }
@@ -253,108 +250,29 @@ fn compile_stmt<'s, V: TemplateValue>(
     code: &mut Emitter<'s, V>,
     stmt: &Stmt<'s, V>,
 ) -> Result<usize, OutOfMemory>
-    requires { IsSimpleTree (stmt_tree V.contents stmt.now) }
+    requires { IsWellFormed (stmt_tree V.contents stmt.now) }
     ensures added { OnOk result (Adds (made_of V.contents code.old) (made_of V.contents code.new)
         (stmt_piece V.functions (stmt_tree V.contents stmt.now))) }
     ensures counted { IfOk result
         (λ n. n ≡ min usize.MAX (data_bytes (stmt_tree V.contents stmt.now))) }
 {
-    match stmt {
-        Stmt::Template(template) => {
-            let children = &template.node().children;
-            // Most statements make two instructions or more.
-            code.make_room(children.len().saturating_mul(2))?;
-            compile_all(code, children)
-        }
-        _ => compile_inner(code, stmt),
-    }
+    make_room(code, stmt)?;
+    let mut turn = Turn::outside(code.alloc());
+    statement(code, &mut turn, stmt)?;
+    Ok(turn.data_bytes())
 }
 
-/// The same, of statements one after another.
-fn compile_all<'s, V: TemplateValue>(
-    code: &mut Emitter<'s, V>,
-    stmts: &[Stmt<'s, V>],
-) -> Result<usize, OutOfMemory>
-    requires { AreSimple (stmts_of (map (stmt_tree V.contents) stmts.now)) }
-    ensures added { OnOk result (Adds (made_of V.contents code.old) (made_of V.contents code.new)
-        (stmts_piece V.functions (stmts_of (map (stmt_tree V.contents) stmts.now)))) }
-    ensures counted { IfOk result (λ n. n ≡ min usize.MAX
-        (all_data_bytes (stmts_of (map (stmt_tree V.contents) stmts.now)))) }
-{
-    let mut data_bytes = 0usize;
-    for stmt in stmts {
-        data_bytes = data_bytes.saturating_add(compile_inner(code, stmt)?);
-    }
-    Ok(data_bytes)
-}
-
-/// The same, of a statement that stands in a template.
-fn compile_inner<'s, V: TemplateValue>(
+/// Makes room for the code of a template, most of whose statements make two instructions or more.
+fn make_room<'s, V: TemplateValue>(
     code: &mut Emitter<'s, V>,
     stmt: &Stmt<'s, V>,
-) -> Result<usize, OutOfMemory>
-    requires { IsSimple (stmt_tree V.contents stmt.now) }
-    ensures added { OnOk result (Adds (made_of V.contents code.old) (made_of V.contents code.new)
-        (stmt_piece V.functions (stmt_tree V.contents stmt.now))) }
-    ensures counted { IfOk result (λ n. n ≡ data_bytes (stmt_tree V.contents stmt.now)) }
+) -> Result<(), OutOfMemory>
+    ensures { made_of V.contents code.new ≡ made_of V.contents code.old }
 {
     match stmt {
-        Stmt::Template(_) => unreachable!(),
-        Stmt::EmitRaw(data) => {
-            let raw = data.node().raw;
-            code.add(Instruction::EmitRaw(raw))?;
-            Ok(raw.len())
+        Stmt::Template(template) => {
+            code.make_room(template.node().children.len().saturating_mul(2))
         }
-        Stmt::EmitExpr(output) => {
-            emit_expr(code, &output.node().expr)?;
-            Ok(0)
-        }
-        Stmt::Set(set) => {
-            let node = set.node();
-            expression(code, &node.expr)?;
-            assign(code, &node.target)?;
-            Ok(0)
-        }
-    }
-}
-
-/// Adds the code of an output: a call of `super` without arguments, of `loop` with one positional argument, or of a block is
-/// written apart.
-fn emit_expr<'s, V: TemplateValue>(
-    code: &mut Emitter<'s, V>,
-    expr: &Expr<'s, V>,
-) -> Result<(), OutOfMemory>
-    requires { IsWhole (expr_tree V.contents expr.now) }
-    ensures { OnOk result (Adds (made_of V.contents code.old) (made_of V.contents code.new)
-        (layout.write V.functions
-        (written (expr_tree V.contents expr.now))
-        (layout.expr V.functions (expr_tree V.contents expr.now)))) }
-{
-    match output_of(expr) {
-        Output::Super => code.add(Instruction::FastSuper),
-        Output::Recursion(items) => {
-            expression(code, items)?;
-            code.add(Instruction::FastRecurse)
-        }
-        Output::Block(name) => code.add(Instruction::CallBlock(name)),
-        Output::Plain => {
-            expression(code, expr)?;
-            code.add(Instruction::Emit)
-        }
-    }
-}
-
-fn assign<'s, V: TemplateValue>(
-    code: &mut Emitter<'s, V>,
-    target: &Expr<'s, V>,
-) -> Result<(), OutOfMemory>
-    requires { IsName (expr_tree V.contents target.now) }
-    ensures { OnOk result (Adds (made_of V.contents code.old) (made_of V.contents code.new)
-        (layout.target V.functions (expr_tree V.contents target.now))) }
-{
-    match target {
-        Expr::Var(var) => code.add(Instruction::StoreLocal(var.node().id)),
-        #[tactic(auto, using(crate::proofs::Outputs::target_is_variable))]
-        _ => unreachable!(),
+        _ => Ok(()),
     }
 }

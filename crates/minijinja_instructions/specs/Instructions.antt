@@ -11,7 +11,7 @@ use Rattle.minijinja_instructions.specs.declared.instructions.CaptureMode.TheVar
 use Rattle.minijinja_instructions.specs.declared.instructions.CompareOp.{CompareOp}
 use Rattle.minijinja_instructions.specs.declared.instructions.CompareOp.TheVariants as compare_op
 use Rattle.minijinja_instructions.specs.declared.instructions.Instruction.{Instruction}
-use Rattle.minijinja_instructions.specs.declared.instructions.Instruction.TheVariants.{EmitRaw, StoreLocal, Lookup, GetAttr, GetItem, Slice, LoadConst, BuildMap, BuildKwargs, MergeKwargs, BuildList, BuildTuple, UnpackLists, Add, Sub, Mul, Div, IntDiv, Rem, Pow, Neg, Eq, Ne, Gt, Gte, Lt, Lte, Not, StringConcat, In, CompareAndPreserve, ApplyFilter, PerformTest, Emit, Jump, JumpIfFalse, JumpIfFalseOrPop, JumpIfTrueOrPop, BeginCapture, EndCapture, CallFunction, CallMethod, CallObject, DupTop, DiscardTop, FastSuper, FastRecurse, Swap, CallBlock}
+use Rattle.minijinja_instructions.specs.declared.instructions.Instruction.TheVariants.{EmitRaw, StoreLocal, Lookup, GetAttr, SetAttr, GetItem, Slice, LoadConst, BuildMap, BuildKwargs, MergeKwargs, BuildList, BuildTuple, UnpackList, UnpackLists, Add, Sub, Mul, Div, IntDiv, Rem, Pow, Neg, Eq, Ne, Gt, Gte, Lt, Lte, Not, StringConcat, In, CompareAndPreserve, ApplyFilter, PerformTest, Emit, PushLoop, PushWith, Iterate, PushDidNotIterate, PopFrame, PopLoopFrame, Jump, JumpIfFalse, JumpIfFalseOrPop, JumpIfTrueOrPop, PushAutoEscape, PopAutoEscape, BeginCapture, EndCapture, CallFunction, CallMethod, CallObject, DupTop, DiscardTop, FastSuper, FastRecurse, Swap, CallBlock}
 use Rattle.minijinja_instructions.specs.declared.instructions.Instructions.{Instructions}
 
 -- a comparison of a chain
@@ -36,6 +36,7 @@ instr_of c (EmitRaw t) = code.Do event.EmitRaw t.now 0
 instr_of c (StoreLocal x) = code.Do event.StoreLocal x.now 1
 instr_of c (Lookup x) = code.Do event.Lookup x.now 0
 instr_of c (GetAttr x) = code.Do event.GetAttr x.now 1
+instr_of c (SetAttr x) = code.Do event.SetAttr x.now 2
 instr_of c GetItem = code.Do event.GetItem [] 2
 instr_of c Slice = code.Do event.Slice [] 4
 instr_of c (LoadConst v) = code.Load (c v)
@@ -44,6 +45,7 @@ instr_of c (BuildKwargs n) = code.BuildKwargs n
 instr_of c (MergeKwargs n) = code.Do event.MergeKwargs [] n
 instr_of c (BuildList n) = code.BuildList n
 instr_of c (BuildTuple n) = code.BuildTuple n
+instr_of c (UnpackList n) = code.UnpackList n
 instr_of c (UnpackLists n) = code.Do event.UnpackLists [] n
 instr_of c Add = code.Operate operator.Add
 instr_of c Sub = code.Operate operator.Sub
@@ -66,10 +68,18 @@ instr_of c (CompareAndPreserve o) = code.CompareAndPreserve (compared_by o)
 instr_of c (ApplyFilter x n id) = code.Apply event.ApplyFilter x.now n id
 instr_of c (PerformTest x n id) = code.Apply event.PerformTest x.now n id
 instr_of c Emit = code.Do event.Emit [] 1
+instr_of c (PushLoop flags) = code.PushLoop flags
+instr_of c PushWith = code.Do event.PushWith [] 0
+instr_of c (Iterate l) = code.Iterate l
+instr_of c PushDidNotIterate = code.PushDidNotIterate
+instr_of c PopFrame = code.Do event.PopFrame [] 0
+instr_of c PopLoopFrame = code.PopLoopFrame
 instr_of c (Jump l) = code.Jump l
 instr_of c (JumpIfFalse l) = code.JumpIfFalse l
 instr_of c (JumpIfFalseOrPop l) = code.JumpIfFalseOrPop l
 instr_of c (JumpIfTrueOrPop l) = code.JumpIfTrueOrPop l
+instr_of c PushAutoEscape = code.Do event.PushAutoEscape [] 1
+instr_of c PopAutoEscape = code.Do event.PopAutoEscape [] 0
 instr_of c (BeginCapture m) = code.Do (event.BeginCapture (captured_as m)) [] 0
 instr_of c EndCapture = code.Do event.EndCapture [] 0
 instr_of c (CallFunction x n) = code.Call event.CallFunction x.now n

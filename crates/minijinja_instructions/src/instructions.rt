@@ -16,6 +16,12 @@ pub type LocalId = u8;
 /// How many names of filters, and of tests, of a list have a number of their own. Later names have 255.
 pub const MAX_LOCALS: usize = 50;
 
+/// The flag of a loop that has a variable of its own.
+pub const LOOP_FLAG_WITH_LOOP_VAR: u8 = 1;
+
+/// The flag of a loop that is recursive.
+pub const LOOP_FLAG_RECURSIVE: u8 = 2;
+
 /// A comparison of a chain. `In` is whether the left value is in the right one.
 #[derive(Clone, Copy, Debug, PartialEq, Eq)]
 pub enum CompareOp {
@@ -49,6 +55,8 @@ pub enum Instruction<'s, V: TemplateValue = Value> {
     Lookup(&'s str),
     /// Replaces the top operand by one of its attributes.
     GetAttr(&'s str),
+    /// Pops an object and a value, and sets one of the object's attributes to the value.
+    SetAttr(&'s str),
     /// Replaces an object and a key by the object's item.
     GetItem,
     /// Replaces an object, a start, a stop and a step by a slice of the object.
@@ -65,6 +73,8 @@ pub enum Instruction<'s, V: TemplateValue = Value> {
     BuildList(Option<usize>),
     /// Replaces so many values by a tuple, or for `None` as many as the count on top of them says.
     BuildTuple(Option<usize>),
+    /// Replaces a value by so many items of it, the first on top.
+    UnpackList(usize),
     /// Replaces so many lists by their items and the count of these.
     UnpackLists(usize),
     /// Replaces two values by their sum.
@@ -109,6 +119,18 @@ pub enum Instruction<'s, V: TemplateValue = Value> {
     PerformTest(&'s str, Option<u16>, LocalId),
     /// Pops a value and writes it.
     Emit,
+    /// Pops a value and begins a loop over its items, with these flags.
+    PushLoop(u8),
+    /// Begins a scope.
+    PushWith,
+    /// Pushes the next item of the innermost loop, or goes to an index where there is none.
+    Iterate(u32),
+    /// Pushes whether no item came to the innermost loop.
+    PushDidNotIterate,
+    /// Ends a scope.
+    PopFrame,
+    /// Ends a loop.
+    PopLoopFrame,
     /// Goes to an index.
     Jump(u32),
     /// Pops a value, and goes to an index if it is false.
@@ -117,6 +139,10 @@ pub enum Instruction<'s, V: TemplateValue = Value> {
     JumpIfFalseOrPop(u32),
     /// Goes to an index if the top operand is true, else pops it.
     JumpIfTrueOrPop(u32),
+    /// Pops a value, which says whether what is written is escaped from here on.
+    PushAutoEscape,
+    /// Takes back what the value popped last said of that.
+    PopAutoEscape,
     /// Begins to capture what is written.
     BeginCapture(CaptureMode),
     /// Ends the capture that began last, and pushes what it kept.

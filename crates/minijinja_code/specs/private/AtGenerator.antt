@@ -6,7 +6,7 @@ use Rattle.minijinja_syntax.specs.Texts.{Text}
 use Rattle.minijinja_syntax.specs.declared.error.Error.{Error}
 use Rattle.minijinja_meaning.specs.Code.{Instr}
 use Rattle.minijinja_meaning.specs.Pieces.{Here}
-use Rattle.minijinja_code.specs.private.Making.{made_of, here_of}
+use Rattle.minijinja_expression_code.specs.private.Making.{made_of, here_of}
 use Rattle.minijinja_code.specs.declared.codegen.CodeGenerator.{CodeGenerator}
 use Rattle.minijinja_instructions.specs.declared.instructions.Instructions.{Instructions}
 

@@ -1,17 +1,20 @@
-use Rattle.std.proofs.Common.{subst, sym}
-use Rattle.minijinja_tree.specs.Simple.{IsSimpleTree}
-use Rattle.minijinja_code.proofs.Templates.{tree_is}
+use Rattle.std.proofs.Common.{ap, arith, subst}
+use Rattle.minijinja_tree.specs.Erasure.{stmt_tree}
+use Rattle.minijinja_expression_code.specs.private.Making.{Adds, made_of}
+use Rattle.minijinja_code.specs.private.Statements.{stmt_piece}
+use Rattle.minijinja_code.specs.private.Turns.{Around}
+use Rattle.minijinja_code.proofs.Bodies.{root_stands}
+use Rattle.minijinja_code.proofs.Rounds.{bytes_outside, stmt_outside}
 use Rattle.minijinja_code.proofs.codegen.compile_stmt.Goals as goal
 
-pub compile_all-requires : goal.compile_all-requires
-compile_all-requires g c =
-    let e = tree_is {F = g.row.V-Fault.Denot} g.V.TemplateValue.contents c.args.stmt.now c.in-Template.template c.node.result.now c.deref.result.now c.in-Template.is c.node.ensures c.deref.ensures.value in
-    subst IsSimpleTree e c.requires
+pub statement-requires : goal.statement-requires
+statement-requires g c = root_stands _ (stmt_tree g.V.TemplateValue.contents c.args.stmt.now) (ap (λ (t : Around). t.in_loop) c.outside-turn.ensures) c.requires
 
-pub returns-in_ok-make_room-in-Template-clause-added : goal.returns-in_ok-make_room-in-Template-clause-added
-returns-in_ok-make_room-in-Template-clause-added g c =
-    rw (tree_is {F = g.row.V-Fault.Denot} g.V.TemplateValue.contents c.args.stmt.now c.in-Template.template c.node.result.now c.deref.result.now c.in-Template.is c.node.ensures c.deref.ensures.value) (rw (sym c.make_room.ensures) c.compile_all.ensures.added)
+pub returns-clause-added : goal.returns-clause-added
+returns-clause-added g c =
+    let tree = stmt_tree g.V.TemplateValue.contents c.args.stmt.now in
+    subst (λ m. Adds m (made_of g.V.TemplateValue.contents c.statement.new.code) (stmt_piece g.V.TemplateValue.functions tree)) c.in_ok-make_room.ensures
+    (stmt_outside g.V.TemplateValue.functions tree c.outside-turn.ensures c.in_ok-statement.ensures)
 
-pub returns-in_ok-make_room-in-Template-clause-counted : goal.returns-in_ok-make_room-in-Template-clause-counted
-returns-in_ok-make_room-in-Template-clause-counted g c =
-    rw (tree_is {F = g.row.V-Fault.Denot} g.V.TemplateValue.contents c.args.stmt.now c.in-Template.template c.node.result.now c.deref.result.now c.in-Template.is c.node.ensures c.deref.ensures.value) c.compile_all.ensures.counted
+pub returns-clause-counted : goal.returns-clause-counted
+returns-clause-counted g c = bytes_outside _ c.outside-turn.ensures c.in_ok-statement.ensures c.data_bytes.ensures (omega arith)

@@ -1,17 +1,17 @@
 use Rattle.std.proofs.Common.{◌∙◌, ◌<◌, ◌^◌, List, Result, Ok, length, refl, sym, subst}
 use Rattle.minijinja_tree.specs.Erasure.{stmt_tree}
-use Rattle.minijinja_tree.proofs.Simple.{simple-well-formed}
 use Rattle.minijinja_meaning.specs.Code.{Instr}
 use Rattle.minijinja_meaning.specs.Correct.{DoesStmt}
 use Rattle.minijinja_meaning.specs.Laws.{Laws}
 use Rattle.minijinja_meaning.specs.Places.{placed_stmt}
-use Rattle.minijinja_meaning.proofs.Whole.{statement_does}
-use Rattle.minijinja_code.specs.private.Making.{made_of, here_of}
+use Rattle.minijinja_meaning.specs.Units.{DoUnits}
+use Rattle.minijinja_meaning.proofs.Whole.{statement_does, statement_units_do}
+use Rattle.minijinja_expression_code.specs.private.Making.{made_of, here_of}
 use Rattle.minijinja_code.specs.private.Statements.{stmt_piece}
-use Rattle.minijinja_code.specs.declared.codegen.memory.OutOfMemory.{OutOfMemory}
+use Rattle.minijinja_expression_code.specs.declared.memory.OutOfMemory.{OutOfMemory}
 use Rattle.minijinja_code.proofs.Ending.{if_none, too_long, never_ok, never_long}
 use Rattle.minijinja_code.proofs.Uncapped.{stmt_uncapped}
-use Rattle.minijinja_code.proofs.Results.{ok_gives}
+use Rattle.minijinja_expression_code.proofs.Results.{ok_gives}
 use Rattle.minijinja_code.proofs.codegen.CodeGenerator.compile_stmt.Goals as goal
 
 pub returns-in-Ok-clause-added : goal.returns-in-Ok-clause-added
@@ -22,7 +22,7 @@ returns-in-Ok-clause-added g c =
     let e = stmt_tree v c.args.stmt.now in
     let r = c.ended.result in
     let s = c.in-Ok.ensures.added in
-    ok_gives r (λ small. c.ended.ensures.code ∙ stmt_uncapped f e (simple-well-formed e c.requires) s small) c.ended.ensures.few
+    ok_gives r (λ small. c.ended.ensures.code ∙ stmt_uncapped f e c.requires s small) c.ended.ensures.few
 
 pub returns-in-Ok-clause-past : goal.returns-in-Ok-clause-past
 returns-in-Ok-clause-past g c =
@@ -48,8 +48,21 @@ returns-in-Ok-clause-does g c =
     let s = c.in-Ok.ensures.added in
     let laws : Laws f = record { truth = g.met.V.TemplateValue.is_true_of_bool; count = g.met.V.TemplateValue.as_count_of_u64; one_more = g.met.V.TemplateValue.add_one } in
     ok_gives r (λ small.
-    subst (λ (code : List (Instr g.V.TemplateValue.Contents)). DoesStmt f code (length m.code) (length code) (placed_stmt f e (here_of m))) (sym (c.ended.ensures.code ∙ stmt_uncapped f e (simple-well-formed e c.requires) s small))
-    (statement_does f laws m.code (here_of m) e refl (simple-well-formed e c.requires))) c.ended.ensures.few
+    subst (λ (code : List (Instr g.V.TemplateValue.Contents)). DoesStmt f code (length m.code) (length code) (placed_stmt f e (here_of m))) (sym (c.ended.ensures.code ∙ stmt_uncapped f e c.requires s small))
+    (statement_does f laws m.code (here_of m) e refl c.requires)) c.ended.ensures.few
+
+pub returns-in-Ok-clause-units : goal.returns-in-Ok-clause-units
+returns-in-Ok-clause-units g c =
+    let v = g.V.TemplateValue.contents in
+    let f = g.V.TemplateValue.functions in
+    let m = made_of v c.args.self.now.code in
+    let e = stmt_tree v c.args.stmt.now in
+    let r = c.ended.result in
+    let s = c.in-Ok.ensures.added in
+    let laws : Laws f = record { truth = g.met.V.TemplateValue.is_true_of_bool; count = g.met.V.TemplateValue.as_count_of_u64; one_more = g.met.V.TemplateValue.add_one } in
+    ok_gives r (λ small.
+    subst (λ (code : List (Instr g.V.TemplateValue.Contents)). DoUnits f code e (here_of m)) (sym (c.ended.ensures.code ∙ stmt_uncapped f e c.requires s small))
+    (statement_units_do f laws m.code (here_of m) e refl c.requires)) c.ended.ensures.few
 
 pub returns-in-Ok-clause-too_many : goal.returns-in-Ok-clause-too_many
 returns-in-Ok-clause-too_many g c =
@@ -73,6 +86,9 @@ returns-in-Err-clause-few g c = never_ok _ c.ended-in-Err.result c.in-Err.refuse
 
 pub returns-in-Err-clause-does : goal.returns-in-Err-clause-does
 returns-in-Err-clause-does g c = never_ok _ c.ended-in-Err.result c.in-Err.refused tt c.ended-in-Err.ensures.outcome
+
+pub returns-in-Err-clause-units : goal.returns-in-Err-clause-units
+returns-in-Err-clause-units g c = never_ok _ c.ended-in-Err.result c.in-Err.refused tt c.ended-in-Err.ensures.outcome
 
 pub returns-in-Err-clause-counted : goal.returns-in-Err-clause-counted
 returns-in-Err-clause-counted g c = never_ok _ c.ended-in-Err.result c.in-Err.refused tt c.ended-in-Err.ensures.outcome

@@ -1,0 +1,30 @@
+-- If statements while their code is being made.
+use Rattle.std.specs.Prelude.{◌≡◌, ℕ, List, [], ◌∷◌, length}
+use Rattle.minijinja_value.specs.Values.{Functions}
+use Rattle.minijinja_tree.specs.Nodes.{node_of}
+use Rattle.minijinja_tree.specs.Tree.{Expr}
+use Rattle.minijinja_tree.specs.declared.ast.IfCond.{IfCond}
+use Rattle.minijinja_tree.specs.declared.ast.Spanned.{Spanned}
+use Rattle.minijinja_tree.specs.declared.ast.Stmt.{Stmt}
+use Rattle.minijinja_tree.specs.declared.ast.Stmt.TheVariants as stmt
+use Rattle.minijinja_meaning.specs.Layout.{expr}
+use Rattle.minijinja_meaning.specs.Pieces.{one}
+use Rattle.minijinja_expression_code.specs.private.Making.{Made, Adds, hole}
+
+-- a test was added, and room for its jump at a place
+pub record Tests {C F : Type 0} (f : Functions C F) (e : Expr C) (place : ℕ) (old new : Made C) : Type 0 where
+  pub tested : Made C
+  pub test_added : Adds old tested (expr f e)
+  pub at : place ≡ length tested.code
+  pub hole_added : Adds tested new (one hole)
+
+-- the statements are one if statement
+pub record IsElif {V F : Type 0} (stmts : List (Stmt V F)) : Type 0 where
+  pub node : Spanned (IfCond V F)
+  pub is : stmts ≡ stmt.IfCond node ∷ []
+
+-- they are one with this node
+pub record IsOnly {V F : Type 0} (stmts : List (Stmt V F)) (n : IfCond V F) : Type 0 where
+  pub node : Spanned (IfCond V F)
+  pub is : stmts ≡ stmt.IfCond node ∷ []
+  pub at : n ≡ node_of node

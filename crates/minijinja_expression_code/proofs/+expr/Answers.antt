@@ -1,0 +1,660 @@
+use Rattle.std.proofs.Common.{rules, arith, ◌≡◌, ◌<◌, ◌≤◌, [], ◌∙◌, Some, length, refl, sym, ap, subst}
+use Rattle.std.specs.Prelude.{reverse, IfOk}
+use Rattle.minijinja_tree.specs.Erasure.{bin_op, expr_tree, exprs_of, args_of, optional_of}
+use Rattle.minijinja_tree.specs.WellFormed.{IsWhole, AreArguments, arg_count, most_arguments}
+use Rattle.minijinja_tree.specs.declared.ast.Expr.{size-Expr, the_lemmas}
+use Rattle.minijinja_meaning.specs.Layout.{argument_count, Count, map_count}
+use Rattle.minijinja_meaning.specs.Pieces.{one}
+use Rattle.minijinja_expression_code.specs.private.Leading.{test_in}
+use Rattle.minijinja_expression_code.specs.private.Making.{made_of, count_of}
+use Rattle.minijinja_expression_code.proofs.Adding.{adds_as}
+use Rattle.minijinja_expression_code.proofs.Arms.{slice_arm, unary_arm, binary_arm, if_arm, filter_arm, test_arm, call_arm, list_arm, tuple_arm, map_arm, whole_slice_stop, whole_slice_step, whole_filter, whole_test_args, whole_test_few, whole_call_args, whole_call_few, whole_list, whole_tuple, whole_pairs, whole_keys, whole_values}
+use Rattle.minijinja_expression_code.proofs.Finishing.{finishes_as, slice_finishes, binary_finishes, filter_finishes, filter_arguments, filter_applied, test_finishes, test_performed, function_finishes, method_finishes, object_finishes, list_loaded, list_finishes, tuple_loaded, tuple_finishes, map_loaded, map_finishes, leading_whole, test_whole}
+use Rattle.minijinja_expression_code.proofs.InOrder.{count_length, leads_whole, leads_on, leads_end, whole_here, whole_after, items_next, items_end, pairs, pairs_next, pairs_end}
+use Rattle.minijinja_expression_code.proofs.Waiting.{Rest, rest_more, rest_less, rest_whole, rest_size, rest_leaf}
+use Rattle.minijinja_tree.specs.declared.ast.Compare.{out-Compare}
+use Rattle.minijinja_expression_code.specs.private.Comparing.{places_of}
+use Rattle.minijinja_expression_code.proofs.ChainTurns.{turning_first, turn, turn_held, turn_holds, turn_stops}
+use Rattle.minijinja_expression_code.proofs.ChainEnds.{whole_parts, compare_fails, compare_holds, compare_closes}
+use Rattle.minijinja_expression_code.proofs.+expr.Goals.{chain::compare-in-Some-true, chain::compare-in-None, arguments::positional_arguments-in-Pos+in_ok-expression-in-Pos, arguments::positional_arguments-in-PosSplat+in_ok-close_list-in-PosSplat+in_ok-expression-in-PosSplat, arguments::keyword_pairs-in-Kwarg+in_ok-load_name-in-Kwarg+in_ok-expression-in-Kwarg, arguments::keyword_pairs-in-KwargSplat+in_ok-close_map-in-KwargSplat+in_ok-expression-in-KwargSplat, branches::otherwise-in-Some+in_ok-expression-in-Some, branches::otherwise-in-None+in_ok-load_undefined-in-None}
+use Rattle.minijinja_tree.specs.declared.ast.CallArg.{size-CallArg}
+use Rattle.minijinja_expression_code.proofs.CallArguments.{positional_bound, keyword_bound, map_count_few, keywords_loaded, keywords_merged, counted_all, adds_given, element_size, args_length, taken_none, taken_all, positional_walk, pos_whole, pos_splat_whole, taken_pos, taken_pos_splat, passed_keyword, keyword_walk, kwarg_whole, kwarg_splat_whole, taken_kwarg, taken_kwarg_splat, passed_positional}
+use Rattle.minijinja_tree.specs.declared.ast.IfExpr.{size-IfExpr, the_lemmas as if_lemmas}
+use Rattle.minijinja_tree.specs.Tree.{if_expr, absent, present}
+use Rattle.minijinja_expression_code.proofs.Branching.{opened, chosen_next, chosen_last}
+use Rattle.minijinja_expression_code.proofs.Results.{ok_gives}
+use Rattle.minijinja_tree.specs.Tree as tree
+use Rattle.minijinja_meaning.specs.Layout as layout
+use Rattle.minijinja_meaning.specs.Code as code
+use Rattle.minijinja_meaning.specs.Events as event
+use Rattle.minijinja_expression_code.proofs.+expr.Goals as goal
+
+pub expr::begin-expression-requires : goal.expr::begin-expression-requires
+expr::begin-expression-requires g t c =
+    let v = g.V.TemplateValue.contents in
+    let f = g.V.TemplateValue.functions in
+    let e = expr_tree v c.args.node.now in
+    let is : test_in e ≡ Some (expr_tree v c.in-Some.test.now) = sym c.in-Some.ensures.test in
+    λ κs live. (omega (arith, c.in-Some.ensures.smaller, c.decreases), (search rules, (search rules, test_whole e (expr_tree v c.in-Some.test.now) is c.requires)))
+
+pub expr::expression-begin-requires : goal.expr::expression-begin-requires
+expr::expression-begin-requires g t c =
+    let small = c.loop-code.invariant.small in
+    λ κs live. (omega (arith, small, c.decreases), (search rules, (search rules, c.loop-code.invariant.whole)))
+
+pub expr::expression-finish-requires : goal.expr::expression-finish-requires
+expr::expression-finish-requires g t c =
+    let small = c.loop-code.invariant.small in
+    λ κs live. (omega (arith, small, c.decreases), (search rules, (search rules, c.loop-code.invariant.whole)))
+
+pub expr::expression-finish-requires-in-Some : goal.expr::expression-finish-requires-in-Some
+expr::expression-finish-requires-in-Some g t c =
+    let v = g.V.TemplateValue.contents in
+    let f = g.V.TemplateValue.functions in
+    let r = subst (λ l. Rest f v (made_of v c.args.code.now) (expr_tree v c.args.expr.now) (size-Expr g.row.V.Denot g.row.V-Fault.Denot c.args.expr.now) (reverse l) (made_of v c.loop-last.code)) c.in-Some.ensures.items c.loop-last.invariant in
+    let n = rest_size f v (made_of v c.args.code.now) (expr_tree v c.args.expr.now) _ c.pop.new.self.items c.in-Some.last (made_of v c.loop-last.code) r in
+    λ κs live. (omega (arith, n, c.decreases), (search rules, (search rules, rest_whole f v (made_of v c.args.code.now) (expr_tree v c.args.expr.now) _ c.pop.new.self.items c.in-Some.last (made_of v c.loop-last.code) r)))
+
+pub expr::expression-loop-code-preserved : goal.expr::expression-loop-code-preserved
+expr::expression-loop-code-preserved g t c =
+    let v = g.V.TemplateValue.contents in
+    let f = g.V.TemplateValue.functions in
+    let e = expr_tree v c.loop-code.part.now in
+    let leads = c.leading_operand-part.ensures.operand in
+    record {
+      whole = leading_whole e (expr_tree v c.leading_operand-part.result.now) leads c.loop-code.invariant.whole;
+      small = omega (arith, c.loop-code.invariant.small, c.leading_operand-part.ensures.smaller);
+      rest = λ later s. subst (λ l. Rest f v (made_of v c.args.code.now) (expr_tree v c.args.expr.now) (size-Expr g.row.V.Denot g.row.V-Fault.Denot c.args.expr.now) (reverse l) later) (sym c.in_ok-push.ensures.items)
+          (rest_more f v (made_of v c.args.code.now) (expr_tree v c.args.expr.now) _ c.loop-code.begun.items (record { node = c.loop-code.part; place = c.in_ok-place.place }) (expr_tree v c.leading_operand-part.result.now) (made_of v c.loop-code.code) (made_of v c.begin.new.code) c.in_ok-place.ensures leads c.loop-code.invariant.whole c.loop-code.invariant.small c.loop-code.invariant.rest later s);
+    }
+
+pub expr::expression-loop-last-init : goal.expr::expression-loop-last-init
+expr::expression-loop-last-init g t c =
+    let v = g.V.TemplateValue.contents in
+    let f = g.V.TemplateValue.functions in
+    rest_leaf f v (made_of v c.args.code.now) (expr_tree v c.args.expr.now) _ (reverse c.loop-code.begun.items) (expr_tree v c.loop-code.part.now) (made_of v c.loop-code.code) (made_of v c.finish.new.code) c.place-place.result
+    (sym c.has_leading_operand.ensures ∙ c.loop-code-test.false) c.place-place.ensures c.in_ok-finish.ensures c.loop-code.invariant.rest
+
+pub expr::expression-loop-last-preserved : goal.expr::expression-loop-last-preserved
+expr::expression-loop-last-preserved g t c =
+    let v = g.V.TemplateValue.contents in
+    let f = g.V.TemplateValue.functions in
+    rest_less f v (made_of v c.args.code.now) (expr_tree v c.args.expr.now) _ c.pop.new.self.items c.in-Some.last (made_of v c.loop-last.code) (made_of v c.finish-in-Some.new.code) c.in_ok-finish-2.ensures
+    (subst (λ l. Rest f v (made_of v c.args.code.now) (expr_tree v c.args.expr.now) (size-Expr g.row.V.Denot g.row.V-Fault.Denot c.args.expr.now) (reverse l) (made_of v c.loop-last.code)) c.in-Some.ensures.items c.loop-last.invariant)
+
+pub expr::finish-bound-requires-in-Slice : goal.expr::finish-bound-requires-in-Slice
+expr::finish-bound-requires-in-Slice g t c =
+    let v = g.V.TemplateValue.contents in
+    let f = g.V.TemplateValue.functions in
+    λ κs live. (search (rules, the_lemmas), (search rules, (search rules, whole_slice_stop v c.args.node.now c.in-Slice.slice c.node-slice.result.now c.in-Slice.is c.node-slice.ensures c.requires)))
+
+pub expr::finish-bound-requires-in-Slice-2 : goal.expr::finish-bound-requires-in-Slice-2
+expr::finish-bound-requires-in-Slice-2 g t c =
+    let v = g.V.TemplateValue.contents in
+    let f = g.V.TemplateValue.functions in
+    λ κs live. (search (rules, the_lemmas), (search rules, (search rules, whole_slice_step v c.args.node.now c.in-Slice.slice c.node-slice.result.now c.in-Slice.is c.node-slice.ensures c.requires)))
+
+pub expr::finish-returns-in_ok-bound-in-Slice-3 : goal.expr::finish-returns-in_ok-bound-in-Slice-3
+expr::finish-returns-in_ok-bound-in-Slice-3 g t c =
+    let v = g.V.TemplateValue.contents in
+    let f = g.V.TemplateValue.functions in
+    let n = c.node-slice.result.now in
+    ok_gives c.add-in-Slice.result (λ s. finishes_as f c.args.place (made_of v c.args.code.now) (made_of v c.add-in-Slice.new.self) (slice_arm v c.args.node.now c.in-Slice.slice n c.in-Slice.is c.node-slice.ensures)
+    (slice_finishes f (expr_tree v n.expr) (optional_of v n.start) (optional_of v n.stop) (optional_of v n.step) c.in_ok-bound-in-Slice.ensures c.in_ok-bound-in-Slice-2.ensures c.in_ok-bound-in-Slice-3.ensures s)) c.add-in-Slice.ensures
+
+pub expr::finish-returns-in_ok-expression-in-BinOp : goal.expr::finish-returns-in_ok-expression-in-BinOp
+expr::finish-returns-in_ok-expression-in-BinOp g t c =
+    let v = g.V.TemplateValue.contents in
+    let f = g.V.TemplateValue.functions in
+    let n = c.node-operation.result.now in
+    let w = subst IsWhole (binary_arm v c.args.node.now c.in-BinOp.operation n c.in-BinOp.is c.node-operation.ensures) c.requires in
+    ok_gives c.end_binary.result (λ s. finishes_as f c.args.place (made_of v c.args.code.now) (made_of v c.end_binary.new.code) (binary_arm v c.args.node.now c.in-BinOp.operation n c.in-BinOp.is c.node-operation.ensures)
+    (binary_finishes f (bin_op n.op) (expr_tree v n.left) (expr_tree v n.right) w.0 w.1 c.in_ok-middle-in-BinOp.ensures.middle c.in_ok-middle-in-BinOp.ensures.added c.in_ok-expression-in-BinOp.ensures s)) c.end_binary.ensures
+
+pub expr::finish-returns-in-UnaryOp : goal.expr::finish-returns-in-UnaryOp
+expr::finish-returns-in-UnaryOp g t c =
+    let v = g.V.TemplateValue.contents in
+    let f = g.V.TemplateValue.functions in
+    let n = c.node-in-UnaryOp.result.now in
+    let is = unary_arm v c.args.node.now c.in-UnaryOp.operation n c.in-UnaryOp.is c.node-in-UnaryOp.ensures in
+    ok_gives c.end_unary.result (λ ends. finishes_as f c.args.place (made_of v c.args.code.now) (made_of v c.end_unary.new.code) is (ends (expr_tree v n.expr) (subst IsWhole is c.requires))) c.end_unary.ensures
+
+pub expr::finish-returns-in-IfExpr : goal.expr::finish-returns-in-IfExpr
+expr::finish-returns-in-IfExpr g t c =
+    let v = g.V.TemplateValue.contents in
+    let f = g.V.TemplateValue.functions in
+    let n = c.node-in-IfExpr.result.now in
+    ok_gives c.otherwise.result (finishes_as f c.args.place (made_of v c.args.code.now) (made_of v c.otherwise.new.code) (if_arm v c.args.node.now c.in-IfExpr.choice n c.in-IfExpr.is c.node-in-IfExpr.ensures)) c.otherwise.ensures
+
+pub expr::finish-returns-in_ok-id-in-Filter : goal.expr::finish-returns-in_ok-id-in-Filter
+expr::finish-returns-in_ok-id-in-Filter g t c =
+    let v = g.V.TemplateValue.contents in
+    let f = g.V.TemplateValue.functions in
+    let n = c.node-filter.result.now in
+    let args = args_of v c.deref.result.now in
+    ok_gives c.add-in-Filter.result (λ s. finishes_as f c.args.place (made_of v c.args.code.now) (made_of v c.add-in-Filter.new.self) (filter_arm v c.args.node.now c.in-Filter.filter n c.in-Filter.is c.node-filter.ensures ∙ ap (λ xs. tree.filter (optional_of v n.expr) n.name.now (args_of v xs)) (sym c.deref.ensures.value))
+    (filter_finishes f (optional_of v n.expr) n.name.now args c.in_ok-count-in-Filter.ensures.added
+    (filter_applied n.name.now c.in_ok-count-in-Filter.count (argument_count args 1) c.in_ok-id-in-Filter.id c.in_ok-id-in-Filter.ensures.noted c.in_ok-id-in-Filter.ensures.id c.in_ok-count-in-Filter.ensures.count s))) c.add-in-Filter.ensures
+
+pub expr::finish-returns-in_ok-id-in-Test : goal.expr::finish-returns-in_ok-id-in-Test
+expr::finish-returns-in_ok-id-in-Test g t c =
+    let v = g.V.TemplateValue.contents in
+    let f = g.V.TemplateValue.functions in
+    let n = c.node-test.result.now in
+    let args = args_of v c.deref-in-Test.result.now in
+    ok_gives c.add-in-Test.result (λ s. finishes_as f c.args.place (made_of v c.args.code.now) (made_of v c.add-in-Test.new.self) (test_arm v c.args.node.now c.in-Test.test n c.in-Test.is c.node-test.ensures ∙ ap (λ xs. tree.test (expr_tree v n.expr) n.name.now (args_of v xs)) (sym c.deref-in-Test.ensures.value))
+    (test_finishes f (expr_tree v n.expr) n.name.now args c.in_ok-count-in-Test.ensures.added
+    (test_performed n.name.now c.in_ok-count-in-Test.count (argument_count args 1) c.in_ok-id-in-Test.id c.in_ok-id-in-Test.ensures.noted c.in_ok-id-in-Test.ensures.id c.in_ok-count-in-Test.ensures.count s))) c.add-in-Test.ensures
+
+pub expr::finish-returns-in_ok-count-in-Function : goal.expr::finish-returns-in_ok-count-in-Function
+expr::finish-returns-in_ok-count-in-Function g t c =
+    let v = g.V.TemplateValue.contents in
+    let f = g.V.TemplateValue.functions in
+    let n = c.node-call.result.now in
+    let args = args_of v c.deref-in-Function.result.now in
+    ok_gives c.add-in-Function.result (λ s. finishes_as f c.args.place (made_of v c.args.code.now) (made_of v c.add-in-Function.new.self) (call_arm v c.args.node.now c.in-Call.call n c.in-Call.is c.node-call.ensures ∙ ap (λ xs. tree.call (expr_tree v n.expr) (args_of v xs)) (sym c.deref-in-Function.ensures.value))
+    (function_finishes f (expr_tree v n.expr) args c.in-Function.name.now (sym c.in-Function.ensures.callee) c.in_ok-count-in-Function.ensures.added
+    (adds_as (ap (λ m. one (code.Call event.CallFunction c.in-Function.name.now m)) c.in_ok-count-in-Function.ensures.count) s))) c.add-in-Function.ensures
+
+pub expr::finish-returns-in_ok-count-in-Method : goal.expr::finish-returns-in_ok-count-in-Method
+expr::finish-returns-in_ok-count-in-Method g t c =
+    let v = g.V.TemplateValue.contents in
+    let f = g.V.TemplateValue.functions in
+    let n = c.node-call.result.now in
+    let args = args_of v c.deref-in-Method.result.now in
+    ok_gives c.add-in-Method.result (λ s. finishes_as f c.args.place (made_of v c.args.code.now) (made_of v c.add-in-Method.new.self) (call_arm v c.args.node.now c.in-Call.call n c.in-Call.is c.node-call.ensures ∙ ap (λ xs. tree.call (expr_tree v n.expr) (args_of v xs)) (sym c.deref-in-Method.ensures.value))
+    (method_finishes f (expr_tree v n.expr) args (expr_tree v c.in-Method.field-0.now) c.in-Method.name.now (sym c.in-Method.ensures.callee) c.in_ok-count-in-Method.ensures.added
+    (adds_as (ap (λ m. one (code.Call event.CallMethod c.in-Method.name.now m)) c.in_ok-count-in-Method.ensures.count) s))) c.add-in-Method.ensures
+
+pub expr::finish-returns-in_ok-count-in-Object : goal.expr::finish-returns-in_ok-count-in-Object
+expr::finish-returns-in_ok-count-in-Object g t c =
+    let v = g.V.TemplateValue.contents in
+    let f = g.V.TemplateValue.functions in
+    let n = c.node-call.result.now in
+    let args = args_of v c.deref-in-Object.result.now in
+    ok_gives c.add-in-Object.result (λ s. finishes_as f c.args.place (made_of v c.args.code.now) (made_of v c.add-in-Object.new.self) (call_arm v c.args.node.now c.in-Call.call n c.in-Call.is c.node-call.ensures ∙ ap (λ xs. tree.call (expr_tree v n.expr) (args_of v xs)) (sym c.deref-in-Object.ensures.value))
+    (object_finishes f (expr_tree v n.expr) args (expr_tree v c.in-Object.field-0.now) (sym c.in-Object.ensures.callee) c.in_ok-count-in-Object.ensures.added
+    (adds_as (ap (λ m. one (code.Call event.CallObject [] m)) c.in_ok-count-in-Object.ensures.count) s))) c.add-in-Object.ensures
+
+pub expr::finish-returns-then-branch : goal.expr::finish-returns-then-branch
+expr::finish-returns-then-branch g t c =
+    let v = g.V.TemplateValue.contents in
+    let f = g.V.TemplateValue.functions in
+    let n = c.node-list.result.now in
+    finishes_as f c.args.place (made_of v c.args.code.now) (made_of v c.load_list.new.code) (list_arm v c.args.node.now c.in-List.list n c.in-List.is c.node-list.ensures) (list_loaded f (exprs_of v n.items.items) c.in_ok-load_list-in-List.field-0 c.if-branch.true c.in_ok-load_list-in-List.ensures)
+
+pub expr::finish-items-requires : goal.expr::finish-items-requires
+expr::finish-items-requires g t c =
+    let v = g.V.TemplateValue.contents in
+    let f = g.V.TemplateValue.functions in
+    let n = c.node-list.result.now in
+    λ κs live. (search (rules, the_lemmas), (search rules, (search rules, whole_list v c.args.node.now c.in-List.list n c.deref-in-List.result.now c.in-List.is c.node-list.ensures c.deref-in-List.ensures.value c.requires)))
+
+pub expr::finish-returns-in_ok-items-in-List : goal.expr::finish-returns-in_ok-items-in-List
+expr::finish-returns-in_ok-items-in-List g t c =
+    let v = g.V.TemplateValue.contents in
+    let f = g.V.TemplateValue.functions in
+    let n = c.node-list.result.now in
+    let es = exprs_of v n.items.items in
+    ok_gives c.add-in-List.result (λ s. finishes_as f c.args.place (made_of v c.args.code.now) (made_of v c.add-in-List.new.self) (list_arm v c.args.node.now c.in-List.list n c.in-List.is c.node-list.ensures)
+    (list_finishes f es c.len.result c.in_ok-load_list-in-List.field-0 c.if-branch.false c.in_ok-load_list-in-List.ensures (adds_as (ap (λ xs. layout.items f (exprs_of v xs)) c.deref-in-List.ensures.value) c.in_ok-items-in-List.ensures) (omega (arith, count_length v n.items.items, c.len.ensures, n.items.ok.0)) s)) c.add-in-List.ensures
+
+pub expr::finish-returns-then-branch-2 : goal.expr::finish-returns-then-branch-2
+expr::finish-returns-then-branch-2 g t c =
+    let v = g.V.TemplateValue.contents in
+    let f = g.V.TemplateValue.functions in
+    let n = c.node-tuple.result.now in
+    finishes_as f c.args.place (made_of v c.args.code.now) (made_of v c.load_tuple.new.code) (tuple_arm v c.args.node.now c.in-Tuple.tuple n c.in-Tuple.is c.node-tuple.ensures) (tuple_loaded f (exprs_of v n.items.items) c.in_ok-load_tuple-in-Tuple.field-0 c.if-branch-2.true c.in_ok-load_tuple-in-Tuple.ensures)
+
+pub expr::finish-items-requires-in-Tuple : goal.expr::finish-items-requires-in-Tuple
+expr::finish-items-requires-in-Tuple g t c =
+    let v = g.V.TemplateValue.contents in
+    let f = g.V.TemplateValue.functions in
+    let n = c.node-tuple.result.now in
+    λ κs live. (search (rules, the_lemmas), (search rules, (search rules, whole_tuple v c.args.node.now c.in-Tuple.tuple n c.deref-in-Tuple.result.now c.in-Tuple.is c.node-tuple.ensures c.deref-in-Tuple.ensures.value c.requires)))
+
+pub expr::finish-returns-in_ok-items-in-Tuple : goal.expr::finish-returns-in_ok-items-in-Tuple
+expr::finish-returns-in_ok-items-in-Tuple g t c =
+    let v = g.V.TemplateValue.contents in
+    let f = g.V.TemplateValue.functions in
+    let n = c.node-tuple.result.now in
+    let es = exprs_of v n.items.items in
+    ok_gives c.add-in-Tuple.result (λ s. finishes_as f c.args.place (made_of v c.args.code.now) (made_of v c.add-in-Tuple.new.self) (tuple_arm v c.args.node.now c.in-Tuple.tuple n c.in-Tuple.is c.node-tuple.ensures)
+    (tuple_finishes f es c.len-in-Tuple.result c.in_ok-load_tuple-in-Tuple.field-0 c.if-branch-2.false c.in_ok-load_tuple-in-Tuple.ensures (adds_as (ap (λ xs. layout.items f (exprs_of v xs)) c.deref-in-Tuple.ensures.value) c.in_ok-items-in-Tuple.ensures) (omega (arith, count_length v n.items.items, c.len-in-Tuple.ensures, n.items.ok.0)) s)) c.add-in-Tuple.ensures
+
+pub expr::finish-returns-then-branch-3 : goal.expr::finish-returns-then-branch-3
+expr::finish-returns-then-branch-3 g t c =
+    let v = g.V.TemplateValue.contents in
+    let f = g.V.TemplateValue.functions in
+    let n = c.node-map.result.now in
+    finishes_as f c.args.place (made_of v c.args.code.now) (made_of v c.load_map.new.code) (map_arm v c.args.node.now c.in-Map.map n c.in-Map.is c.node-map.ensures) (map_loaded f (exprs_of v n.keys.items) (exprs_of v n.values.items) c.in_ok-load_map-in-Map.field-0 c.if-branch-3.true c.in_ok-load_map-in-Map.ensures)
+
+pub expr::finish-loop-i-init : goal.expr::finish-loop-i-init
+expr::finish-loop-i-init g t c =
+    let v = g.V.TemplateValue.contents in
+    let f = g.V.TemplateValue.functions in
+    let n = c.node-map.result.now in
+    record {
+      leads = leads_whole (made_of v c.load_map.new.code) (pairs f v n.keys.items n.values.items) (pairs f v n.keys.items n.values.items) refl;
+      keys = whole_keys v c.args.node.now c.in-Map.map n n.keys.items c.in-Map.is c.node-map.ensures refl c.requires;
+      values = whole_values v c.args.node.now c.in-Map.map n n.values.items c.in-Map.is c.node-map.ensures refl c.requires;
+    }
+
+pub expr::finish-expression-requires-in-loop-i : goal.expr::finish-expression-requires-in-loop-i
+expr::finish-expression-requires-in-loop-i g t c =
+    let v = g.V.TemplateValue.contents in
+    let f = g.V.TemplateValue.functions in
+    let n = c.node-map.result.now in
+    let ks = n.keys.items in
+    let vs = n.values.items in
+    let l = c.loop-i in
+    let same : length ks ≡ length vs = sym (count_length v ks) ∙ whole_pairs v c.args.node.now c.in-Map.map n c.in-Map.is c.node-map.ensures c.requires ∙ count_length v vs in
+    let within : l.i < length ks = omega (arith, n.keys.ok.0) in
+    λ κs live. (search (rules, the_lemmas, within), (search rules, (search rules, whole_here v ks l.i c.index.result.now within c.index.ensures l.invariant.keys)))
+
+pub expr::finish-index-requires-in-loop-i : goal.expr::finish-index-requires-in-loop-i
+expr::finish-index-requires-in-loop-i g t c =
+    let v = g.V.TemplateValue.contents in
+    let f = g.V.TemplateValue.functions in
+    let n = c.node-map.result.now in
+    let ks = n.keys.items in
+    let vs = n.values.items in
+    let l = c.loop-i in
+    let same : length ks ≡ length vs = sym (count_length v ks) ∙ whole_pairs v c.args.node.now c.in-Map.map n c.in-Map.is c.node-map.ensures c.requires ∙ count_length v vs in
+    omega (arith, same, n.keys.ok.0, n.values.ok.0)
+
+pub expr::finish-expression-requires-in-loop-i-2 : goal.expr::finish-expression-requires-in-loop-i-2
+expr::finish-expression-requires-in-loop-i-2 g t c =
+    let v = g.V.TemplateValue.contents in
+    let f = g.V.TemplateValue.functions in
+    let n = c.node-map.result.now in
+    let ks = n.keys.items in
+    let vs = n.values.items in
+    let l = c.loop-i in
+    let same : length ks ≡ length vs = sym (count_length v ks) ∙ whole_pairs v c.args.node.now c.in-Map.map n c.in-Map.is c.node-map.ensures c.requires ∙ count_length v vs in
+    let also : l.i < length vs = omega (arith, same, n.keys.ok.0) in
+    λ κs live. (search (rules, the_lemmas, also), (search rules, (search rules, whole_here v vs l.i c.index-in-loop-i.result.now also c.index-in-loop-i.ensures l.invariant.values)))
+
+pub expr::finish-loop-i-preserved : goal.expr::finish-loop-i-preserved
+expr::finish-loop-i-preserved g t c =
+    let v = g.V.TemplateValue.contents in
+    let f = g.V.TemplateValue.functions in
+    let n = c.node-map.result.now in
+    let ks = n.keys.items in
+    let vs = n.values.items in
+    let l = c.loop-i in
+    let same : length ks ≡ length vs = sym (count_length v ks) ∙ whole_pairs v c.args.node.now c.in-Map.map n c.in-Map.is c.node-map.ensures c.requires ∙ count_length v vs in
+    let k = c.index.result.now in
+    let x = c.index-in-loop-i.result.now in
+    let within : l.i < length ks = omega (arith, n.keys.ok.0) in
+    let also : l.i < length vs = omega (arith, within, same) in
+    let first = leads_on (layout.expr f (expr_tree v k)) _ (pairs_next f v ks vs l.i k x within also c.index.ensures c.index-in-loop-i.ensures) c.in_ok-expression-in-Map.ensures l.invariant.leads in
+    record {
+      leads = leads_on (layout.expr f (expr_tree v x)) _ refl c.in_ok-expression-in-Map-2.ensures first;
+      keys = whole_after v ks l.i k within l.invariant.keys;
+      values = whole_after v vs l.i x also l.invariant.values;
+    }
+
+pub expr::finish-returns-after-loop-i : goal.expr::finish-returns-after-loop-i
+expr::finish-returns-after-loop-i g t c =
+    let v = g.V.TemplateValue.contents in
+    let f = g.V.TemplateValue.functions in
+    let n = c.node-map.result.now in
+    let ks = n.keys.items in
+    let vs = n.values.items in
+    let l = c.loop-i in
+    let same : length ks ≡ length vs = sym (count_length v ks) ∙ whole_pairs v c.args.node.now c.in-Map.map n c.in-Map.is c.node-map.ensures c.requires ∙ count_length v vs in
+    ok_gives c.add-in-Map.result (λ s. finishes_as f c.args.place (made_of v c.args.code.now) (made_of v c.add-in-Map.new.self) (map_arm v c.args.node.now c.in-Map.map n c.in-Map.is c.node-map.ensures)
+    (map_finishes f (exprs_of v ks) (exprs_of v vs) c.len-in-Map.result c.in_ok-load_map-in-Map.field-0 c.if-branch-3.false c.in_ok-load_map-in-Map.ensures
+    (leads_end (pairs_end f v ks vs l.i (omega (arith, n.keys.ok.0))) l.invariant.leads) (omega (arith, count_length v ks, c.len-in-Map.ensures, n.keys.ok.0)) s)) c.add-in-Map.ensures
+
+pub expr::items-loop-expr-preserved : goal.expr::items-loop-expr-preserved
+expr::items-loop-expr-preserved g t c =
+    let v = g.V.TemplateValue.contents in
+    let f = g.V.TemplateValue.functions in
+    let l = c.loop-expr in
+    let xs = c.args.exprs.now in
+    let x = c.expr-item.result in
+    let within : l.expr-index < length xs = omega arith in
+    record {
+      whole = whole_after v xs l.expr-index x within l.invariant.whole;
+      leads = leads_on (layout.expr f (expr_tree v x)) _ (items_next f v xs l.expr-index x within c.expr-item.is) c.in_ok-expression.ensures l.invariant.leads;
+    }
+
+pub expr::items-expression-requires : goal.expr::items-expression-requires
+expr::items-expression-requires g t c =
+    let v = g.V.TemplateValue.contents in
+    let f = g.V.TemplateValue.functions in
+    let l = c.loop-expr in
+    let xs = c.args.exprs.now in
+    let x = c.expr-item.result in
+    let within : l.expr-index < length xs = omega arith in
+    λ κs live. (search (rules, the_lemmas, within), (search rules, (search rules, whole_here v xs l.expr-index x within c.expr-item.is l.invariant.whole)))
+
+pub expr::items-returns : goal.expr::items-returns
+expr::items-returns g t c =
+    let v = g.V.TemplateValue.contents in
+    let f = g.V.TemplateValue.functions in
+    leads_end (items_end f v c.args.exprs.now c.loop-expr.expr-index (omega arith)) c.loop-expr.invariant.leads
+
+pub chain::compare-loop-i-init : goal.chain::compare-loop-i-init
+chain::compare-loop-i-init g t c =
+    let f = g.V.TemplateValue.functions in
+    let v = g.V.TemplateValue.contents in
+    let chain = out-Compare g.row.V.Denot g.row.V-Fault.Denot c.args.chain.now in
+    turning_first f v (made_of v c.args.code.now) (expr_tree v chain.expr) chain.ops.items c.args.start (places_of c.new-jumps.result) c.first_constant-last.result (whole_parts f v c.args.chain.now c.requires) c.new-jumps.ensures c.first_constant-last.ensures
+
+pub chain::compare-compare_constants-requires : goal.chain::compare-compare_constants-requires
+chain::compare-compare_constants-requires g t c =
+    let f = g.V.TemplateValue.functions in
+    let v = g.V.TemplateValue.contents in
+    let chain = out-Compare g.row.V.Denot g.row.V-Fault.Denot c.args.chain.now in
+    let before = c.in_ok-add_comparison_before.ensures in
+    let step = turn f v c.loop-i.invariant (omega (arith, chain.ops.ok.0)) c.index-comparison.ensures c.deref.ensures.value before.leads before.followed c.place-place.ensures c.in_ok-expression.ensures in
+    (step.before.value, turn_held f v step)
+
+pub chain::compare-returns-in-Some-false : goal.chain::compare-returns-in-Some-false
+chain::compare-returns-in-Some-false g t c =
+    let f = g.V.TemplateValue.functions in
+    let v = g.V.TemplateValue.contents in
+    let chain = out-Compare g.row.V.Denot g.row.V-Fault.Denot c.args.chain.now in
+    let before = c.in_ok-add_comparison_before.ensures in
+    let step = turn f v c.loop-i.invariant (omega (arith, chain.ops.ok.0)) c.index-comparison.ensures c.deref.ensures.value before.leads before.followed c.place-place.ensures c.in_ok-expression.ensures in
+    compare_fails f v c.args.chain.now c.fold_to.result (made_of v c.fold_to.new.code) step c.in_ok-compare_constants.ensures (c.in-Some-false.is ∙ ap Some c.in-Some-false.field-0-test) c.fold_to.ensures
+
+pub chain::compare-loop-i-preserved : goal.chain::compare-loop-i-preserved
+chain::compare-loop-i-preserved g t c =
+    let f = g.V.TemplateValue.functions in
+    let v = g.V.TemplateValue.contents in
+    let chain = out-Compare g.row.V.Denot g.row.V-Fault.Denot c.args.chain.now in
+    let before = c.in_ok-add_comparison_before.ensures in
+    let step = turn f v c.loop-i.invariant (omega (arith, chain.ops.ok.0)) c.index-comparison.ensures c.deref.ensures.value before.leads before.followed c.place-place.ensures c.in_ok-expression.ensures in
+    elim c.match-branch-4.branch [
+      | chain::compare-in-Some-true w ↦ turn_holds f v step c.in_ok-compare_constants.ensures (w.in-Some-true.is ∙ ap Some w.in-Some-true.field-0-test) w.last-is
+      | chain::compare-in-None w ↦ turn_stops f v step c.in_ok-compare_constants.ensures w.in-None.is w.last-is
+    ]
+
+pub chain::compare-returns-then-is_some : goal.chain::compare-returns-then-is_some
+chain::compare-returns-then-is_some g t c =
+    let v = g.V.TemplateValue.contents in
+    let chain = out-Compare g.row.V.Denot g.row.V-Fault.Denot c.args.chain.now in
+    compare_holds g.V.TemplateValue.functions v c.args.chain.now c.fold_to-then-is_some.result (made_of v c.fold_to-then-is_some.new.code) c.loop-i.invariant (omega (arith, chain.ops.ok.0)) (sym c.is_some.ensures ∙ c.if-is_some.true) c.fold_to-then-is_some.ensures
+
+pub chain::compare-returns : goal.chain::compare-returns
+chain::compare-returns g t c =
+    let v = g.V.TemplateValue.contents in
+    let chain = out-Compare g.row.V.Denot g.row.V-Fault.Denot c.args.chain.now in
+    compare_closes g.V.TemplateValue.functions v c.args.chain.now c.close.result (made_of v c.close.new.code) c.requires c.loop-i.invariant (omega (arith, chain.ops.ok.0)) (sym c.is_some.ensures ∙ c.if-is_some.false) c.deref-2.ensures.value refl c.close.ensures
+
+pub arguments::arguments-spread-requires-clause-batches : goal.arguments::arguments-spread-requires-clause-batches
+arguments::arguments-spread-requires-clause-batches g t c =
+    omega (arith, positional_bound (args_of g.V.TemplateValue.contents c.args.args.now) c.args.front (count_of c.in_ok-count.count) c.requires.few c.requires.front c.in_ok-count.ensures.counted)
+
+pub arguments::arguments-spread-requires-clause-waiting : goal.arguments::arguments-spread-requires-clause-waiting
+arguments::arguments-spread-requires-clause-waiting g t c =
+    omega (arith, positional_bound (args_of g.V.TemplateValue.contents c.args.args.now) c.args.front (count_of c.in_ok-count.count) c.requires.few c.requires.front c.in_ok-count.ensures.counted)
+
+pub arguments::arguments-returns-then-branch-clause-count : goal.arguments::arguments-returns-then-branch-clause-count
+arguments::arguments-returns-then-branch-clause-count g t c =
+    let v = g.V.TemplateValue.contents in
+    let f = g.V.TemplateValue.functions in
+    let args = args_of v c.args.args.now in
+    let map = keywords_loaded f args c.in_ok-load_keywords.field-0 c.if-branch.true c.in_ok-load_keywords.ensures in
+    subst (λ all. IfOk c.spread.result (λ n. n ≡ all)) (counted_all f args c.args.front (count_of c.in_ok-count.count) 1 c.in_ok-count.ensures.counted map.1) c.spread.ensures.count
+
+pub arguments::arguments-returns-then-branch-clause-added : goal.arguments::arguments-returns-then-branch-clause-added
+arguments::arguments-returns-then-branch-clause-added g t c =
+    let v = g.V.TemplateValue.contents in
+    let f = g.V.TemplateValue.functions in
+    let args = args_of v c.args.args.now in
+    let map = keywords_loaded f args c.in_ok-load_keywords.field-0 c.if-branch.true c.in_ok-load_keywords.ensures in
+    adds_given f args c.args.front (count_of c.in_ok-count.count) 1 c.in_ok-count.ensures.counted map.1 (made_of v c.spread.new.code) c.spread.result c.in_ok-count.ensures.added map.0 c.spread.ensures.added
+
+pub arguments::arguments-merge-requires : goal.arguments::arguments-merge-requires
+arguments::arguments-merge-requires g t c =
+    omega (arith, keyword_bound (args_of g.V.TemplateValue.contents c.args.args.now) (count_of c.in_ok-pairs.pairs) c.requires.few c.in_ok-pairs.ensures.counted)
+
+pub arguments::arguments-spread-requires-2-clause-batches : goal.arguments::arguments-spread-requires-2-clause-batches
+arguments::arguments-spread-requires-2-clause-batches g t c =
+    omega (arith, positional_bound (args_of g.V.TemplateValue.contents c.args.args.now) c.args.front (count_of c.in_ok-count.count) c.requires.few c.requires.front c.in_ok-count.ensures.counted)
+
+pub arguments::arguments-spread-requires-2-clause-waiting : goal.arguments::arguments-spread-requires-2-clause-waiting
+arguments::arguments-spread-requires-2-clause-waiting g t c =
+    omega (
+      arith,
+      positional_bound (args_of g.V.TemplateValue.contents c.args.args.now) c.args.front (count_of c.in_ok-count.count) c.requires.few c.requires.front c.in_ok-count.ensures.counted,
+      c.in_ok-map.ensures.count,
+      map_count_few c.in_ok-pairs.pairs.batches c.in_ok-pairs.pairs.waiting,
+    )
+
+pub arguments::arguments-returns-clause-count : goal.arguments::arguments-returns-clause-count
+arguments::arguments-returns-clause-count g t c =
+    let maps = c.in_ok-map.ensures.count ∙ ap (λ (k : Count). map_count k.batches k.waiting) c.in_ok-pairs.ensures.counted in
+    subst (λ all. IfOk c.spread-2.result (λ n. n ≡ all))
+    (counted_all g.V.TemplateValue.functions (args_of g.V.TemplateValue.contents c.args.args.now) c.args.front (count_of c.in_ok-count.count) c.in_ok-map.map c.in_ok-count.ensures.counted maps) c.spread-2.ensures.count
+
+pub arguments::arguments-returns-clause-added : goal.arguments::arguments-returns-clause-added
+arguments::arguments-returns-clause-added g t c =
+    let v = g.V.TemplateValue.contents in
+    let f = g.V.TemplateValue.functions in
+    let args = args_of v c.args.args.now in
+    let maps = c.in_ok-map.ensures.count ∙ ap (λ (k : Count). map_count k.batches k.waiting) c.in_ok-pairs.ensures.counted in
+    let map = keywords_merged f args c.in_ok-load_keywords.field-0 (count_of c.in_ok-pairs.pairs) c.if-branch.false c.in_ok-load_keywords.ensures c.in_ok-pairs.ensures.counted c.in_ok-pairs.ensures.added c.in_ok-map.ensures.added in
+    adds_given f args c.args.front (count_of c.in_ok-count.count) c.in_ok-map.map c.in_ok-count.ensures.counted maps (made_of v c.spread-2.new.code) c.spread-2.result c.in_ok-count.ensures.added map c.spread-2.ensures.added
+
+pub arguments::positional_arguments-loop-arg-init : goal.arguments::positional_arguments-loop-arg-init
+arguments::positional_arguments-loop-arg-init g t c =
+    let v = g.V.TemplateValue.contents in
+    taken_none v (positional_walk v g.V.TemplateValue.functions) c.args.args.now c.args.front (made_of v c.args.code.now) c.requires.whole
+
+pub arguments::positional_arguments-expression-requires : goal.arguments::positional_arguments-expression-requires
+arguments::positional_arguments-expression-requires g t c =
+    let arg = c.arg-item.result in
+    let smaller = element_size (size-CallArg g.row.V.Denot g.row.V-Fault.Denot) c.args.args.now c.loop-arg.arg-index arg c.loop-arg-test.true c.arg-item.is in
+    let inner : size-Expr g.row.V.Denot g.row.V-Fault.Denot c.in-Pos.expr < size-CallArg g.row.V.Denot g.row.V-Fault.Denot arg = rw c.in-Pos.is (search (rules, the_lemmas)) in
+    λ κs live. (
+      omega (arith, smaller, inner, c.decreases),
+      (
+        search rules,
+        (
+          search rules,
+          pos_whole g.V.TemplateValue.contents g.V.TemplateValue.functions c.loop-arg.invariant c.arg-item.result c.loop-arg-test.true c.arg-item.is c.in-Pos.expr c.in-Pos.is,
+        ),
+      ),
+    )
+
+pub arguments::positional_arguments-expression-requires-in-PosSplat : goal.arguments::positional_arguments-expression-requires-in-PosSplat
+arguments::positional_arguments-expression-requires-in-PosSplat g t c =
+    let arg = c.arg-item.result in
+    let smaller = element_size (size-CallArg g.row.V.Denot g.row.V-Fault.Denot) c.args.args.now c.loop-arg.arg-index arg c.loop-arg-test.true c.arg-item.is in
+    let inner : size-Expr g.row.V.Denot g.row.V-Fault.Denot c.in-PosSplat.expr < size-CallArg g.row.V.Denot g.row.V-Fault.Denot arg = rw c.in-PosSplat.is (search (rules, the_lemmas)) in
+    λ κs live. (
+      omega (arith, smaller, inner, c.decreases),
+      (
+        search rules,
+        (
+          search rules,
+          pos_splat_whole g.V.TemplateValue.contents g.V.TemplateValue.functions c.loop-arg.invariant c.arg-item.result c.loop-arg-test.true c.arg-item.is c.in-PosSplat.expr c.in-PosSplat.is,
+        ),
+      ),
+    )
+
+pub arguments::positional_arguments-one-count-requires : goal.arguments::positional_arguments-one-count-requires
+arguments::positional_arguments-one-count-requires g t c =
+    omega (arith, c.loop-arg.invariant.few, c.requires.few, c.requires.front, args_length g.V.TemplateValue.contents c.args.args.now)
+
+pub arguments::positional_arguments-batch-count-requires : goal.arguments::positional_arguments-batch-count-requires
+arguments::positional_arguments-batch-count-requires g t c =
+    omega (arith, c.loop-arg.invariant.few, c.requires.few, c.requires.front, args_length g.V.TemplateValue.contents c.args.args.now)
+
+pub arguments::positional_arguments-loop-arg-preserved : goal.arguments::positional_arguments-loop-arg-preserved
+arguments::positional_arguments-loop-arg-preserved g t c =
+    let v = g.V.TemplateValue.contents in
+    let f = g.V.TemplateValue.functions in
+    elim c.match-arg.branch [
+      | arguments::positional_arguments-in-Pos+in_ok-expression-in-Pos w ↦
+          rw (w.code-is, w.count-is) (taken_pos v f c.loop-arg.invariant c.arg-item.result c.loop-arg-test.true c.arg-item.is w.in-Pos.expr w.in-Pos.is w.one-count.ensures w.in_ok-expression-in-Pos.ensures)
+      | arguments::positional_arguments-in-PosSplat+in_ok-close_list-in-PosSplat+in_ok-expression-in-PosSplat w ↦
+          rw (w.code-is, w.count-is)
+          (taken_pos_splat v f c.loop-arg.invariant c.arg-item.result c.loop-arg-test.true c.arg-item.is w.in-PosSplat.expr w.in-PosSplat.is w.batch-count.ensures
+          w.in_ok-close_list-in-PosSplat.ensures.added w.in_ok-expression-in-PosSplat.ensures)
+    ]
+
+pub arguments::positional_arguments-loop-arg-preserved-in-Kwarg : goal.arguments::positional_arguments-loop-arg-preserved-in-Kwarg
+arguments::positional_arguments-loop-arg-preserved-in-Kwarg g t c =
+    passed_keyword g.V.TemplateValue.contents g.V.TemplateValue.functions c.loop-arg.invariant c.arg-item.result c.loop-arg-test.true c.arg-item.is c.in-Kwarg.is
+
+pub arguments::positional_arguments-returns-clause-counted : goal.arguments::positional_arguments-returns-clause-counted
+arguments::positional_arguments-returns-clause-counted g t c =
+    let v = g.V.TemplateValue.contents in
+    let all = taken_all v (positional_walk v g.V.TemplateValue.functions) c.args.args.now c.args.front c.loop-arg.invariant c.loop-arg-test.false in
+    all.1
+
+pub arguments::positional_arguments-returns-clause-added : goal.arguments::positional_arguments-returns-clause-added
+arguments::positional_arguments-returns-clause-added g t c =
+    let v = g.V.TemplateValue.contents in
+    let all = taken_all v (positional_walk v g.V.TemplateValue.functions) c.args.args.now c.args.front c.loop-arg.invariant c.loop-arg-test.false in
+    all.0
+
+pub arguments::keyword_pairs-loop-arg-init : goal.arguments::keyword_pairs-loop-arg-init
+arguments::keyword_pairs-loop-arg-init g t c =
+    let v = g.V.TemplateValue.contents in
+    taken_none v (keyword_walk v g.V.TemplateValue.functions) c.args.args.now 0 (made_of v c.args.code.now) c.requires.whole
+
+pub arguments::keyword_pairs-expression-requires : goal.arguments::keyword_pairs-expression-requires
+arguments::keyword_pairs-expression-requires g t c =
+    let arg = c.arg-item.result in
+    let smaller = element_size (size-CallArg g.row.V.Denot g.row.V-Fault.Denot) c.args.args.now c.loop-arg.arg-index arg c.loop-arg-test.true c.arg-item.is in
+    let inner : size-Expr g.row.V.Denot g.row.V-Fault.Denot c.in-Kwarg.expr < size-CallArg g.row.V.Denot g.row.V-Fault.Denot arg = rw c.in-Kwarg.is (search (rules, the_lemmas)) in
+    λ κs live. (
+      omega (arith, smaller, inner, c.decreases),
+      (
+        search rules,
+        (
+          search rules,
+          kwarg_whole g.V.TemplateValue.contents g.V.TemplateValue.functions c.loop-arg.invariant c.arg-item.result c.loop-arg-test.true c.arg-item.is c.in-Kwarg.name c.in-Kwarg.expr c.in-Kwarg.is,
+        ),
+      ),
+    )
+
+pub arguments::keyword_pairs-expression-requires-in-KwargSplat : goal.arguments::keyword_pairs-expression-requires-in-KwargSplat
+arguments::keyword_pairs-expression-requires-in-KwargSplat g t c =
+    let arg = c.arg-item.result in
+    let smaller = element_size (size-CallArg g.row.V.Denot g.row.V-Fault.Denot) c.args.args.now c.loop-arg.arg-index arg c.loop-arg-test.true c.arg-item.is in
+    let inner : size-Expr g.row.V.Denot g.row.V-Fault.Denot c.in-KwargSplat.expr < size-CallArg g.row.V.Denot g.row.V-Fault.Denot arg = rw c.in-KwargSplat.is (search (rules, the_lemmas)) in
+    λ κs live. (
+      omega (arith, smaller, inner, c.decreases),
+      (
+        search rules,
+        (
+          search rules,
+          kwarg_splat_whole g.V.TemplateValue.contents g.V.TemplateValue.functions c.loop-arg.invariant c.arg-item.result c.loop-arg-test.true c.arg-item.is c.in-KwargSplat.expr c.in-KwargSplat.is,
+        ),
+      ),
+    )
+
+pub arguments::keyword_pairs-one-count-requires : goal.arguments::keyword_pairs-one-count-requires
+arguments::keyword_pairs-one-count-requires g t c =
+    omega (arith, c.loop-arg.invariant.few, c.requires.few, args_length g.V.TemplateValue.contents c.args.args.now)
+
+pub arguments::keyword_pairs-batch-count-requires : goal.arguments::keyword_pairs-batch-count-requires
+arguments::keyword_pairs-batch-count-requires g t c =
+    omega (arith, c.loop-arg.invariant.few, c.requires.few, args_length g.V.TemplateValue.contents c.args.args.now)
+
+pub arguments::keyword_pairs-loop-arg-preserved : goal.arguments::keyword_pairs-loop-arg-preserved
+arguments::keyword_pairs-loop-arg-preserved g t c =
+    let v = g.V.TemplateValue.contents in
+    let f = g.V.TemplateValue.functions in
+    elim c.match-arg.branch [
+      | arguments::keyword_pairs-in-Kwarg+in_ok-load_name-in-Kwarg+in_ok-expression-in-Kwarg w ↦
+          rw (w.code-is, w.count-is)
+          (taken_kwarg v f c.loop-arg.invariant c.arg-item.result c.loop-arg-test.true c.arg-item.is w.in-Kwarg.name w.in-Kwarg.expr w.in-Kwarg.is w.one-count.ensures
+          w.in_ok-load_name-in-Kwarg.ensures w.in_ok-expression-in-Kwarg.ensures)
+      | arguments::keyword_pairs-in-KwargSplat+in_ok-close_map-in-KwargSplat+in_ok-expression-in-KwargSplat w ↦
+          rw (w.code-is, w.count-is)
+          (taken_kwarg_splat v f c.loop-arg.invariant c.arg-item.result c.loop-arg-test.true c.arg-item.is w.in-KwargSplat.expr w.in-KwargSplat.is w.batch-count.ensures
+          w.in_ok-close_map-in-KwargSplat.ensures.added w.in_ok-expression-in-KwargSplat.ensures)
+    ]
+
+pub arguments::keyword_pairs-loop-arg-preserved-in-Pos : goal.arguments::keyword_pairs-loop-arg-preserved-in-Pos
+arguments::keyword_pairs-loop-arg-preserved-in-Pos g t c =
+    passed_positional g.V.TemplateValue.contents g.V.TemplateValue.functions c.loop-arg.invariant c.arg-item.result c.loop-arg-test.true c.arg-item.is c.in-Pos.is
+
+pub arguments::keyword_pairs-returns-clause-counted : goal.arguments::keyword_pairs-returns-clause-counted
+arguments::keyword_pairs-returns-clause-counted g t c =
+    let v = g.V.TemplateValue.contents in
+    let all = taken_all v (keyword_walk v g.V.TemplateValue.functions) c.args.args.now 0 c.loop-arg.invariant c.loop-arg-test.false in
+    all.1
+
+pub arguments::keyword_pairs-returns-clause-added : goal.arguments::keyword_pairs-returns-clause-added
+arguments::keyword_pairs-returns-clause-added g t c =
+    let v = g.V.TemplateValue.contents in
+    let all = taken_all v (keyword_walk v g.V.TemplateValue.functions) c.args.args.now 0 c.loop-arg.invariant c.loop-arg-test.false in
+    all.0
+
+pub branches::otherwise-loop-ends-preserved : goal.branches::otherwise-loop-ends-preserved
+branches::otherwise-loop-ends-preserved g t c =
+    let v = g.V.TemplateValue.contents in
+    let f = g.V.TemplateValue.functions in
+    let whole = c.args.choice.now in
+    let part = c.loop-ends.part.now in
+    let next = c.node-part.result.now in
+    let is : optional_of v part.false_expr ≡ present (if_expr (expr_tree v next.test_expr) (expr_tree v next.true_expr) (optional_of v next.false_expr)) = search rules in
+    let opens = opened c.in_ok-reserve.ensures.added c.in_ok-reserve.ensures.place c.fill.ensures c.target.ensures in
+    let under : size-IfExpr g.row.V.Denot g.row.V-Fault.Denot next < size-IfExpr g.row.V.Denot g.row.V-Fault.Denot part = search (rules, if_lemmas) in
+    record {
+      going = chosen_next f (expr_tree v whole.test_expr) (expr_tree v whole.true_expr) (optional_of v whole.false_expr) (expr_tree v part.test_expr) (expr_tree v part.true_expr)
+          c.loop-ends.invariant.going is opens c.in_ok-push.ensures.items
+          c.in_ok-expression-in-Some-IfExpr.ensures c.in_ok-jump-in-Some-IfExpr.ensures.place c.in_ok-jump-in-Some-IfExpr.ensures.added c.in_ok-expression-in-Some-IfExpr-2.ensures;
+      test = search rules;
+      yes = search rules;
+      no = search rules;
+      smaller = omega (arith, under, c.loop-ends.invariant.smaller);
+    }
+
+pub branches::otherwise-returns : goal.branches::otherwise-returns
+branches::otherwise-returns g t c =
+    let v = g.V.TemplateValue.contents in
+    let f = g.V.TemplateValue.functions in
+    let whole = c.args.choice.now in
+    let part = c.loop-ends.part.now in
+    let opens = opened c.in_ok-reserve.ensures.added c.in_ok-reserve.ensures.place c.fill.ensures c.target.ensures in
+    let places = c.deref.ensures.value ∙ c.in_ok-push.ensures.items in
+    elim c.match-part.branch [
+      | branches::otherwise-in-Some+in_ok-expression-in-Some w ↦ chosen_last f (expr_tree v whole.test_expr) (expr_tree v whole.true_expr) (optional_of v whole.false_expr) (expr_tree v part.test_expr) (expr_tree v part.true_expr) (present (expr_tree v w.in-Some.other))
+          c.loop-ends.invariant.going (ap (optional_of v) w.in-Some.is) opens places w.in_ok-expression-in-Some.ensures (ap (made_of v) w.code-is) c.lead_on.ensures
+      | branches::otherwise-in-None+in_ok-load_undefined-in-None w ↦ chosen_last f (expr_tree v whole.test_expr) (expr_tree v whole.true_expr) (optional_of v whole.false_expr) (expr_tree v part.test_expr) (expr_tree v part.true_expr) absent
+          c.loop-ends.invariant.going (ap (optional_of v) w.in-None.is) opens places w.in_ok-load_undefined-in-None.ensures (ap (made_of v) w.code-is) c.lead_on.ensures
+    ]
+
+pub expr::finish-arguments-requires : goal.expr::finish-arguments-requires
+expr::finish-arguments-requires g t c =
+    let v = g.V.TemplateValue.contents in
+    let f = g.V.TemplateValue.functions in
+    let n = c.node-filter.result.now in
+    let w = filter_arguments (optional_of v n.expr) n.name.now (args_of v n.args.items) (whole_filter v c.args.node.now c.in-Filter.filter n c.in-Filter.is c.node-filter.ensures c.requires) in
+    λ κs live. (search (rules, the_lemmas), (search rules, (search rules, (subst (λ xs. AreArguments (args_of v xs)) (sym c.deref.ensures.value) w.0, (subst (λ xs. arg_count (args_of v xs) ≤ most_arguments) (sym c.deref.ensures.value) w.1, omega arith)))))
+
+pub expr::finish-arguments-requires-in-Test : goal.expr::finish-arguments-requires-in-Test
+expr::finish-arguments-requires-in-Test g t c =
+    let v = g.V.TemplateValue.contents in
+    let f = g.V.TemplateValue.functions in
+    λ κs live. (search (rules, the_lemmas), (search rules, (search rules, (whole_test_args v c.args.node.now c.in-Test.test c.node-test.result.now c.deref-in-Test.result.now c.in-Test.is c.node-test.ensures c.deref-in-Test.ensures.value c.requires, (whole_test_few v c.args.node.now c.in-Test.test c.node-test.result.now c.deref-in-Test.result.now c.in-Test.is c.node-test.ensures c.deref-in-Test.ensures.value c.requires, omega arith)))))
+
+pub expr::finish-arguments-requires-in-Function : goal.expr::finish-arguments-requires-in-Function
+expr::finish-arguments-requires-in-Function g t c =
+    let v = g.V.TemplateValue.contents in
+    let f = g.V.TemplateValue.functions in
+    λ κs live. (search (rules, the_lemmas), (search rules, (search rules, (whole_call_args v c.args.node.now c.in-Call.call c.node-call.result.now c.deref-in-Function.result.now c.in-Call.is c.node-call.ensures c.deref-in-Function.ensures.value c.requires, (whole_call_few v c.args.node.now c.in-Call.call c.node-call.result.now c.deref-in-Function.result.now c.in-Call.is c.node-call.ensures c.deref-in-Function.ensures.value c.requires, omega arith)))))
+
+pub expr::finish-arguments-requires-in-Method : goal.expr::finish-arguments-requires-in-Method
+expr::finish-arguments-requires-in-Method g t c =
+    let v = g.V.TemplateValue.contents in
+    let f = g.V.TemplateValue.functions in
+    λ κs live. (search (rules, the_lemmas), (search rules, (search rules, (whole_call_args v c.args.node.now c.in-Call.call c.node-call.result.now c.deref-in-Method.result.now c.in-Call.is c.node-call.ensures c.deref-in-Method.ensures.value c.requires, (whole_call_few v c.args.node.now c.in-Call.call c.node-call.result.now c.deref-in-Method.result.now c.in-Call.is c.node-call.ensures c.deref-in-Method.ensures.value c.requires, omega arith)))))
+
+pub expr::finish-arguments-requires-in-Object : goal.expr::finish-arguments-requires-in-Object
+expr::finish-arguments-requires-in-Object g t c =
+    let v = g.V.TemplateValue.contents in
+    let f = g.V.TemplateValue.functions in
+    λ κs live. (search (rules, the_lemmas), (search rules, (search rules, (whole_call_args v c.args.node.now c.in-Call.call c.node-call.result.now c.deref-in-Object.result.now c.in-Call.is c.node-call.ensures c.deref-in-Object.ensures.value c.requires, (whole_call_few v c.args.node.now c.in-Call.call c.node-call.result.now c.deref-in-Object.result.now c.in-Call.is c.node-call.ensures c.deref-in-Object.ensures.value c.requires, omega arith)))))

@@ -1,0 +1,249 @@
+//! Instructions of the arguments of calls.
+ghost use Rattle.std.specs.Prelude.{◌≡◌, ◌+◌, ◌≤◌, ◌<◌, ◌^◌, IfOk, OnOk};
+ghost use Rattle.minijinja_tree.specs.Erasure.{args_of};
+ghost use Rattle.minijinja_tree.specs.Folding.{constant_keywords, fold_keywords};
+ghost use Rattle.minijinja_tree.specs.WellFormed.{AreArguments, arg_count, most_arguments};
+ghost use Rattle.minijinja_meaning.specs.Layout as layout;
+ghost use Rattle.minijinja_meaning.specs.Layout.{batch_count, count_one, count_batch, count_positional, count_keyword, counted, list_batch, map_batch, map_count, merged, spreading};
+ghost use Rattle.minijinja_meaning.specs.Code.{Load};
+ghost use Rattle.minijinja_meaning.specs.Pieces.{one};
+ghost use Rattle.minijinja_expression_code.specs.private.Making.{made_of, count_of, operands, given, Adds, AddsIf};
+
+use crate::emit::Emitter;
+use crate::expr::expression;
+use crate::literals::load;
+use crate::memory::OutOfMemory;
+use minijinja_base::value::TemplateValue;
+use minijinja_instructions::instructions::Instruction;
+use minijinja_tree::ast::CallArg;
+use minijinja_tree::constants::constant_kwargs;
+
+/// How many batches of arguments are complete, and how many arguments wait for the rest of their batch.
+#[derive(Clone, Copy)]
+struct Count {
+    batches: usize,
+    waiting: usize,
+}
+
+impl Count {
+    /// One more argument waits.
+    fn one(self) -> Self
+        requires { (count_of self).waiting < 2 ^ 16 }
+        ensures { count_of result ≡ count_one (count_of self) }
+    {
+        Count {
+            batches: self.batches,
+            waiting: self.waiting + 1,
+        }
+    }
+
+    /// Those that wait are a batch, where there are any, and one more batch stands after it.
+    fn batch(self) -> Self
+        requires { (count_of self).batches < 2 ^ 16 }
+        ensures { count_of result ≡ count_batch (count_of self) }
+    {
+        Count {
+            batches: self.closed() + 1,
+            waiting: 0,
+        }
+    }
+
+    /// How many batches there are once those that wait are one.
+    fn closed(self) -> usize
+        requires { (count_of self).batches < 2 ^ 16 }
+        ensures { result ≡ (count_of self).batches + batch_count (count_of self).waiting }
+    {
+        if self.waiting == 0 {
+            self.batches
+        } else {
+            self.batches + 1
+        }
+    }
+}
+
+/// Adds the code of the arguments of a call after so many operands, and answers how many operands the call has then, or nothing
+/// where their count is on top of them.
+#[cycle(expr)]
+pub(crate) fn arguments<'s, V: TemplateValue>(
+    code: &mut Emitter<'s, V>,
+    args: &[CallArg<'s, V>],
+    front: usize,
+) -> Result<Option<u16>, OutOfMemory>
+    requires whole { AreArguments (args_of V.contents args.now) }
+    requires few { arg_count (args_of V.contents args.now) ≤ most_arguments }
+    requires front { front ≤ 1 }
+    ensures count { IfOk result
+        (λ n. n ≡ layout.argument_count (args_of V.contents args.now) front) }
+    ensures added { OnOk result (Adds (made_of V.contents code.old) (made_of V.contents code.new)
+        (given V.functions (args_of V.contents args.now) front)) }
+{
+    let count = positional_arguments(code, args, front)?;
+    if load_keywords(code, args)? {
+        return spread(code, count, 1);
+    }
+    let pairs = keyword_pairs(code, args)?;
+    let map = merge(code, pairs)?;
+    spread(code, count, map)
+}
+
+/// Adds the code of the positional and `*` arguments after so many operands.
+#[cycle(expr)]
+fn positional_arguments<'s, V: TemplateValue>(
+    code: &mut Emitter<'s, V>,
+    args: &[CallArg<'s, V>],
+    front: usize,
+) -> Result<Count, OutOfMemory>
+    requires whole { AreArguments (args_of V.contents args.now) }
+    requires few { arg_count (args_of V.contents args.now) ≤ most_arguments }
+    requires front { front ≤ 1 }
+    ensures counted { IfOk result
+        (λ c. count_of c ≡ count_positional (args_of V.contents args.now) (operands front)) }
+    ensures added { OnOk result (Adds (made_of V.contents code.old) (made_of V.contents code.new)
+        (layout.positional V.functions (args_of V.contents args.now) front)) }
+{
+    let mut count = Count {
+        batches: 0,
+        waiting: front,
+    };
+    for arg in args {
+        match arg {
+            CallArg::Pos(expr) => {
+                expression(code, expr)?;
+                count = count.one();
+            }
+            CallArg::PosSplat(expr) => {
+                close_list(code, count.waiting)?;
+                expression(code, expr)?;
+                count = count.batch();
+            }
+            CallArg::Kwarg(_, _) | CallArg::KwargSplat(_) => continue,
+        }
+    }
+    Ok(count)
+}
+
+/// Loads the map of the keyword arguments where it is known before a template runs, and answers whether it did.
+fn load_keywords<V: TemplateValue>(
+    code: &mut Emitter<'_, V>,
+    args: &[CallArg<'_, V>],
+) -> Result<bool, OutOfMemory>
+    ensures { IfOk result (λ loaded. AddsIf loaded (fold_keywords V.functions
+        (constant_keywords V.functions (args_of V.contents args.now))) (made_of V.contents code.old)
+        (made_of V.contents code.new)) }
+{
+    match constant_kwargs(code.alloc(), args)? {
+        Some(map) => load(code, map),
+        None => Ok(false),
+    }
+}
+
+/// Adds the code of the names and values of the keyword arguments, and of the `**` arguments.
+#[cycle(expr)]
+fn keyword_pairs<'s, V: TemplateValue>(
+    code: &mut Emitter<'s, V>,
+    args: &[CallArg<'s, V>],
+) -> Result<Count, OutOfMemory>
+    requires whole { AreArguments (args_of V.contents args.now) }
+    requires few { arg_count (args_of V.contents args.now) ≤ most_arguments }
+    ensures counted { IfOk result
+        (λ c. count_of c ≡ count_keyword (args_of V.contents args.now) (operands 0)) }
+    ensures added { OnOk result (Adds (made_of V.contents code.old) (made_of V.contents code.new)
+        (layout.keyword V.functions (args_of V.contents args.now) 0)) }
+{
+    let mut count = Count {
+        batches: 0,
+        waiting: 0,
+    };
+    for arg in args {
+        match arg {
+            CallArg::Kwarg(name, expr) => {
+                load_name(code, name)?;
+                expression(code, expr)?;
+                count = count.one();
+            }
+            CallArg::KwargSplat(expr) => {
+                close_map(code, count.waiting)?;
+                expression(code, expr)?;
+                count = count.batch();
+            }
+            CallArg::Pos(_) | CallArg::PosSplat(_) => continue,
+        }
+    }
+    Ok(count)
+}
+
+/// Loads the name of a keyword argument.
+fn load_name<V: TemplateValue>(code: &mut Emitter<'_, V>, name: &str) -> Result<(), OutOfMemory>
+    ensures { OnOk result (Adds (made_of V.contents code.old) (made_of V.contents code.new)
+        (one (Load (V.functions.of_str name.now)))) }
+{
+    let name = V::of_str(code.alloc(), name)?;
+    code.add(Instruction::LoadConst(name))
+}
+
+/// Makes one map of batches and of the pairs that wait, where there are any, and answers how many maps that is.
+fn merge<V: TemplateValue>(code: &mut Emitter<'_, V>, count: Count) -> Result<usize, OutOfMemory>
+    requires { (count_of count).batches < 2 ^ 16 }
+    ensures count { IfOk result
+        (λ n. n ≡ map_count (count_of count).batches (count_of count).waiting) }
+    ensures added { OnOk result (Adds (made_of V.contents code.old) (made_of V.contents code.new)
+        (merged (count_of count).batches (count_of count).waiting)) }
+{
+    close_map(code, count.waiting)?;
+    if count.batches == 0 {
+        return Ok(count.closed());
+    }
+    code.add(Instruction::MergeKwargs(count.closed()))?;
+    Ok(1)
+}
+
+/// Spreads the batches, where there are any: after those that wait stand so many more. Answers how many arguments there are
+/// then, or nothing where their count is on top of them.
+fn spread<V: TemplateValue>(
+    code: &mut Emitter<'_, V>,
+    count: Count,
+    more: usize,
+) -> Result<Option<u16>, OutOfMemory>
+    requires batches { (count_of count).batches < 2 ^ 16 }
+    requires waiting { (count_of count).waiting + more < 2 ^ 16 }
+    ensures count { IfOk result
+        (λ n. n ≡ counted (count_of count).batches ((count_of count).waiting + more)) }
+    ensures added { OnOk result (Adds (made_of V.contents code.old) (made_of V.contents code.new)
+        (spreading (count_of count).batches ((count_of count).waiting + more))) }
+{
+    let count = Count {
+        batches: count.batches,
+        waiting: count.waiting + more,
+    };
+    if count.batches == 0 {
+        return Ok(Some(count.waiting as u16));
+    }
+    close_list(code, count.waiting)?;
+    code.add(Instruction::UnpackLists(count.closed()))?;
+    Ok(None)
+}
+
+/// Makes a list of so many waiting arguments, where there are any.
+fn close_list<V: TemplateValue>(
+    code: &mut Emitter<'_, V>,
+    waiting: usize,
+) -> Result<(), OutOfMemory>
+    ensures added { OnOk result
+        (Adds (made_of V.contents code.old) (made_of V.contents code.new) (list_batch waiting)) }
+{
+    if waiting > 0 {
+        code.add(Instruction::BuildList(Some(waiting)))?;
+    }
+    Ok(())
+}
+
+/// Makes a map of so many waiting pairs, where there are any.
+fn close_map<V: TemplateValue>(code: &mut Emitter<'_, V>, waiting: usize) -> Result<(), OutOfMemory>
+    ensures added { OnOk result
+        (Adds (made_of V.contents code.old) (made_of V.contents code.new) (map_batch waiting)) }
+{
+    if waiting > 0 {
+        code.add(Instruction::BuildKwargs(waiting))?;
+    }
+    Ok(())
+}

@@ -1,0 +1,199 @@
+//! The instructions of a unit that is being made.
+ghost use Rattle.std.specs.Prelude.{◌≡◌, ◌≤◌, ◌++◌, map, [], ◌∷◌, length, take, ◌<◌, slice_set, None, IfOk, OnOk};
+ghost use Rattle.std.specs.Option.{option_map};
+ghost use Rattle.minijinja_meaning.specs.Code.{Jump, Load};
+ghost use Rattle.minijinja_meaning.specs.Jumps.{target};
+ghost use Rattle.minijinja_instructions.specs.Instructions.{instr_of};
+ghost use Rattle.minijinja_expression_code.specs.private.Making.{made_of, here_of, reach, hole, alone, between, loaded_by, with_last, Adds};
+ghost use Rattle.minijinja_meaning.specs.Pieces.{start, one, id_of, noted};
+
+use crate::memory::OutOfMemory;
+use crate::names::Names;
+use minijinja_base::value::TemplateValue;
+use minijinja_instructions::instructions::{Instruction, LocalId};
+use std::alloc::Global;
+
+/// The instructions of a unit that is being made, with the names of filters and tests in them. Their number is looked at once
+/// the unit is whole.
+#[derive(Drop)]
+pub struct Emitter<'s, V: TemplateValue> {
+    list: Vec<Instruction<'s, V>>,
+    filters: Names<'s>,
+    tests: Names<'s>,
+    alloc: Global,
+}
+
+impl<'s, V: TemplateValue> Emitter<'s, V> {
+    /// No instruction. It takes no memory yet.
+    pub fn new(alloc: Global) -> Self
+        ensures { here_of (made_of V.contents result) ≡ start }
+    {
+        Emitter {
+            list: Vec::new(alloc),
+            filters: Names::new(alloc),
+            tests: Names::new(alloc),
+            alloc,
+        }
+    }
+
+    /// The instructions.
+    pub fn into_list(self) -> Vec<Instruction<'s, V>>
+        ensures { map (instr_of V.contents) result.items ≡ (made_of V.contents self.entry).code }
+    {
+        let Emitter { list, .. } = self;
+        list
+    }
+
+    /// Where memory comes from.
+    pub fn alloc(&self) -> Global {
+        self.alloc
+    }
+
+    /// How many instructions there are.
+    pub fn place(&self) -> usize
+        ensures { result ≡ length (made_of V.contents self.now).code }
+    {
+        self.list.len()
+    }
+
+    /// The place after the instructions, as a jump names it.
+    pub fn target(&self) -> u32
+        ensures { result ≡ reach (length (made_of V.contents self.now).code) }
+    {
+        reached(self.list.len())
+    }
+
+    /// Makes room for so many more instructions, so that adding them moves none.
+    pub fn make_room(&mut self, count: usize) -> Result<(), OutOfMemory>
+        ensures { made_of V.contents self.new ≡ made_of V.contents self.old }
+    {
+        self.list.reserve(count)?;
+        Ok(())
+    }
+
+    /// Adds an instruction that leads nowhere else.
+    #[inline(always)]
+    pub fn add(&mut self, instruction: Instruction<'s, V>) -> Result<(), OutOfMemory>
+        requires { target (instr_of V.contents instruction) ≡ None }
+        ensures { OnOk result (Adds (made_of V.contents self.old) (made_of V.contents self.new)
+            (one (instr_of V.contents instruction.entry))) }
+    {
+        self.list.push(instruction)?;
+        Ok(())
+    }
+
+    /// Adds a jump to a place.
+    pub fn jump_to(&mut self, place: usize) -> Result<(), OutOfMemory>
+        ensures { OnOk result (Adds (made_of V.contents self.old) (made_of V.contents self.new)
+            (one (Jump place))) }
+    {
+        self.list.push(Instruction::Jump(reached(place)))?;
+        Ok(())
+    }
+
+    /// Leaves a place for an instruction that is not known yet, and answers the place.
+    pub fn reserve(&mut self) -> Result<usize, OutOfMemory>
+        ensures place { IfOk result (λ place. place ≡ length (made_of V.contents self.old).code) }
+        ensures added { OnOk result
+            (Adds (made_of V.contents self.old) (made_of V.contents self.new) (one hole)) }
+    {
+        let place = self.list.len();
+        self.add(Instruction::Swap)?;
+        Ok(place)
+    }
+
+    /// Puts an instruction in the place of the one at an index.
+    pub fn fill(&mut self, place: usize, instruction: Instruction<'s, V>)
+        ensures { made_of V.contents self.new ≡ record (made_of V.contents self.old) {
+          code = slice_set (made_of V.contents self.old).code place
+              (instr_of V.contents instruction.entry);
+        } }
+    {
+        if let Some(held) = self.list.get_mut(place) {
+            *held = instruction;
+        }
+    }
+
+    /// The constant that is loaded from one place up to another, if that is all that is done there.
+    pub(crate) fn constant(&self, from: usize, to: usize) -> Option<&V>
+        ensures { to ≤ length (made_of V.contents self.now).code →
+            option_map (λ v. V.contents v.now) result
+            ≡ alone (between from to (made_of V.contents self.now).code) }
+    {
+        match self.list.get(from) {
+            Some(instruction) if to == from + 1 => constant_of(instruction),
+            _ => None,
+        }
+    }
+
+    /// Takes back what stands from a place on, and loads a constant there.
+    pub(crate) fn replace(&mut self, place: usize, value: V) -> Result<(), OutOfMemory>
+        ensures { OnOk result (made_of V.contents self.new ≡ record (made_of V.contents self.old) {
+          code = take place (made_of V.contents self.old).code
+              ++ Load (V.contents value) ∷ [];
+        }) }
+    {
+        self.list.truncate(place);
+        self.list.push(Instruction::LoadConst(value))?;
+        Ok(())
+    }
+
+    /// Takes back what stands from a place on.
+    pub(crate) fn cut(&mut self, place: usize)
+        ensures { made_of V.contents self.new ≡ record (made_of V.contents self.old)
+            { code = take place (made_of V.contents self.old).code } }
+    {
+        self.list.truncate(place);
+    }
+
+    /// Takes back what stands from a place on but for the last instruction.
+    pub(crate) fn keep_last(&mut self, place: usize) -> Result<(), OutOfMemory>
+        ensures { OnOk result (place < length (made_of V.contents self.old).code →
+            (made_of V.contents self.new ≡ record (made_of V.contents self.old)
+            { code = with_last place (made_of V.contents self.old).code })) }
+    {
+        if let Some(last) = self.list.pop() {
+            self.list.truncate(place);
+            self.list.push(last)?;
+        }
+        Ok(())
+    }
+
+    /// The id of a filter's name, which is noted.
+    pub(crate) fn filter_id(&mut self, name: &'s str) -> Result<LocalId, OutOfMemory>
+        ensures id { IfOk result (λ id. id ≡ id_of name.now (made_of V.contents self.old).filters) }
+        ensures noted { OnOk result (made_of V.contents self.new ≡ record
+            (made_of V.contents self.old)
+            { filters = noted name.now (made_of V.contents self.old).filters }) }
+    {
+        self.filters.id(name)
+    }
+
+    /// The id of a test's name, which is noted.
+    pub(crate) fn test_id(&mut self, name: &'s str) -> Result<LocalId, OutOfMemory>
+        ensures id { IfOk result (λ id. id ≡ id_of name.now (made_of V.contents self.old).tests) }
+        ensures noted { OnOk result (made_of V.contents self.new ≡ record
+            (made_of V.contents self.old)
+            { tests = noted name.now (made_of V.contents self.old).tests }) }
+    {
+        self.tests.id(name)
+    }
+}
+
+/// A place, as a jump names it.
+fn reached(place: usize) -> u32
+    ensures { result ≡ reach place }
+{
+    place.min(u32::MAX as usize) as u32
+}
+
+/// The constant that an instruction loads, if it does that.
+fn constant_of<'a, V: TemplateValue>(instruction: &'a Instruction<'_, V>) -> Option<&'a V>
+    ensures { option_map (λ v. V.contents v.now) result
+        ≡ loaded_by (instr_of V.contents instruction.now) }
+{
+    match instruction {
+        Instruction::LoadConst(value) => Some(value),
+        _ => None,
+    }
+}

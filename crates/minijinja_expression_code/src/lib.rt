@@ -1,0 +1,15 @@
+//! From the expressions of a tree to their instructions.
+#![tactic(auto)]
+
+mod arguments;
+pub mod branches;
+mod chain;
+pub mod emit;
+pub mod expr;
+pub mod filters;
+mod leading;
+mod literals;
+pub mod memory;
+mod names;
+mod operators;
+pub mod output;
