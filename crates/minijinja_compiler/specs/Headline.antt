@@ -15,6 +15,7 @@ use Rattle.minijinja_instructions.specs.Instructions.{code_of}
 use Rattle.minijinja_meaning.specs.Pieces.{start}
 use Rattle.minijinja_meaning.specs.Layout.{expr_code, stmt_code}
 use Rattle.minijinja_meaning.specs.Places.{placed_stmt}
+use Rattle.minijinja_meaning.specs.Units.{DoUnits}
 use Rattle.minijinja_meaning.specs.Correct.{DoesExpr, DoesStmt}
 use Rattle.minijinja_meaning.specs.Jumps.{LeadsWell}
 use Rattle.minijinja_code.specs.Hint.{IsHint, data_bytes}
@@ -24,14 +25,15 @@ use Rattle.minijinja_compiler.specs.declared.compile.Compiled.{Compiled}
 
 -- There is one tree that the grammar derives of the text. The code is its layout, whatever the spans of its nodes. Entered at
 -- the template, with any operands and open loops below and whatever is answered from outside, it does what the tree means, and is
--- over at its end. It has fewer than 2^32 instructions; where they lead lies within the list, and before them only where a loop asks
--- for its next item.
+-- over at its end; and entered at a recursive loop, it does what the loop means. It has fewer than 2^32 instructions; where they
+-- lead lies within the list, and before them only where a loop asks for its next item.
 pub record IsCompiled {V E C F : Type 0} (f : Functions C F) (contents : V → C) (syntax : Syntax) (source filename : Text) (c : Compiled V E) : Type 0 where
   pub tree : Stmt C
   pub derived : IsDerived f syntax source tree
   pub only : (t : Stmt C) → IsDerived f syntax source t → t ≡ tree
   pub code : code_of contents c.instructions ≡ stmt_code f (bare_stmt tree) start
   pub does : DoesStmt f (code_of contents c.instructions) 0 (length (code_of contents c.instructions)) (placed_stmt f (bare_stmt tree) start)
+  pub units : DoUnits f (code_of contents c.instructions) (bare_stmt tree) start
   pub few : length (code_of contents c.instructions) < 2 ^ 32
   pub leads : LeadsWell (code_of contents c.instructions)
   pub hint : IsHint (data_bytes (bare_stmt tree)) c.buffer_size_hint

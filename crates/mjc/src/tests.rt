@@ -2,6 +2,7 @@
 //!
 //! The rows of a subject stand in one text, since a test is proved too, with each text that it names spelled out.
 mod expr;
+mod statements;
 mod tokens;
 mod words;
 

@@ -15,7 +15,7 @@ const THIRD_LINE: Span = Span {
 };
 
 /// What can be wrong, each with a kind.
-fn details() -> [(ErrorKind, Detail<'static>); 19] {
+fn details() -> [(ErrorKind, Detail<'static>); 21] {
     let syntax = ErrorKind::SyntaxError;
     [
         (ErrorKind::InvalidDelimiter, Detail::InvalidDelimiter),
@@ -34,6 +34,8 @@ fn details() -> [(ErrorKind, Detail<'static>); 19] {
         (syntax, Detail::TooDeep),
         (syntax, Detail::TooManyArguments),
         (syntax, Detail::PlainAfterKeyword),
+        (syntax, Detail::OutsideLoop("break")),
+        (syntax, Detail::NotACall),
         (ErrorKind::OutOfMemory, Detail::OutOfMemory),
         (ErrorKind::SourceTooLong, Detail::SourceTooLong),
         (ErrorKind::TooManyInstructions, Detail::TooManyInstructions),
@@ -93,6 +95,8 @@ syntax error: cannot assign to reserved name loop
 syntax error: template exceeds maximum recursion limits
 syntax error: too many arguments in function call
 syntax error: non-keyword arg after keyword arg
+syntax error: 'break' must be placed inside a loop
+syntax error: expected call expression
 out of memory: out of memory
 source too long: source too long
 too many instructions: too many instructions";

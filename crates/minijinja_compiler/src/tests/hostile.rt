@@ -126,3 +126,33 @@ fn rows_of_operators_on_constants_are_folded(rt: HostRuntime) -> Result<(), Fail
 "#;
     hold::<Rows>(&rt, rt.alloc(), rows)
 }
+
+#[test]
+fn many_statements_are_compiled(rt: HostRuntime) -> Result<(), Fail> {
+    let rows = r#"
+1000000 * {{a}} => 2000000
+1000000 * {%set a=b%} => 2000000
+1000000 * {%if a%}{%endif%} => 2000000
+{%for a in b%} | 1000000 * {%break%} | {%endfor%} => 1000006
+"#;
+    hold::<Rows>(&rt, rt.alloc(), rows)
+}
+
+/// Rows of parts that the rule of depth does not count.
+#[test]
+fn rows_of_parts_of_statements_are_compiled(rt: HostRuntime) -> Result<(), Fail> {
+    let rows = r#"
+{%if a%} | 50000 * {%elif a%} | {%endif%} => 150002
+{%if a%} | 50000 * x{%elif a%} | {%else%}y{%endif%} => 200004
+{%set␠ | 50000 * ( | a | 50000 * ) | =b%} => 2
+{%set␠ | 50000 * ( | a | 50000 * ,) | =b%} => 50002
+{%set␠ | 50000 * ( | a | 50000 * ,(b,)) | =b%} => 150002
+{%for␠ | 50000 * ( | a | 50000 * ,) | ␠in b%}{%endfor%} => 50006
+{%set a | 50000 * ,a | =b%} => 50003
+{%set a | 50000 * .b | =c%} => 50002
+{%set a | 50000 * |f | %}x{%endset%} => 50004
+{%filter f | 50000 * |f | %}x{%endfilter%} => 50005
+{%with a=b | 50000 * ,a=b | %}{%endwith%} => 100004
+"#;
+    hold::<Rows>(&rt, rt.alloc(), rows)
+}

@@ -4,7 +4,6 @@ use Rattle.minijinja_tree.specs.Erasure.{stmt_tree}
 use Rattle.minijinja_tree.specs.SpannedTrees.{bare_stmt}
 use Rattle.minijinja_tree.specs.SpannedErasure.{stmt_node}
 use Rattle.minijinja_tree.proofs.Bare.{stmt_is}
-use Rattle.minijinja_tree.proofs.Simple.{simple-well-formed}
 use Rattle.minijinja_meaning.specs.Jumps.{LeadsWell}
 use Rattle.minijinja_meaning.specs.Pieces.{start}
 use Rattle.minijinja_meaning.proofs.Leads.{layout_leads_well}
@@ -12,6 +11,7 @@ use Rattle.minijinja_instructions.specs.Instructions.{code_of}
 use Rattle.minijinja_meaning.specs.Layout.{stmt_code}
 use Rattle.minijinja_meaning.specs.Correct.{DoesStmt}
 use Rattle.minijinja_meaning.specs.Places.{placed_stmt}
+use Rattle.minijinja_meaning.specs.Units.{DoUnits}
 use Rattle.minijinja_code.specs.private.AtGenerator.{generated, here_so_far}
 use Rattle.minijinja_code.specs.Hint.{IsHint, data_bytes}
 use Rattle.minijinja_compiler.proofs.Parts.{whole_code, whole_does, limit_of_parser, never_refusal, never_another, too_long_list, unkept, hint_of_all}
@@ -39,8 +39,10 @@ returns-clause-compiled g c =
       does = subst (λ t. DoesStmt f code 0 (length code) (placed_stmt f t start)) (sym bare)
           (whole_does (λ is from to. DoesStmt f is from to (placed_stmt f tree start)) before after code empty
           (subst (λ h. DoesStmt f after (length before) (length after) (placed_stmt f tree h)) c.new-generator.ensures.here done.does) finished);
+      units = subst (λ t. DoUnits f code t start) (sym bare)
+          (subst (λ is. DoUnits f is tree start) (sym finished) (subst (λ h. DoUnits f after tree h) c.new-generator.ensures.here done.units));
       few = subst (λ is. length is < 2 ^ 32) (sym finished) done.few;
-      leads = subst LeadsWell (sym (whole_code before after code (here_so_far v made) (stmt_code f tree) empty c.new-generator.ensures.here done.added finished)) (layout_leads_well f tree (simple-well-formed tree c.in_ok-template.ensures.well_formed));
+      leads = subst LeadsWell (sym (whole_code before after code (here_so_far v made) (stmt_code f tree) empty c.new-generator.ensures.here done.added finished)) (layout_leads_well f tree c.in_ok-template.ensures.well_formed);
       hint = subst (λ t. IsHint (data_bytes t) c.buffer_size_hint-buffer_size_hint.result) (sym bare) (hint_of_all (data_bytes tree) _ _ c.buffer_size_hint-buffer_size_hint.result c.new-generator.ensures.bytes done.counted c.buffer_size_hint-buffer_size_hint.ensures);
       no_blocks = rw (c.finish-instructions.ensures.blocks, done.blocks) c.new-generator.ensures.blocks;
       name = c.finish-instructions.ensures.name ∙ done.name ∙ c.new-generator.ensures.name;
