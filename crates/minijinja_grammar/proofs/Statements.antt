@@ -21,7 +21,7 @@ use Rattle.minijinja_grammar.specs.private.Ensured.{Holds, Kept, Ensured}
 use Rattle.minijinja_grammar.proofs.Ensured.{weaker}
 use Rattle.minijinja_grammar.proofs.Sound.{alone, args, behind, exprs, expr_sound, mark_span, name, next, of_kind_is, or_level, primary_sound, spanned}
 use Rattle.minijinja_grammar.proofs.Standing.{all_args, if_any, is_whole, stands, whole_args, whole_if_any}
-use Rattle.minijinja_grammar.proofs.Targets.{IsAssignable, IsOneTarget, any_targets, named}
+use Rattle.minijinja_grammar.proofs.Targets.{IsAssignable, IsOneTarget, any_targets, stored}
 
 module _ (C : Type 0) (T : SpannedTok → Type 0) (S : Span → Type 0) (spans : (t : SpannedTok) → T t → S t.1)
     (joins : (s to : Span) → S s → S to → S (expanded s to)) where
@@ -127,7 +127,7 @@ module _ (C : Type 0) (T : SpannedTok → Type 0) (S : Span → Type 0) (spans :
     unfolding form.binding form.bound_target
     binding = (
       (λ t u i j. weaker T S (target.any_targets false) (IsOneTarget C T S spans joins) _ (λ x h. next T S spans joins paren_close _ (λ s k. valued x h.it)) (any_targets C T S spans joins false)),
-      weaker T S (target.named_target false) (IsOneTarget C T S spans joins) _ (λ x h. valued x h.it) (named C T S spans joins false),
+      weaker T S (target.stored_name {C = C}) (IsOneTarget C T S spans joins) _ (λ x h. valued x h.it) (stored C T S spans joins),
     )
       where
         valued : (x : Expr C) → IsAssignable C T S spans joins x → Ensured T S (g.next assign >>= (λ _. expr >>= (λ e. pure (x, e)))) (λ b. Holds (IsBinding b))

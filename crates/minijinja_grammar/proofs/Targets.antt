@@ -20,8 +20,8 @@ use Rattle.minijinja_grammar.proofs.Sound.{alone, behind, ident_span, next, span
 use Rattle.minijinja_grammar.proofs.Standing.{is_whole}
 
 -- an identifier that may be assigned to is a token
-target_is : (T : SpannedTok → Type 0) (t : SpannedTok) (x : Text × Span) → T t → form.target_word t ≡ Some x → T (ident x.0, x.1)
-target_is T (ident y, s) x i e = go (bytes_eq y (codes "in") || is_reserved y) e
+word_is : (T : SpannedTok → Type 0) (refused : Text → Bool) (t : SpannedTok) (x : Text × Span) → T t → form.word_but refused t ≡ Some x → T (ident x.0, x.1)
+word_is T refused (ident y, s) x i e = go (refused y) e
   where
     go : (b : Bool) → (if b then None else Some (y, s)) ≡ Some x → T (ident x.0, x.1)
     go true k = cc
@@ -29,7 +29,7 @@ target_is T (ident y, s) x i e = go (bytes_eq y (codes "in") || is_reserved y) e
       where
         same : (z x : Text × Span) → Some z ≡ Some x → z ≡ x
         same z x k = cc
-target_is T _ x i e = cc
+word_is T refused _ x i e = cc
 
 module _ (C : Type 0) (T : SpannedTok → Type 0) (S : Span → Type 0) (spans : (t : SpannedTok) → T t → S t.1)
     (joins : (s to : Span) → S s → S to → S (expanded s to)) where
@@ -58,7 +58,11 @@ module _ (C : Type 0) (T : SpannedTok → Type 0) (S : Span → Type 0) (spans :
 
   pub named : (dotted : Bool) → Ensured T S (form.named_target dotted) IsOneTarget
   unfolding form.named_target
-  named dotted = λ t x i j. parts dotted (variable x.0 x.1) (record { sound = target_is T t x i j; target = tt })
+  named dotted = λ t x i j. parts dotted (variable x.0 x.1) (record { sound = word_is T _ t x i j; target = tt })
+
+  pub stored : Ensured T S (form.stored_name {C = C}) IsOneTarget
+  unfolding form.stored_name
+  stored = λ t x i j. alone (record { sound = word_is T is_reserved t x i j; target = tt })
 
   append : (es : List (Expr C)) (e : Expr C) → AreAssignable es → IsAssignable e → AreAssignable (es ++ e ∷ [])
   append [] e h k = record { sound = (k.sound, tt); targets = (k.target, tt) }

@@ -10,7 +10,7 @@ use Rattle.minijinja_grammar.specs.Words.{is, in_word, if_word, else_word, elif_
 use Rattle.minijinja_syntax.specs.Streams.{SpannedTok}
 use Rattle.minijinja_grammar.specs.Forms.{Form, Turn, go_on, over, pure, nothing, one, start, last, many, either, ◌>>=◌, ◌>>◌}
 use Rattle.minijinja_grammar.specs.Grammar.{next, of_kind, span_of_mark, when, spanned, behind, ident_and_span, exprs, maybe_args, name, expanded, expr_at, primary_at, or_level, max_depth}
-use Rattle.minijinja_grammar.specs.Targets.{named_target, any_targets}
+use Rattle.minijinja_grammar.specs.Targets.{stored_name, any_targets}
 
 -- ---- words
 
@@ -106,7 +106,7 @@ bound_target = behind paren_open
       t ← any_targets false
       next paren_close
       pure t)
-    (named_target false)
+    stored_name
 
 -- With = ( ( Targets ) | Ident ) = Expr
 unfoldable pub binding : {C : Type 0} → Form (Expr C) → Form (Expr C × Expr C)

@@ -10,10 +10,24 @@ use Rattle.minijinja_syntax.specs.Streams.{SpannedTok}
 use Rattle.minijinja_grammar.specs.Forms.{Form, Turn, go_on, over, pure, nothing, one, start, many, either, ◌>>=◌, ◌>>◌}
 use Rattle.minijinja_grammar.specs.Grammar.{next, span_of_mark, ident_and_span, spanned, behind}
 
+-- an identifier, unless it is one of the refused
+abbrev pub word_but : (Text → Bool) → SpannedTok → Option (Text × Span)
+word_but refused (ident x, s) = if refused x then None else Some (x, s)
+word_but refused _ = None
+
+-- an identifier that is not reserved
+abbrev pub name_word : SpannedTok → Option (Text × Span)
+name_word t = word_but is_reserved t
+
 -- an identifier that is neither `in` nor reserved
 abbrev pub target_word : SpannedTok → Option (Text × Span)
-target_word (ident x, s) = if bytes_eq x (codes "in") || is_reserved x then None else Some (x, s)
-target_word _ = None
+target_word t = word_but (λ x. bytes_eq x (codes "in") || is_reserved x) t
+
+-- Ident, where a name stands by itself: it may be `in`
+unfoldable pub stored_name : {C : Type 0} → Form (Expr C)
+stored_name = do
+  x ← one name_word
+  pure (variable x.0 x.1)
 
 -- . Ident, after a target so far: an attribute, which stands where its name does
 unfoldable pub target_part : {C : Type 0} → Expr C → Span → Form (Turn (Expr C))

@@ -5,31 +5,37 @@ use Rattle.minijinja_syntax.specs.Tokens.{Tok, ident, dot}
 use Rattle.minijinja_syntax.specs.Streams.{SpannedTok}
 use Rattle.minijinja_syntax.specs.declared.tokens.Span.{Span}
 use Rattle.minijinja_tree.specs.SpannedTrees.{Expr, attribute}
-use Rattle.minijinja_grammar.specs.Words.{is}
+use Rattle.minijinja_grammar.specs.Words.{is, is_reserved}
 use Rattle.minijinja_grammar.specs.Forms.{Place, Read, Turn, go_on, got, short, wrong, one, comes, read_then, read_turn, read_any, read_one, held_or_wrong, if_held, after, reads}
 use Rattle.minijinja_grammar.specs.Grammar.{ident_and_span, next, span_of_mark}
-use Rattle.minijinja_grammar.specs.Targets.{attributes, target_part, target_word}
+use Rattle.minijinja_grammar.specs.Targets.{attributes, name_word, target_part, target_word, word_but}
 use Rattle.minijinja_grammar.proofs.Unrolled.{many_is}
 use Rattle.minijinja_stream.specs.private.Reads.{eaten}
 use Rattle.minijinja_templates.specs.private.Targets.{is_no_target}
 
 -- a name, by the identifier taken
-pub word_is : (p : Place) → reads (one target_word) p ≡ read_then (reads (one ident_and_span) p) (λ x q. if is_no_target x.0 then wrong q else got x q)
+word_but_is : (refused : Text → Bool) (p : Place) → reads (one (word_but refused)) p ≡ read_then (reads (one ident_and_span) p) (λ x q. if refused x.0 then wrong q else got x q)
 unfolding reads
-word_is p = go p.tokens
+word_but_is refused p = go p.tokens
   where
     held : (b : Bool) (x : Text × Span) (q : Place) → held_or_wrong (if b then None else Some x) q ≡ (if b then wrong q else got x q)
     held true x q = refl
     held false x q = refl
 
-    at_token : (t : Tok) (s : Span) (q : Place) → held_or_wrong (target_word (t, s)) q ≡
-        read_then (held_or_wrong (ident_and_span (t, s)) q) (λ x r. if is_no_target x.0 then wrong r else got x r)
-    at_token (ident x) s q = held (is_no_target x) (x, s) q
+    at_token : (t : Tok) (s : Span) (q : Place) → held_or_wrong (word_but refused (t, s)) q ≡
+        read_then (held_or_wrong (ident_and_span (t, s)) q) (λ x r. if refused x.0 then wrong r else got x r)
+    at_token (ident x) s q = held (refused x) (x, s) q
     at_token _ s q = refl
 
-    go : (ts : List SpannedTok) → read_one target_word p ts ≡ read_then (read_one ident_and_span p ts) (λ x q. if is_no_target x.0 then wrong q else got x q)
+    go : (ts : List SpannedTok) → read_one (word_but refused) p ts ≡ read_then (read_one ident_and_span p ts) (λ x q. if refused x.0 then wrong q else got x q)
     go [] = refl
     go (t ∷ ts) = at_token t.0 t.1 (after p t ts)
+
+pub word_is : (p : Place) → reads (one target_word) p ≡ read_then (reads (one ident_and_span) p) (λ x q. if is_no_target x.0 then wrong q else got x q)
+word_is p = word_but_is is_no_target p
+
+pub name_is : (p : Place) → reads (one name_word) p ≡ read_then (reads (one ident_and_span) p) (λ x q. if is_reserved x.0 then wrong q else got x q)
+name_is p = word_but_is is_reserved p
 
 -- attributes, by the dot before each
 pub attributes_is : {C : Type 0} (e : Expr C) (p : Place) → reads (attributes e) p ≡

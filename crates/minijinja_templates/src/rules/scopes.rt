@@ -7,7 +7,7 @@ ghost use Rattle.minijinja_grammar.specs.Statements.{parts_at};
 ghost use Rattle.minijinja_templates.specs.private.Made.{binding_of};
 ghost use Rattle.minijinja_templates.specs.private.Parses.{Nests, Parses, context_of};
 
-use crate::rules::targets::{any_targets, named_target};
+use crate::rules::targets::{any_targets, stored_name};
 use crate::rules::{Context, Rules};
 use crate::statements::{ExprForm, Kind, Statements, of_kind};
 use minijinja_base::tokens::Span;
@@ -22,7 +22,7 @@ fn bound_target<S: Statements>(statements: S, tokens: &mut S::Input) -> Result<S
     ensures { Parses S.Input.place S.tree form.bound_target tokens.old result tokens.new }
 {
     if !tokens.eat(Mark::ParenOpen)? {
-        return named_target(statements, tokens, false);
+        return stored_name(statements, tokens);
     }
     let target = any_targets(statements, tokens, false)?;
     tokens.expect(Mark::ParenClose)?;

@@ -63,6 +63,21 @@ fn assignable<S: Statements>(
     Ok((name, span))
 }
 
+/// A name by itself, which may be `in`.
+#[tactic(auto, using(crate::proofs::Names::name_is), unfolding(minijinja_grammar::specs::Forms::reads, minijinja_grammar::specs::Targets::stored_name))]
+pub(super) fn stored_name<S: Statements>(
+    statements: S,
+    tokens: &mut S::Input,
+) -> Result<S::Expr, Refusal>
+    ensures { Parses S.Input.place S.tree form.stored_name tokens.old result tokens.new }
+{
+    let (name, span) = statements.ident(tokens, Wanted::Part(Expected::Identifier))?;
+    if is_reserved(S::letters(&name)) {
+        return Err(Refusal::Wrong(Wanted::Target));
+    }
+    Ok(statements.target(Target::Name(name), span)?)
+}
+
 /// The attributes after a target.
 #[tactic(auto, using(crate::proofs::Names::attributes_is))]
 fn attributes<S: Statements>(
@@ -83,7 +98,7 @@ fn attributes<S: Statements>(
 
 /// A name, and attributes after it where dots may follow.
 #[tactic(auto, unfolding(minijinja_grammar::specs::Forms::reads, minijinja_grammar::specs::Targets::named_target))]
-pub(super) fn named_target<S: Statements>(
+fn named_target<S: Statements>(
     statements: S,
     tokens: &mut S::Input,
     dotted: bool,

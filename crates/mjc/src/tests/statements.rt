@@ -228,6 +228,7 @@ fn scopes_and_captures(rt: HostRuntime) -> Result<(), Fail> {
 {% with %}x{% endwith %} => 0 PushWith␊1 EmitRaw("x")␊2 PopFrame␊hint 2␊
 {% with a = b %}{{ a }}{% endwith %} => 0 PushWith␊1 Lookup("b")␊2 StoreLocal("a")␊3 Lookup("a")␊4 Emit␊5 PopFrame␊hint 1␊
 {% with a = 1, b = a %}{{ b }}{% endwith %} => 0 PushWith␊1 LoadConst(1)␊2 StoreLocal("a")␊3 Lookup("a")␊4 StoreLocal("b")␊5 Lookup("b")␊6 Emit␊7 PopFrame␊hint 1␊
+{% with in = 1 %}{{ in }}{% endwith %} => 0 PushWith␊1 LoadConst(1)␊2 StoreLocal("in")␊3 Lookup("in")␊4 Emit␊5 PopFrame␊hint 1␊
 {% with (a) = 1 %}{% endwith %} => 0 PushWith␊1 LoadConst(1)␊2 StoreLocal("a")␊3 PopFrame␊hint 1␊
 {% filter f|g(1) %}x{% endfilter %} => 0 BeginCapture(Capture)␊1 EmitRaw("x")␊2 EndCapture␊3 ApplyFilter("f", 1, 0)␊4 LoadConst(1)␊5 ApplyFilter("g", 2, 1)␊6 Emit␊hint 2␊
 {% filter a.b %}x{% endfilter %} => 0 BeginCapture(Capture)␊1 EmitRaw("x")␊2 EndCapture␊3 ApplyFilter("a.b", 1, 0)␊4 Emit␊hint 2␊
@@ -298,6 +299,10 @@ fn refuses_what_is_no_statement(rt: HostRuntime) -> Result<(), Fail> {
 {% set a, = x %} => ! 1 mjc: SyntaxError
 {% set = x %} => ! 1 mjc: SyntaxError
 {% set a b %} => ! 1 mjc: SyntaxError
+{% set in = 1 %} => ! 1 mjc: SyntaxError
+{% for in in y %}{% endfor %} => ! 1 mjc: SyntaxError
+{% with (in) = 1 %}{% endwith %} => ! 1 mjc: SyntaxError
+{% with loop = 1 %}{% endwith %} => ! 1 mjc: SyntaxError
 {% with a %}{% endwith %} => ! 1 mjc: SyntaxError
 {% with a = 1, %}{% endwith %} => ! 1 mjc: SyntaxError
 {% with a.b = 1 %}{% endwith %} => ! 1 mjc: SyntaxError
