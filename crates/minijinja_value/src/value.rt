@@ -107,10 +107,10 @@ pub trait TemplateValue: Sized + Drop {
     fn order(&self, other: &Self) -> Option<Ordering>
         ensures { result ≡ functions.order (contents self.now) (contents other.now) };
 
-    /// The texts of two values, joined.
-    fn concat(&self, alloc: Global, other: &Self) -> Result<Self, AllocError>
+    /// The texts of two values, joined, in the first one's memory where it has some.
+    fn concat(self, alloc: Global, other: &Self) -> Result<Self, AllocError>
         ensures { IfOk result
-            (λ v. contents v ≡ functions.concat (contents self.now) (contents other.now)) };
+            (λ v. contents v ≡ functions.concat (contents self) (contents other.now)) };
 
     /// Whether an item is in the value.
     fn contains(&self, alloc: Global, item: &Self) -> Result<bool, OpError<Self::Fault>>
@@ -435,7 +435,7 @@ impl TemplateValue for Value {
     }
 
     /// Undefined stands as nothing, and a value that is no text as it is printed.
-    fn concat(&self, alloc: Global, other: &Value) -> Result<Value, AllocError> {
+    fn concat(self, alloc: Global, other: &Value) -> Result<Value, AllocError> {
         operate::concat(self, alloc, other)
     }
 

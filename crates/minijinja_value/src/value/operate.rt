@@ -9,15 +9,29 @@ use super::compare::{has_item, position_of_key};
 use super::{Integer, OpError, Text, Value, ValueFault};
 use std::alloc::{AllocError, Global};
 
-/// The texts of two values, joined.
-pub(super) fn concat(left: &Value, alloc: Global, right: &Value) -> Result<Value, AllocError>
+/// The texts of two values, joined. The first one's memory is used.
+pub(super) fn concat(left: Value, alloc: Global, right: &Value) -> Result<Value, AllocError>
     ensures { IfOk result
-        (λ v. contents_of v ≡ spec.concat (contents_of left.now) (contents_of right.now)) }
+        (λ v. contents_of v ≡ spec.concat (contents_of left) (contents_of right.now)) }
+{
+    let text = match left {
+        Value::String(own) => own,
+        other => joined_text(alloc, &other)?,
+    };
+    let text = match right {
+        Value::String(own) => text.followed_by(alloc, own.as_str())?,
+        other => text.followed_by(alloc, joined_text(alloc, other)?.as_str())?,
+    };
+    Ok(Value::String(text))
+}
+
+/// What a value stands for in a joined text.
+fn joined_text(alloc: Global, value: &Value) -> Result<Text, AllocError>
+    ensures { IfOk result (λ t. t ≡ joined_words (contents_of value.now)) }
 {
     let mut text = String::new(alloc);
-    push_joined(&mut text, left)?;
-    push_joined(&mut text, right)?;
-    Ok(Value::String(Text::from_string(text)))
+    push_joined(&mut text, value)?;
+    Ok(Text::from_string(text))
 }
 
 /// Adds what a value stands for in a joined text.

@@ -1,5 +1,6 @@
 //! The texts of values.
-ghost use Rattle.std.specs.Prelude.{◌≡◌, ◌≤◌, IsOk, IfOk, length, string_bytes};
+ghost use Rattle.std.specs.Prelude.{◌≡◌, ◌≤◌, ◌++◌, IsOk, IfOk, length, string_bytes};
+ghost use Rattle.minijinja_value.specs.private.TextForms.{form_bytes, IsFitting};
 
 use arrayvec::ArrayString;
 use std::alloc::{AllocError, Global};
@@ -61,10 +62,23 @@ impl Text {
     pub fn as_str(&self) -> &str
         ensures { result.now ≡ self.now }
     {
-        match &self.form {
-            Form::Short(text) => text.as_str(),
-            Form::Long(text) => text.as_str(),
-        }
+        self.form.as_str()
+    }
+
+    /// The text with another one after it. A long one grows in its own memory, so that a row of texts is joined in linear time.
+    pub fn followed_by(self, alloc: Global, after: &str) -> Result<Text, AllocError>
+        ensures value { IfOk result (λ t. t ≡ self ++ after.now) }
+        ensures needs_no_memory { length (self ++ after.now) ≤ MOST_SHORT_BYTES →
+            IsOk result }
+    {
+        let form = match self.form {
+            Form::Long(mut long) => {
+                long.push_str(after)?;
+                Form::Long(long)
+            }
+            short => joined(alloc, short.as_str(), after)?,
+        };
+        Ok(Text { form })
     }
 
     /// The same text, with memory of its own.
@@ -78,6 +92,34 @@ impl Text {
         };
         Ok(Text { form })
     }
+}
+
+impl Form {
+    fn as_str(&self) -> &str
+        ensures { result.now ≡ form_bytes self.now }
+    {
+        match self {
+            Form::Short(text) => text.as_str(),
+            Form::Long(text) => text.as_str(),
+        }
+    }
+}
+
+/// Two texts in one.
+fn joined(alloc: Global, first: &str, second: &str) -> Result<Form, AllocError>
+    ensures value { IfOk result (λ form. form_bytes form ≡ first.now ++ second.now) }
+    ensures fits { IfOk result IsFitting }
+    ensures needs_no_memory { length (first.now ++ second.now) ≤ MOST_SHORT_BYTES → IsOk result }
+{
+    if first.len().saturating_add(second.len()) <= MOST_SHORT_BYTES {
+        let mut short = ArrayString::new();
+        short.push_str(first);
+        short.push_str(second);
+        return Ok(Form::Short(short));
+    }
+    let mut long = String::from_str(alloc, first)?;
+    long.push_str(second)?;
+    Ok(Form::Long(long))
 }
 
 /// As that of a `str`.
