@@ -1,288 +1,221 @@
 -- The tests hold exactly of what is well formed.
-use Rattle.std.proofs.Common.{◌≡◌, ℕ, ◌≤◌, true, false, refl, sym, subst, arith}
-use Rattle.std.specs.Prelude.{Bool, ◌&&◌, ◌==◌, ◌↔◌, nat_le, IsTrue, List, [], ◌∷◌}
+use Rattle.std.proofs.Common.{◌≡◌, ◌≢◌, ℕ, ◌≤◌, ◌++◌, true, false, refl, sym, ap, subst, arith}
+use Rattle.std.specs.Prelude.{Bool, not, ◌&&◌, ◌||◌, ◌==◌, ◌↔◌, nat_le, IsTrue, List, [], ◌∷◌, length}
+use Rattle.std.specs.List.{list_any, IsDistinct, AllByRecursion}
+use Rattle.std.specs.Str.{bytes_eq}
+use Rattle.std.proofs.lemmas.Map.Keys.{IsDistinct-head, IsDistinct-tail, IsDistinct-cons}
+use Rattle.std.proofs.lemmas.Map.Made.{AllPairs-from_IsDistinct, IsDistinct-from_AllPairs}
+use Rattle.std.proofs.lemmas.Slice.Eq.{bytes_eq-Decides}
+use Rattle.minijinja_syntax.specs.Texts.{Text}
 use Rattle.std.proofs.lemmas.Bool.Decides.{nat_tests}
-use Rattle.minijinja_tree.specs.Tree.{Expr, variable, constant, slice, unary, binary, compare, if_expr, filter, test, attribute, item, call, list, tuple, map, Optional, absent, present, Exprs, no_more, more, Comparisons, compared, against, Args, no_args, pos, pos_splat, kwarg, kwarg_splat, Stmt, template, data_text, output, assignment, for_loop, if_cond, with_block, set_block, auto_escape, filter_block, do_call, break_loop, continue_loop, Stmts, done, also}
-use Rattle.minijinja_tree.specs.WellFormed.{most_arguments, expr_count, arg_count, IsChain, IsWhole, IsWholeIfAny, AreWhole, AreCompared, AreArguments, IsTarget, AreTargets, AreAssignments, IsChainOfFilters, IsChainIfAny, IsInner, AreInner, IsWellFormed}
-use Rattle.minijinja_tree.specs.private.WellFormedTests.{is_chain, is_whole, is_whole_if_any, are_whole, are_compared, are_arguments, takes_arguments, is_target, are_targets, are_assignments, is_chain_of_filters, is_chain_if_any, is_inner, are_inner, is_well_formed}
+use Rattle.minijinja_tree.specs.Tree.{Expr, variable, constant, slice, unary, binary, compare, if_expr, filter, test, attribute, item, call, list, tuple, map, Optional, absent, present, Exprs, no_more, more, Comparisons, compared, against, Args, no_args, pos, pos_splat, kwarg, kwarg_splat, Stmt, template, data_text, output, assignment, for_loop, if_cond, with_block, set_block, auto_escape, filter_block, named_block, extends, include, import_all, from_import, declare, call_block, do_call, break_loop, continue_loop, Stmts, done, also, Macro, macro, Block, blocks, all_blocks, macro_blocks, names_of_blocks, block_names}
+use Rattle.minijinja_tree.specs.WellFormed.{most_arguments, expr_count, arg_count, IsChain, IsWhole, IsWholeIfAny, AreWhole, AreCompared, AreArguments, IsTarget, AreTargets, AreAssignments, IsChainOfFilters, IsChainIfAny, IsVariable, AreVariables, AreAllWhole, IsVariableIfAny, AreNames, AreDistinct, IsInner, AreInner, IsMacro, IsRoot, IsWellFormed}
+use Rattle.minijinja_tree.specs.private.WellFormedTests.{is_chain, is_whole, is_whole_if_any, are_whole, are_compared, are_arguments, takes_arguments, is_target, are_targets, are_assignments, is_chain_of_filters, is_chain_if_any, is_variable, are_variables, are_all_whole, is_variable_if_any, are_names, is_macro_headed, is_inner, are_inner, is_macro, is_root, are_distinct, is_well_formed}
+use Rattle.minijinja_expressions.proofs.WellFormedTesting.{both, left, right, whole-holds, any-holds, whole-tests, any-tests, target-holds, target-tests, assignments-hold, assignments-test, taken-hold, taken-few, taken-test, filters-hold, filters-test, any-filters-hold, any-filters-test, variables-hold, variables-test, all-whole-hold, all-whole-test, names-hold, names-test, no-more-holds, no-more-tests}
 
--- both hold
-both : (a b : Bool) → IsTrue a → IsTrue b → IsTrue (a && b)
-both true b h k = k
-both false b h k = h
+-- ---- blocks
 
-left : (a b : Bool) → IsTrue (a && b) → IsTrue a
-left true b h = refl
-left false b h = h
+none-both : {X : Type 0} (xs ys : List X) → xs ≡ [] → ys ≡ [] → xs ++ ys ≡ []
+none-both xs ys h k = rw (h, k) refl
 
-right : (a b : Bool) → IsTrue (a && b) → IsTrue b
-right true b h = h
-right false b h = cc
+none-left : {X : Type 0} (xs ys : List X) → xs ++ ys ≡ [] → xs ≡ []
+none-left [] ys h = refl
+none-left (x ∷ xs) ys h = cc
 
-chain-holds : {C : Type 0} (cs : Comparisons C) → IsTrue (is_chain cs) → IsChain cs
-chain-holds compared h = cc
-chain-holds (against o e compared) h = cc
-chain-holds (against o e (against o' e' cs)) h = tt
+none-right : {X : Type 0} (xs ys : List X) → xs ++ ys ≡ [] → ys ≡ []
+none-right [] ys h = h
+none-right (x ∷ xs) ys h = cc
 
-chain-tests : {C : Type 0} (cs : Comparisons C) → IsChain cs → IsTrue (is_chain cs)
-chain-tests compared h = absurd h
-chain-tests (against o e compared) h = absurd h
-chain-tests (against o e (against o' e' cs)) h = refl
+no-names : {C L : Type 0} (bs : List (Block C L)) → names_of_blocks bs ≡ [] → bs ≡ []
+no-names [] h = refl
+no-names (b ∷ bs) h = cc
 
-few-holds : (n : ℕ) → IsTrue (nat_le n most_arguments) → n ≤ most_arguments
-few-holds n h = grind (arith, nat_tests)
+-- what passes in a macro has no block
+mutual
+  inner-free : {C L : Type 0} (l : Bool) (s : Stmt C L) → IsTrue (is_inner l true s) → blocks s ≡ []
+  inner-free l (template ss) h = cc
+  inner-free l (data_text t) h = refl
+  inner-free l (output e) h = refl
+  inner-free l (assignment e v) h = refl
+  inner-free l (for_loop n t e only again ss other) h = let bodies = right (is_target t && (is_whole e && is_whole_if_any only)) (are_inner true true ss && are_inner l true other) h in
+      none-both (all_blocks ss) (all_blocks other) (inners-free true ss (left (are_inner true true ss) (are_inner l true other) bodies)) (inners-free l other (right (are_inner true true ss) (are_inner l true other) bodies))
+  inner-free l (if_cond e ss other) h = let bodies = right (is_whole e) (are_inner l true ss && are_inner l true other) h in
+      none-both (all_blocks ss) (all_blocks other) (inners-free l ss (left (are_inner l true ss) (are_inner l true other) bodies)) (inners-free l other (right (are_inner l true ss) (are_inner l true other) bodies))
+  inner-free l (with_block xs ss) h = inners-free l ss (right (are_assignments xs) (are_inner l true ss) h)
+  inner-free l (set_block t e ss) h = inners-free l ss (right (is_target t && is_chain_if_any e) (are_inner l true ss) h)
+  inner-free l (auto_escape e ss) h = inners-free l ss (right (is_whole e) (are_inner l true ss) h)
+  inner-free l (filter_block e ss) h = inners-free l ss (right (is_chain_of_filters e) (are_inner l true ss) h)
+  inner-free l (named_block x required ss) h = cc
+  inner-free l (extends e) h = refl
+  inner-free l (include e ignore) h = refl
+  inner-free l (import_all e t) h = refl
+  inner-free l (from_import e ns) h = refl
+  inner-free l (declare d) h = macro-free d h
+  inner-free l (call_block e args d) h = macro-free d (right (is_whole e && takes_arguments args) (is_macro d) h)
+  inner-free l (do_call e args) h = refl
+  inner-free l break_loop h = refl
+  inner-free l continue_loop h = refl
 
-few-tests : (n : ℕ) → n ≤ most_arguments → IsTrue (nat_le n most_arguments)
-few-tests n h = grind (arith, nat_tests)
+  inners-free : {C L : Type 0} (l : Bool) (ss : Stmts C L) → IsTrue (are_inner l true ss) → all_blocks ss ≡ []
+  inners-free l done h = refl
+  inners-free l (also s ss) h = none-both (blocks s) (all_blocks ss) (inner-free l s (left (is_inner l true s) (are_inner l true ss) h)) (inners-free l ss (right (is_inner l true s) (are_inner l true ss) h))
 
-same-holds : (m n : ℕ) → IsTrue (m == n) → m ≡ n
-same-holds m n h = grind (arith, nat_tests)
-
-same-tests : (m n : ℕ) → m ≡ n → IsTrue (m == n)
-same-tests m n h = grind (arith, nat_tests)
+  macro-free : {C L : Type 0} (d : Macro C L) → IsTrue (is_macro d) → macro_blocks d ≡ []
+  macro-free (macro n x args defaults ss) h = inners-free false ss (right (is_macro_headed (macro n x args defaults ss)) (are_inner false true ss) h)
 
 mutual
-  whole-holds : {C : Type 0} (e : Expr C) → IsTrue (is_whole e) → IsWhole e
-  whole-holds (variable x) h = tt
-  whole-holds (constant c) h = tt
-  whole-holds (slice e a b c) h = let k = right (is_whole e) _ h in let l = right (is_whole_if_any a) _ k in (
-    whole-holds e (left (is_whole e) _ h),
-    any-holds a (left (is_whole_if_any a) _ k),
-    any-holds b (left (is_whole_if_any b) (is_whole_if_any c) l),
-    any-holds c (right (is_whole_if_any b) (is_whole_if_any c) l),
-  )
-  whole-holds (unary o e) h = whole-holds e h
-  whole-holds (binary o a b) h = (whole-holds a (left (is_whole a) (is_whole b) h), whole-holds b (right (is_whole a) (is_whole b) h))
-  whole-holds (compare e cs) h = let k = right (is_chain cs) (is_whole e && are_compared cs) h in (
-    whole-holds e (left (is_whole e) (are_compared cs) k),
-    chain-holds cs (left (is_chain cs) (is_whole e && are_compared cs) h),
-    compared-hold cs (right (is_whole e) (are_compared cs) k),
-  )
-  whole-holds (if_expr t a b) h = let k = right (is_whole t) (is_whole a && is_whole_if_any b) h in (
-    whole-holds t (left (is_whole t) (is_whole a && is_whole_if_any b) h),
-    whole-holds a (left (is_whole a) (is_whole_if_any b) k),
-    any-holds b (right (is_whole a) (is_whole_if_any b) k),
-  )
-  whole-holds (filter absent x args) h = cc
-  whole-holds (filter (present e) x args) h = let k = right (is_whole e) (nat_le (arg_count args) most_arguments && are_arguments args) h in (
-    whole-holds e (left (is_whole e) (nat_le (arg_count args) most_arguments && are_arguments args) h),
-    arguments-hold args (right (nat_le (arg_count args) most_arguments) (are_arguments args) k),
-    few-holds (arg_count args) (left (nat_le (arg_count args) most_arguments) (are_arguments args) k),
-  )
-  whole-holds (test e x args) h = let k = right (is_whole e) (nat_le (arg_count args) most_arguments && are_arguments args) h in (
-    whole-holds e (left (is_whole e) (nat_le (arg_count args) most_arguments && are_arguments args) h),
-    arguments-hold args (right (nat_le (arg_count args) most_arguments) (are_arguments args) k),
-    few-holds (arg_count args) (left (nat_le (arg_count args) most_arguments) (are_arguments args) k),
-  )
-  whole-holds (attribute e x) h = whole-holds e h
-  whole-holds (item e k) h = (whole-holds e (left (is_whole e) (is_whole k) h), whole-holds k (right (is_whole e) (is_whole k) h))
-  whole-holds (call e args) h = let k = right (is_whole e) (nat_le (arg_count args) most_arguments && are_arguments args) h in (
-    whole-holds e (left (is_whole e) (nat_le (arg_count args) most_arguments && are_arguments args) h),
-    arguments-hold args (right (nat_le (arg_count args) most_arguments) (are_arguments args) k),
-    few-holds (arg_count args) (left (nat_le (arg_count args) most_arguments) (are_arguments args) k),
-  )
-  whole-holds (list es) h = wholes-hold es h
-  whole-holds (tuple es) h = wholes-hold es h
-  whole-holds (map ks vs) h = let k = right (expr_count ks == expr_count vs) (are_whole ks && are_whole vs) h in (
-    wholes-hold ks (left (are_whole ks) (are_whole vs) k),
-    wholes-hold vs (right (are_whole ks) (are_whole vs) k),
-    same-holds (expr_count ks) (expr_count vs) (left (expr_count ks == expr_count vs) (are_whole ks && are_whole vs) h),
-  )
-
-  any-holds : {C : Type 0} (e : Optional C) → IsTrue (is_whole_if_any e) → IsWholeIfAny e
-  any-holds absent h = tt
-  any-holds (present e) h = whole-holds e h
-
-  wholes-hold : {C : Type 0} (es : Exprs C) → IsTrue (are_whole es) → AreWhole es
-  wholes-hold no_more h = tt
-  wholes-hold (more e es) h = (whole-holds e (left (is_whole e) (are_whole es) h), wholes-hold es (right (is_whole e) (are_whole es) h))
-
-  compared-hold : {C : Type 0} (cs : Comparisons C) → IsTrue (are_compared cs) → AreCompared cs
-  compared-hold compared h = tt
-  compared-hold (against o e cs) h = (whole-holds e (left (is_whole e) (are_compared cs) h), compared-hold cs (right (is_whole e) (are_compared cs) h))
-
-  arguments-hold : {C : Type 0} (args : Args C) → IsTrue (are_arguments args) → AreArguments args
-  arguments-hold no_args h = tt
-  arguments-hold (pos e args) h = (whole-holds e (left (is_whole e) (are_arguments args) h), arguments-hold args (right (is_whole e) (are_arguments args) h))
-  arguments-hold (pos_splat e args) h = (whole-holds e (left (is_whole e) (are_arguments args) h), arguments-hold args (right (is_whole e) (are_arguments args) h))
-  arguments-hold (kwarg x e args) h = (whole-holds e (left (is_whole e) (are_arguments args) h), arguments-hold args (right (is_whole e) (are_arguments args) h))
-  arguments-hold (kwarg_splat e args) h = (whole-holds e (left (is_whole e) (are_arguments args) h), arguments-hold args (right (is_whole e) (are_arguments args) h))
-
-mutual
-  whole-tests : {C : Type 0} (e : Expr C) → IsWhole e → IsTrue (is_whole e)
-  whole-tests (variable x) h = refl
-  whole-tests (constant c) h = refl
-  whole-tests (slice e a b c) h = both (is_whole e) _ (whole-tests e h.0) (both (is_whole_if_any a) _ (any-tests a h.1) (both (is_whole_if_any b) _ (any-tests b h.2) (any-tests c h.3)))
-  whole-tests (unary o e) h = whole-tests e h
-  whole-tests (binary o a b) h = both (is_whole a) _ (whole-tests a h.0) (whole-tests b h.1)
-  whole-tests (compare e cs) h = both (is_chain cs) _ (chain-tests cs h.1) (both (is_whole e) _ (whole-tests e h.0) (compared-test cs h.2))
-  whole-tests (if_expr t a b) h = both (is_whole t) _ (whole-tests t h.0) (both (is_whole a) _ (whole-tests a h.1) (any-tests b h.2))
-  whole-tests (filter absent x args) h = absurd h
-  whole-tests (filter (present e) x args) h = both (is_whole e) _ (whole-tests e h.0) (both (nat_le (arg_count args) most_arguments) _ (few-tests (arg_count args) h.2) (arguments-test args h.1))
-  whole-tests (test e x args) h = both (is_whole e) _ (whole-tests e h.0) (both (nat_le (arg_count args) most_arguments) _ (few-tests (arg_count args) h.2) (arguments-test args h.1))
-  whole-tests (attribute e x) h = whole-tests e h
-  whole-tests (item e k) h = both (is_whole e) _ (whole-tests e h.0) (whole-tests k h.1)
-  whole-tests (call e args) h = both (is_whole e) _ (whole-tests e h.0) (both (nat_le (arg_count args) most_arguments) _ (few-tests (arg_count args) h.2) (arguments-test args h.1))
-  whole-tests (list es) h = wholes-test es h
-  whole-tests (tuple es) h = wholes-test es h
-  whole-tests (map ks vs) h = both (expr_count ks == expr_count vs) _ (same-tests (expr_count ks) (expr_count vs) h.2) (both (are_whole ks) _ (wholes-test ks h.0) (wholes-test vs h.1))
-
-  any-tests : {C : Type 0} (e : Optional C) → IsWholeIfAny e → IsTrue (is_whole_if_any e)
-  any-tests absent h = refl
-  any-tests (present e) h = whole-tests e h
-
-  wholes-test : {C : Type 0} (es : Exprs C) → AreWhole es → IsTrue (are_whole es)
-  wholes-test no_more h = refl
-  wholes-test (more e es) h = both (is_whole e) _ (whole-tests e h.0) (wholes-test es h.1)
-
-  compared-test : {C : Type 0} (cs : Comparisons C) → AreCompared cs → IsTrue (are_compared cs)
-  compared-test compared h = refl
-  compared-test (against o e cs) h = both (is_whole e) _ (whole-tests e h.0) (compared-test cs h.1)
-
-  arguments-test : {C : Type 0} (args : Args C) → AreArguments args → IsTrue (are_arguments args)
-  arguments-test no_args h = refl
-  arguments-test (pos e args) h = both (is_whole e) _ (whole-tests e h.0) (arguments-test args h.1)
-  arguments-test (pos_splat e args) h = both (is_whole e) _ (whole-tests e h.0) (arguments-test args h.1)
-  arguments-test (kwarg x e args) h = both (is_whole e) _ (whole-tests e h.0) (arguments-test args h.1)
-  arguments-test (kwarg_splat e args) h = both (is_whole e) _ (whole-tests e h.0) (arguments-test args h.1)
-
--- the test of an expression
-pub whole-decided : {C : Type 0} (e : Expr C) (b : Bool) → b ≡ is_whole e → IsTrue b ↔ IsWhole e
-whole-decided e b h = subst (λ b. IsTrue b ↔ IsWhole e) (sym h) (whole-holds e, whole-tests e)
-
-mutual
-  target-holds : {C : Type 0} (e : Expr C) → IsTrue (is_target e) → IsTarget e
-  target-holds (variable x) h = tt
-  target-holds (attribute e x) h = whole-holds e h
-  target-holds (list es) h = targets-hold es h
-  target-holds _ h = cc
-
-  targets-hold : {C : Type 0} (es : Exprs C) → IsTrue (are_targets es) → AreTargets es
-  targets-hold no_more h = tt
-  targets-hold (more e es) h = (target-holds e (left (is_target e) (are_targets es) h), targets-hold es (right (is_target e) (are_targets es) h))
-
-mutual
-  target-tests : {C : Type 0} (e : Expr C) → IsTarget e → IsTrue (is_target e)
-  target-tests (variable x) h = refl
-  target-tests (attribute e x) h = whole-tests e h
-  target-tests (list es) h = targets-test es h
-  target-tests _ h = absurd h
-
-  targets-test : {C : Type 0} (es : Exprs C) → AreTargets es → IsTrue (are_targets es)
-  targets-test no_more h = refl
-  targets-test (more e es) h = both (is_target e) _ (target-tests e h.0) (targets-test es h.1)
-
-assignments-hold : {C : Type 0} (xs : List (Expr C × Expr C)) → IsTrue (are_assignments xs) → AreAssignments xs
-assignments-hold [] h = tt
-assignments-hold (a ∷ rest) h = let k = left (is_target a.0 && is_whole a.1) (are_assignments rest) h in (
-  target-holds a.0 (left (is_target a.0) (is_whole a.1) k),
-  whole-holds a.1 (right (is_target a.0) (is_whole a.1) k),
-  assignments-hold rest (right (is_target a.0 && is_whole a.1) (are_assignments rest) h),
-)
-
-assignments-test : {C : Type 0} (xs : List (Expr C × Expr C)) → AreAssignments xs → IsTrue (are_assignments xs)
-assignments-test [] h = refl
-assignments-test (a ∷ rest) h = both (is_target a.0 && is_whole a.1) _ (both (is_target a.0) _ (target-tests a.0 h.0) (whole-tests a.1 h.1)) (assignments-test rest h.2)
-
-taken-hold : {C : Type 0} (args : Args C) → IsTrue (takes_arguments args) → AreArguments args
-taken-hold args h = arguments-hold args (right (nat_le (arg_count args) most_arguments) (are_arguments args) h)
-
-taken-few : {C : Type 0} (args : Args C) → IsTrue (takes_arguments args) → arg_count args ≤ most_arguments
-taken-few args h = few-holds (arg_count args) (left (nat_le (arg_count args) most_arguments) (are_arguments args) h)
-
-taken-test : {C : Type 0} (args : Args C) → AreArguments args → arg_count args ≤ most_arguments → IsTrue (takes_arguments args)
-taken-test args h k = both (nat_le (arg_count args) most_arguments) _ (few-tests (arg_count args) k) (arguments-test args h)
-
-filters-hold : {C : Type 0} (e : Expr C) → IsTrue (is_chain_of_filters e) → IsChainOfFilters e
-filters-hold (filter absent x args) h = (taken-hold args h, taken-few args h)
-filters-hold (filter (present e) x args) h = let k = left (takes_arguments args) (is_chain_of_filters e) h in (
-  filters-hold e (right (takes_arguments args) (is_chain_of_filters e) h),
-  taken-hold args k,
-  taken-few args k,
-)
-filters-hold _ h = cc
-
-filters-test : {C : Type 0} (e : Expr C) → IsChainOfFilters e → IsTrue (is_chain_of_filters e)
-filters-test (filter absent x args) h = taken-test args h.0 h.1
-filters-test (filter (present e) x args) h = both (takes_arguments args) _ (taken-test args h.1 h.2) (filters-test e h.0)
-filters-test _ h = absurd h
-
-any-filters-hold : {C : Type 0} (e : Optional C) → IsTrue (is_chain_if_any e) → IsChainIfAny e
-any-filters-hold absent h = tt
-any-filters-hold (present e) h = filters-hold e h
-
-any-filters-test : {C : Type 0} (e : Optional C) → IsChainIfAny e → IsTrue (is_chain_if_any e)
-any-filters-test absent h = refl
-any-filters-test (present e) h = filters-test e h
-
-mutual
-  inner-holds : {C L : Type 0} (l : Bool) (s : Stmt C L) → IsTrue (is_inner l s) → IsInner l s
-  inner-holds l (template ss) h = cc
-  inner-holds l (data_text t) h = tt
-  inner-holds l (output e) h = whole-holds e h
-  inner-holds l (assignment e v) h = (target-holds e (left (is_target e) (is_whole v) h), whole-holds v (right (is_target e) (is_whole v) h))
-  inner-holds l (for_loop n t e only again ss other) h =
-      let head = left (is_target t && (is_whole e && is_whole_if_any only)) (are_inner true ss && are_inner l other) h in
-      let bodies = right (is_target t && (is_whole e && is_whole_if_any only)) (are_inner true ss && are_inner l other) h in
+  inner-holds : {C L : Type 0} (l m : Bool) (s : Stmt C L) → IsTrue (is_inner l m s) → IsInner l s
+  inner-holds l m (template ss) h = cc
+  inner-holds l m (data_text t) h = tt
+  inner-holds l m (output e) h = whole-holds e h
+  inner-holds l m (assignment e v) h = (target-holds e (left (is_target e) (is_whole v) h), whole-holds v (right (is_target e) (is_whole v) h))
+  inner-holds l m (for_loop n t e only again ss other) h =
+      let head = left (is_target t && (is_whole e && is_whole_if_any only)) (are_inner true m ss && are_inner l m other) h in
+      let bodies = right (is_target t && (is_whole e && is_whole_if_any only)) (are_inner true m ss && are_inner l m other) h in
       let k = right (is_target t) (is_whole e && is_whole_if_any only) head in (
         target-holds t (left (is_target t) (is_whole e && is_whole_if_any only) head),
         whole-holds e (left (is_whole e) (is_whole_if_any only) k),
         any-holds only (right (is_whole e) (is_whole_if_any only) k),
-        inners-hold true ss (left (are_inner true ss) (are_inner l other) bodies),
-        inners-hold l other (right (are_inner true ss) (are_inner l other) bodies),
+        inners-hold true m ss (left (are_inner true m ss) (are_inner l m other) bodies),
+        inners-hold l m other (right (are_inner true m ss) (are_inner l m other) bodies),
       )
-  inner-holds l (if_cond e ss other) h = let bodies = right (is_whole e) (are_inner l ss && are_inner l other) h in (
-    whole-holds e (left (is_whole e) (are_inner l ss && are_inner l other) h),
-    inners-hold l ss (left (are_inner l ss) (are_inner l other) bodies),
-    inners-hold l other (right (are_inner l ss) (are_inner l other) bodies),
+  inner-holds l m (if_cond e ss other) h = let bodies = right (is_whole e) (are_inner l m ss && are_inner l m other) h in (
+    whole-holds e (left (is_whole e) (are_inner l m ss && are_inner l m other) h),
+    inners-hold l m ss (left (are_inner l m ss) (are_inner l m other) bodies),
+    inners-hold l m other (right (are_inner l m ss) (are_inner l m other) bodies),
   )
-  inner-holds l (with_block xs ss) h = (assignments-hold xs (left (are_assignments xs) (are_inner l ss) h), inners-hold l ss (right (are_assignments xs) (are_inner l ss) h))
-  inner-holds l (set_block t e ss) h = let head = left (is_target t && is_chain_if_any e) (are_inner l ss) h in (
+  inner-holds l m (with_block xs ss) h = (assignments-hold xs (left (are_assignments xs) (are_inner l m ss) h), inners-hold l m ss (right (are_assignments xs) (are_inner l m ss) h))
+  inner-holds l m (set_block t e ss) h = let head = left (is_target t && is_chain_if_any e) (are_inner l m ss) h in (
     target-holds t (left (is_target t) (is_chain_if_any e) head),
     any-filters-hold e (right (is_target t) (is_chain_if_any e) head),
-    inners-hold l ss (right (is_target t && is_chain_if_any e) (are_inner l ss) h),
+    inners-hold l m ss (right (is_target t && is_chain_if_any e) (are_inner l m ss) h),
   )
-  inner-holds l (auto_escape e ss) h = (whole-holds e (left (is_whole e) (are_inner l ss) h), inners-hold l ss (right (is_whole e) (are_inner l ss) h))
-  inner-holds l (filter_block e ss) h = (filters-hold e (left (is_chain_of_filters e) (are_inner l ss) h), inners-hold l ss (right (is_chain_of_filters e) (are_inner l ss) h))
-  inner-holds l (do_call e args) h = let k = right (is_whole e) (takes_arguments args) h in (whole-holds e (left (is_whole e) (takes_arguments args) h), taken-hold args k, taken-few args k)
-  inner-holds l break_loop h = h
-  inner-holds l continue_loop h = h
+  inner-holds l m (auto_escape e ss) h = (whole-holds e (left (is_whole e) (are_inner l m ss) h), inners-hold l m ss (right (is_whole e) (are_inner l m ss) h))
+  inner-holds l m (filter_block e ss) h = (filters-hold e (left (is_chain_of_filters e) (are_inner l m ss) h), inners-hold l m ss (right (is_chain_of_filters e) (are_inner l m ss) h))
+  inner-holds l m (named_block x required ss) h = inners-hold false m ss (right (not m) (are_inner false m ss) h)
+  inner-holds l m (extends e) h = whole-holds e h
+  inner-holds l m (include e ignore) h = whole-holds e h
+  inner-holds l m (import_all e t) h = (whole-holds e (left (is_whole e) (is_target t) h), target-holds t (right (is_whole e) (is_target t) h))
+  inner-holds l m (from_import e ns) h = (whole-holds e (left (is_whole e) (are_names ns) h), names-hold ns (right (is_whole e) (are_names ns) h))
+  inner-holds l m (declare d) h = macro-holds d h
+  inner-holds l m (call_block e args d) h =
+      let head = left (is_whole e && takes_arguments args) (is_macro d) h in
+      let k = right (is_whole e) (takes_arguments args) head in
+      ((whole-holds e (left (is_whole e) (takes_arguments args) head), taken-hold args k, taken-few args k), macro-holds d (right (is_whole e && takes_arguments args) (is_macro d) h))
+  inner-holds l m (do_call e args) h = let k = right (is_whole e) (takes_arguments args) h in (whole-holds e (left (is_whole e) (takes_arguments args) h), taken-hold args k, taken-few args k)
+  inner-holds l m break_loop h = h
+  inner-holds l m continue_loop h = h
 
-  inners-hold : {C L : Type 0} (l : Bool) (ss : Stmts C L) → IsTrue (are_inner l ss) → AreInner l ss
-  inners-hold l done h = tt
-  inners-hold l (also s ss) h = (inner-holds l s (left (is_inner l s) (are_inner l ss) h), inners-hold l ss (right (is_inner l s) (are_inner l ss) h))
+  inners-hold : {C L : Type 0} (l m : Bool) (ss : Stmts C L) → IsTrue (are_inner l m ss) → AreInner l ss
+  inners-hold l m done h = tt
+  inners-hold l m (also s ss) h = (inner-holds l m s (left (is_inner l m s) (are_inner l m ss) h), inners-hold l m ss (right (is_inner l m s) (are_inner l m ss) h))
+
+  macro-holds : {C L : Type 0} (d : Macro C L) → IsTrue (is_macro d) → IsMacro d
+  macro-holds (macro n x args defaults ss) h =
+      let head = left (are_variables args && (are_all_whole defaults && nat_le (length defaults) (length args))) (are_inner false true ss) h in
+      let body = right (are_variables args && (are_all_whole defaults && nat_le (length defaults) (length args))) (are_inner false true ss) h in
+      let k = right (are_variables args) (are_all_whole defaults && nat_le (length defaults) (length args)) head in (
+        variables-hold args (left (are_variables args) (are_all_whole defaults && nat_le (length defaults) (length args)) head),
+        all-whole-hold defaults (left (are_all_whole defaults) (nat_le (length defaults) (length args)) k),
+        no-more-holds (length defaults) (length args) (right (are_all_whole defaults) (nat_le (length defaults) (length args)) k),
+        inners-hold false true ss body,
+        ap names_of_blocks (inners-free false ss body),
+      )
+
+-- where the first holds there is none of these
+abbrev NoneIf : {X : Type 0} → Bool → List X → Type 0
+NoneIf true xs = xs ≡ []
+NoneIf false xs = Unit {0}
+
+if-left : {X : Type 0} (m : Bool) (xs ys : List X) → NoneIf m (xs ++ ys) → NoneIf m xs
+if-left true xs ys h = none-left xs ys h
+if-left false xs ys h = tt
+
+if-right : {X : Type 0} (m : Bool) (xs ys : List X) → NoneIf m (xs ++ ys) → NoneIf m ys
+if-right true xs ys h = none-right xs ys h
+if-right false xs ys h = tt
 
 mutual
-  inner-tests : {C L : Type 0} (l : Bool) (s : Stmt C L) → IsInner l s → IsTrue (is_inner l s)
-  inner-tests l (template ss) h = absurd h
-  inner-tests l (data_text t) h = refl
-  inner-tests l (output e) h = whole-tests e h
-  inner-tests l (assignment e v) h = both (is_target e) _ (target-tests e h.0) (whole-tests v h.1)
-  inner-tests l (for_loop n t e only again ss other) h =
+  inner-tests : {C L : Type 0} (l m : Bool) (s : Stmt C L) → IsInner l s → NoneIf m (blocks s) → IsTrue (is_inner l m s)
+  inner-tests l m (template ss) h k = absurd h
+  inner-tests l m (data_text t) h k = refl
+  inner-tests l m (output e) h k = whole-tests e h
+  inner-tests l m (assignment e v) h k = both (is_target e) _ (target-tests e h.0) (whole-tests v h.1)
+  inner-tests l m (for_loop n t e only again ss other) h k =
       both (is_target t && (is_whole e && is_whole_if_any only)) _
       (both (is_target t) _ (target-tests t h.0) (both (is_whole e) _ (whole-tests e h.1) (any-tests only h.2)))
-      (both (are_inner true ss) _ (inners-test true ss h.3) (inners-test l other h.4))
-  inner-tests l (if_cond e ss other) h = both (is_whole e) _ (whole-tests e h.0) (both (are_inner l ss) _ (inners-test l ss h.1) (inners-test l other h.2))
-  inner-tests l (with_block xs ss) h = both (are_assignments xs) _ (assignments-test xs h.0) (inners-test l ss h.1)
-  inner-tests l (set_block t e ss) h = both (is_target t && is_chain_if_any e) _ (both (is_target t) _ (target-tests t h.0) (any-filters-test e h.1)) (inners-test l ss h.2)
-  inner-tests l (auto_escape e ss) h = both (is_whole e) _ (whole-tests e h.0) (inners-test l ss h.1)
-  inner-tests l (filter_block e ss) h = both (is_chain_of_filters e) _ (filters-test e h.0) (inners-test l ss h.1)
-  inner-tests l (do_call e args) h = both (is_whole e) _ (whole-tests e h.0) (taken-test args h.1 h.2)
-  inner-tests l break_loop h = h
-  inner-tests l continue_loop h = h
+      (both (are_inner true m ss) _ (inners-test true m ss h.3 (if-left m (all_blocks ss) (all_blocks other) k)) (inners-test l m other h.4 (if-right m (all_blocks ss) (all_blocks other) k)))
+  inner-tests l m (if_cond e ss other) h k = both (is_whole e) _ (whole-tests e h.0)
+      (both (are_inner l m ss) _ (inners-test l m ss h.1 (if-left m (all_blocks ss) (all_blocks other) k)) (inners-test l m other h.2 (if-right m (all_blocks ss) (all_blocks other) k)))
+  inner-tests l m (with_block xs ss) h k = both (are_assignments xs) _ (assignments-test xs h.0) (inners-test l m ss h.1 k)
+  inner-tests l m (set_block t e ss) h k = both (is_target t && is_chain_if_any e) _ (both (is_target t) _ (target-tests t h.0) (any-filters-test e h.1)) (inners-test l m ss h.2 k)
+  inner-tests l m (auto_escape e ss) h k = both (is_whole e) _ (whole-tests e h.0) (inners-test l m ss h.1 k)
+  inner-tests l m (filter_block e ss) h k = both (is_chain_of_filters e) _ (filters-test e h.0) (inners-test l m ss h.1 k)
+  inner-tests l true (named_block x required ss) h k = cc
+  inner-tests l false (named_block x required ss) h k = inners-test false false ss h tt
+  inner-tests l m (extends e) h k = whole-tests e h
+  inner-tests l m (include e ignore) h k = whole-tests e h
+  inner-tests l m (import_all e t) h k = both (is_whole e) _ (whole-tests e h.0) (target-tests t h.1)
+  inner-tests l m (from_import e ns) h k = both (is_whole e) _ (whole-tests e h.0) (names-test ns h.1)
+  inner-tests l m (declare d) h k = macro-tests d h
+  inner-tests l m (call_block e args d) h k = both (is_whole e && takes_arguments args) _ (both (is_whole e) _ (whole-tests e h.0.0) (taken-test args h.0.1 h.0.2)) (macro-tests d h.1)
+  inner-tests l m (do_call e args) h k = both (is_whole e) _ (whole-tests e h.0) (taken-test args h.1 h.2)
+  inner-tests l m break_loop h k = h
+  inner-tests l m continue_loop h k = h
 
-  inners-test : {C L : Type 0} (l : Bool) (ss : Stmts C L) → AreInner l ss → IsTrue (are_inner l ss)
-  inners-test l done h = refl
-  inners-test l (also s ss) h = both (is_inner l s) _ (inner-tests l s h.0) (inners-test l ss h.1)
+  inners-test : {C L : Type 0} (l m : Bool) (ss : Stmts C L) → AreInner l ss → NoneIf m (all_blocks ss) → IsTrue (are_inner l m ss)
+  inners-test l m done h k = refl
+  inners-test l m (also s ss) h k = both (is_inner l m s) _ (inner-tests l m s h.0 (if-left m (blocks s) (all_blocks ss) k)) (inners-test l m ss h.1 (if-right m (blocks s) (all_blocks ss) k))
 
--- the test of a statement
+  macro-tests : {C L : Type 0} (d : Macro C L) → IsMacro d → IsTrue (is_macro d)
+  macro-tests (macro n x args defaults ss) h = both (are_variables args && (are_all_whole defaults && nat_le (length defaults) (length args))) _
+      (both (are_variables args) _ (variables-test args h.0) (both (are_all_whole defaults) _ (all-whole-test defaults h.1) (no-more-tests (length defaults) (length args) h.2)))
+      (inners-test false true ss h.3 (no-names (all_blocks ss) h.4))
+
+-- ---- names that differ
+
+none-among : (x : Text) (xs : List Text) → IsTrue (not (list_any (bytes_eq x) xs)) → AllByRecursion (λ y. bytes_eq x y ≡ false) xs
+none-among x [] h = tt
+none-among x (y ∷ ys) h = go (bytes_eq x y) refl h (none-among x ys)
+  where
+    go : (b : Bool) → bytes_eq x y ≡ b → IsTrue (not (b || list_any (bytes_eq x) ys)) → (IsTrue (not (list_any (bytes_eq x) ys)) → AllByRecursion (λ z. bytes_eq x z ≡ false) ys) → AllByRecursion (λ z. bytes_eq x z ≡ false) (y ∷ ys)
+    go true i k further = cc
+    go false i k further = (i, further k)
+
+among-none : (x : Text) (xs : List Text) → AllByRecursion (λ y. bytes_eq x y ≡ false) xs → IsTrue (not (list_any (bytes_eq x) xs))
+among-none x [] h = refl
+among-none x (y ∷ ys) h = rw h.0 (among-none x ys h.1)
+
+differ : (xs : List Text) → IsTrue (are_distinct xs) → IsDistinct bytes_eq xs
+unfolding IsDistinct
+differ [] h = tt
+differ (x ∷ xs) h = IsDistinct-cons bytes_eq x xs (none-among x xs (left (not (list_any (bytes_eq x) xs)) (are_distinct xs) h)) (differ xs (right (not (list_any (bytes_eq x) xs)) (are_distinct xs) h))
+
+differing : (xs : List Text) → IsDistinct bytes_eq xs → IsTrue (are_distinct xs)
+differing [] h = refl
+differing (x ∷ xs) h = both (not (list_any (bytes_eq x) xs)) _ (among-none x xs (IsDistinct-head bytes_eq x xs h)) (differing xs (IsDistinct-tail bytes_eq x xs h))
+
+distinct-hold : (xs : List Text) → IsTrue (are_distinct xs) → AreDistinct xs
+distinct-hold xs h = AllPairs-from_IsDistinct bytes_eq-Decides xs (differ xs h)
+
+distinct-test : (xs : List Text) → AreDistinct xs → IsTrue (are_distinct xs)
+distinct-test xs h = differing xs (IsDistinct-from_AllPairs bytes_eq-Decides xs h)
+
+-- ---- the test of a statement
+
+root-holds : {C L : Type 0} (s : Stmt C L) → IsTrue (is_root s) → IsRoot s
+root-holds (template ss) h = inners-hold false false ss h
+root-holds s h = inner-holds false false s h
+
+root-tests : {C L : Type 0} (s : Stmt C L) → IsRoot s → IsTrue (is_root s)
+root-tests (template ss) h = inners-test false false ss h tt
+root-tests s h = inner-tests false false s h tt
+
 formed-holds : {C L : Type 0} (s : Stmt C L) → IsTrue (is_well_formed s) → IsWellFormed s
-formed-holds (template ss) h = inners-hold false ss h
-formed-holds s h = inner-holds false s h
+formed-holds s h = (root-holds s (left (is_root s) (are_distinct (block_names s)) h), distinct-hold (block_names s) (right (is_root s) (are_distinct (block_names s)) h))
 
 formed-tests : {C L : Type 0} (s : Stmt C L) → IsWellFormed s → IsTrue (is_well_formed s)
-formed-tests (template ss) h = inners-test false ss h
-formed-tests s h = inner-tests false s h
+formed-tests s h = both (is_root s) _ (root-tests s h.0) (distinct-test (block_names s) h.1)
 
 pub formed-decided : {C L : Type 0} (s : Stmt C L) (b : Bool) → b ≡ is_well_formed s → IsTrue b ↔ IsWellFormed s
 formed-decided s b h = subst (λ b. IsTrue b ↔ IsWellFormed s) (sym h) (formed-holds s, formed-tests s)

@@ -1,56 +1,9 @@
 -- Trees without spans, over what values hold.
-use Rattle.std.specs.Prelude.{Bool, true, false, List, [], ◌∷◌}
+pub use Rattle.minijinja_expressions.specs.Tree.{UnaryOp, logical_not, negation, Expr, variable, constant, slice, unary, binary, compare, if_expr, filter, test, attribute, item, call, list, tuple, map, Optional, absent, present, Exprs, no_more, more, Comparisons, compared, against, Args, no_args, pos, pos_splat, kwarg, kwarg_splat}
+use Rattle.std.specs.Prelude.{Bool, true, false, List, [], ◌∷◌, ◌++◌, reverse}
 use Rattle.minijinja_syntax.specs.Texts.{Text}
-use Rattle.minijinja_tree.specs.BinOps.{BinOp}
-use Rattle.minijinja_tree.specs.CompareOps.{CompareOp}
 
-pub data UnaryOp : Type 0 where
-  logical_not negation : UnaryOp
-
-mutual
-  pub data Expr (C : Type 0) : Type 0 where
-    variable : Text → Expr C
-    constant : C → Expr C
-    -- the base, and the start, stop and step that are there
-    slice : Expr C → Optional C → Optional C → Optional C → Expr C
-    unary : UnaryOp → Expr C → Expr C
-    binary : BinOp → Expr C → Expr C → Expr C
-    -- two comparisons or more: the first operand, and each operator with the operand after it
-    compare : Expr C → Comparisons C → Expr C
-    -- the test, the true part and the else part
-    if_expr : Expr C → Expr C → Optional C → Expr C
-    -- the operand, which is absent at the start of a chain of a set or filter block, the name and the arguments
-    filter : Optional C → Text → Args C → Expr C
-    test : Expr C → Text → Args C → Expr C
-    attribute : Expr C → Text → Expr C
-    item : Expr C → Expr C → Expr C
-    call : Expr C → Args C → Expr C
-    list : Exprs C → Expr C
-    tuple : Exprs C → Expr C
-    -- keys and values
-    map : Exprs C → Exprs C → Expr C
-
-  pub data Optional (C : Type 0) : Type 0 where
-    absent : Optional C
-    present : Expr C → Optional C
-
-  pub data Exprs (C : Type 0) : Type 0 where
-    no_more : Exprs C
-    more : Expr C → Exprs C → Exprs C
-
-  pub data Comparisons (C : Type 0) : Type 0 where
-    compared : Comparisons C
-    against : CompareOp → Expr C → Comparisons C → Comparisons C
-
-  -- the arguments of a call, as written: positional, `*`, keyword and `**` ones
-  pub data Args (C : Type 0) : Type 0 where
-    no_args : Args C
-    pos : Expr C → Args C → Args C
-    pos_splat : Expr C → Args C → Args C
-    kwarg : Text → Expr C → Args C → Args C
-    kwarg_splat : Expr C → Args C → Args C
-
--- Statements. A loop has a label of any type L, by which it is named.
+-- Statements. A loop and a macro have a label of any type L, by which they are named.
 mutual
   pub data Stmt (C L : Type 0) : Type 0 where
     template : Stmts C L → Stmt C L
@@ -71,9 +24,26 @@ mutual
     auto_escape : Expr C → Stmts C L → Stmt C L
     -- the chain of filters and the body
     filter_block : Expr C → Stmts C L → Stmt C L
+    -- the name, whether another template has to override it, and the body
+    named_block : Text → Bool → Stmts C L → Stmt C L
+    -- the name of the template whose blocks these ones override
+    extends : Expr C → Stmt C L
+    -- the name of a template, and whether a missing one is ignored
+    include : Expr C → Bool → Stmt C L
+    -- the name of a template, and the target of all that it stores
+    import_all : Expr C → Expr C → Stmt C L
+    -- the name of a template, and the names that are taken from it, each with its alias
+    from_import : Expr C → List (Expr C × Optional C) → Stmt C L
+    declare : Macro C L → Stmt C L
+    -- what is called, the arguments, and the macro that they take along
+    call_block : Expr C → Args C → Macro C L → Stmt C L
     -- what is called, and the arguments
     do_call : Expr C → Args C → Stmt C L
     break_loop continue_loop : Stmt C L
+
+  -- the label, the name, the arguments, the defaults, which are those of the last arguments, and the body
+  pub data Macro (C L : Type 0) : Type 0 where
+    macro : L → Text → List (Expr C) → List (Expr C) → Stmts C L → Macro C L
 
   pub data Stmts (C L : Type 0) : Type 0 where
     done : Stmts C L
@@ -87,3 +57,81 @@ stmts_of (s ∷ rest) = also s (stmts_of rest)
 abbrev pub are_any : {C L : Type 0} → Stmts C L → Bool
 are_any done = false
 are_any (also s rest) = true
+
+abbrev pub macro_name : {C L : Type 0} → Macro C L → Text
+macro_name (macro n x args defaults body) = x
+
+-- an argument of a macro, and its default
+pub record Parameter (C : Type 0) : Type 0 where
+  pub target : Expr C
+  pub default : Optional C
+
+-- targets, of which the first ones have these defaults
+abbrev pub defaulted : {C : Type 0} → List (Expr C) → List (Expr C) → List (Parameter C)
+defaulted [] ds = []
+defaulted (e ∷ es) [] = record { target = e; default = absent } ∷ defaulted es []
+defaulted (e ∷ es) (d ∷ ds) = record { target = e; default = present d } ∷ defaulted es ds
+
+-- the arguments of a macro, the last one first, with their defaults
+abbrev pub parameters : {C : Type 0} → (args defaults : List (Expr C)) → List (Parameter C)
+parameters args defaults = defaulted (reverse args) (reverse defaults)
+
+-- what a name that is taken from a template is stored to
+abbrev pub stored_as : {C : Type 0} → Expr C × Optional C → Expr C
+stored_as (e, absent) = e
+stored_as (e, present alias) = alias
+
+-- the names of variables
+abbrev pub variable_names : {C : Type 0} → List (Expr C) → List Text
+variable_names [] = []
+variable_names (variable x ∷ es) = x ∷ variable_names es
+variable_names (_ ∷ es) = variable_names es
+
+-- ---- the blocks of a tree
+
+pub record Block (C L : Type 0) : Type 0 where
+  pub name : Text
+  pub required : Bool
+  pub body : Stmts C L
+
+-- each before those within it
+abbrev mutual
+  pub blocks : {C L : Type 0} → Stmt C L → List (Block C L)
+  blocks (template ss) = all_blocks ss
+  blocks (data_text t) = []
+  blocks (output e) = []
+  blocks (assignment target e) = []
+  blocks (for_loop n target e only recursive body else_body) = all_blocks body ++ all_blocks else_body
+  blocks (if_cond e true_body false_body) = all_blocks true_body ++ all_blocks false_body
+  blocks (with_block assignments body) = all_blocks body
+  blocks (set_block target chain body) = all_blocks body
+  blocks (auto_escape e body) = all_blocks body
+  blocks (filter_block chain body) = all_blocks body
+  blocks (named_block x required body) = record { name = x; required = required; body = body } ∷ all_blocks body
+  blocks (extends e) = []
+  blocks (include e ignore) = []
+  blocks (import_all e target) = []
+  blocks (from_import e names) = []
+  blocks (declare m) = macro_blocks m
+  blocks (call_block e args m) = macro_blocks m
+  blocks (do_call e args) = []
+  blocks break_loop = []
+  blocks continue_loop = []
+
+  pub all_blocks : {C L : Type 0} → Stmts C L → List (Block C L)
+  all_blocks done = []
+  all_blocks (also s rest) = blocks s ++ all_blocks rest
+
+  pub macro_blocks : {C L : Type 0} → Macro C L → List (Block C L)
+  macro_blocks (macro n x args defaults body) = all_blocks body
+
+-- their names
+abbrev pub names_of_blocks : {C L : Type 0} → List (Block C L) → List Text
+names_of_blocks [] = []
+names_of_blocks (b ∷ bs) = b.name ∷ names_of_blocks bs
+
+abbrev pub block_names : {C L : Type 0} → Stmt C L → List Text
+block_names s = names_of_blocks (blocks s)
+
+abbrev pub all_block_names : {C L : Type 0} → Stmts C L → List Text
+all_block_names ss = names_of_blocks (all_blocks ss)

@@ -1,102 +1,15 @@
 -- Which trees code is made of.
-use Rattle.std.specs.Prelude.{◌≡◌, ℕ, suc, ◌≤◌, Bool, true, false, IsTrue, List, [], ◌∷◌}
-use Rattle.minijinja_tree.specs.Tree.{Expr, variable, constant, slice, unary, binary, compare, if_expr, filter, test, attribute, item, call, list, tuple, map, Optional, absent, present, Exprs, no_more, more, Comparisons, compared, against, Args, no_args, pos, pos_splat, kwarg, kwarg_splat, Stmt, template, data_text, output, assignment, for_loop, if_cond, with_block, set_block, auto_escape, filter_block, do_call, break_loop, continue_loop, Stmts, done, also}
+pub use Rattle.minijinja_expressions.specs.WellFormed.{most_arguments, expr_count, arg_count, IsChain, IsWhole, IsWholeIfAny, AreWhole, AreCompared, AreArguments, IsTarget, AreTargets, AreAssignments, IsChainOfFilters, IsChainIfAny, IsVariable, AreVariables, AreAllWhole, IsVariableIfAny, AreNames}
+use Rattle.std.specs.Prelude.{◌≡◌, ◌≢◌, ◌≤◌, Bool, true, false, IsTrue, List, [], length, AllPairs}
+use Rattle.minijinja_syntax.specs.Texts.{Text}
+use Rattle.minijinja_tree.specs.Tree.{call, Stmt, template, data_text, output, assignment, for_loop, if_cond, with_block, set_block, auto_escape, filter_block, named_block, extends, include, import_all, from_import, declare, call_block, do_call, break_loop, continue_loop, Stmts, done, also, Macro, macro, block_names, all_block_names}
 
--- how many arguments a call may have
-abbrev pub most_arguments : ℕ
-most_arguments = 2000
+-- no two of these are the same
+abbrev pub AreDistinct : List Text → Type 0
+AreDistinct xs = AllPairs (λ x y. x ≢ y) xs
 
--- how many expressions there are
-abbrev pub expr_count : {C : Type 0} → Exprs C → ℕ
-expr_count no_more = 0
-expr_count (more e es) = suc (expr_count es)
-
--- how many arguments there are
-abbrev pub arg_count : {C : Type 0} → Args C → ℕ
-arg_count no_args = 0
-arg_count (pos e args) = suc (arg_count args)
-arg_count (pos_splat e args) = suc (arg_count args)
-arg_count (kwarg x e args) = suc (arg_count args)
-arg_count (kwarg_splat e args) = suc (arg_count args)
-
--- two comparisons or more
-abbrev pub IsChain : {C : Type 0} → Comparisons C → Type 0
-IsChain compared = ⊥
-IsChain (against o e compared) = ⊥
-IsChain (against o e (against o' e' cs)) = Unit {0}
-
--- Chains have two comparisons or more, maps as many keys as values, calls at most 2000 arguments, and filters an operand.
-abbrev mutual
-  pub IsWhole : {C : Type 0} → Expr C → Type 0
-  IsWhole (variable x) = Unit {0}
-  IsWhole (constant c) = Unit {0}
-  IsWhole (slice e start stop step) = IsWhole e × IsWholeIfAny start × IsWholeIfAny stop × IsWholeIfAny step
-  IsWhole (unary o e) = IsWhole e
-  IsWhole (binary o a b) = IsWhole a × IsWhole b
-  IsWhole (compare e cs) = IsWhole e × IsChain cs × AreCompared cs
-  IsWhole (if_expr t a b) = IsWhole t × IsWhole a × IsWholeIfAny b
-  IsWhole (filter absent x args) = ⊥
-  IsWhole (filter (present e) x args) = IsWhole e × AreArguments args × (arg_count args ≤ most_arguments)
-  IsWhole (test e x args) = IsWhole e × AreArguments args × (arg_count args ≤ most_arguments)
-  IsWhole (attribute e x) = IsWhole e
-  IsWhole (item e k) = IsWhole e × IsWhole k
-  IsWhole (call e args) = IsWhole e × AreArguments args × (arg_count args ≤ most_arguments)
-  IsWhole (list es) = AreWhole es
-  IsWhole (tuple es) = AreWhole es
-  IsWhole (map ks vs) = AreWhole ks × AreWhole vs × (expr_count ks ≡ expr_count vs)
-
-  -- an expression that may be absent
-  pub IsWholeIfAny : {C : Type 0} → Optional C → Type 0
-  IsWholeIfAny absent = Unit {0}
-  IsWholeIfAny (present e) = IsWhole e
-
-  -- each of these expressions
-  pub AreWhole : {C : Type 0} → Exprs C → Type 0
-  AreWhole no_more = Unit {0}
-  AreWhole (more e es) = IsWhole e × AreWhole es
-
-  -- each operand of these comparisons
-  pub AreCompared : {C : Type 0} → Comparisons C → Type 0
-  AreCompared compared = Unit {0}
-  AreCompared (against o e cs) = IsWhole e × AreCompared cs
-
-  -- the value of each argument
-  pub AreArguments : {C : Type 0} → Args C → Type 0
-  AreArguments no_args = Unit {0}
-  AreArguments (pos e args) = IsWhole e × AreArguments args
-  AreArguments (pos_splat e args) = IsWhole e × AreArguments args
-  AreArguments (kwarg x e args) = IsWhole e × AreArguments args
-  AreArguments (kwarg_splat e args) = IsWhole e × AreArguments args
-
--- names, attributes and lists of targets may be assigned to
-abbrev mutual
-  pub IsTarget : {C : Type 0} → Expr C → Type 0
-  IsTarget (variable x) = Unit {0}
-  IsTarget (attribute e x) = IsWhole e
-  IsTarget (list es) = AreTargets es
-  IsTarget _ = ⊥
-
-  pub AreTargets : {C : Type 0} → Exprs C → Type 0
-  AreTargets no_more = Unit {0}
-  AreTargets (more e es) = IsTarget e × AreTargets es
-
--- targets with their values
-abbrev pub AreAssignments : {C : Type 0} → List (Expr C × Expr C) → Type 0
-AreAssignments [] = Unit {0}
-AreAssignments (a ∷ rest) = IsTarget a.0 × IsWhole a.1 × AreAssignments rest
-
--- filters alone, of which the innermost has no operand
-abbrev pub IsChainOfFilters : {C : Type 0} → Expr C → Type 0
-IsChainOfFilters (filter absent x args) = AreArguments args × (arg_count args ≤ most_arguments)
-IsChainOfFilters (filter (present e) x args) = IsChainOfFilters e × AreArguments args × (arg_count args ≤ most_arguments)
-IsChainOfFilters _ = ⊥
-
--- a chain that may be absent
-abbrev pub IsChainIfAny : {C : Type 0} → Optional C → Type 0
-IsChainIfAny absent = Unit {0}
-IsChainIfAny (present e) = IsChainOfFilters e
-
--- A whole template stands only at the root. Loops are left only in a loop's body, to which its else body does not belong.
+-- A whole template stands only at the root. Loops are left only in a loop's body, to which its else body does not belong, nor does
+-- a block or a macro within it. No block stands in a macro.
 abbrev mutual
   pub IsInner : {C L : Type 0} → (in_loop : Bool) → Stmt C L → Type 0
   IsInner l (template ss) = ⊥
@@ -109,6 +22,13 @@ abbrev mutual
   IsInner l (set_block target chain body) = IsTarget target × IsChainIfAny chain × AreInner l body
   IsInner l (auto_escape e body) = IsWhole e × AreInner l body
   IsInner l (filter_block chain body) = IsChainOfFilters chain × AreInner l body
+  IsInner l (named_block x required body) = AreInner false body
+  IsInner l (extends e) = IsWhole e
+  IsInner l (include e ignore) = IsWhole e
+  IsInner l (import_all e target) = IsWhole e × IsTarget target
+  IsInner l (from_import e names) = IsWhole e × AreNames names
+  IsInner l (declare m) = IsMacro m
+  IsInner l (call_block e args m) = IsWhole (call e args) × IsMacro m
   IsInner l (do_call e args) = IsWhole (call e args)
   IsInner l break_loop = IsTrue l
   IsInner l continue_loop = IsTrue l
@@ -118,7 +38,15 @@ abbrev mutual
   AreInner l done = Unit {0}
   AreInner l (also s rest) = IsInner l s × AreInner l rest
 
+  -- the arguments are variables, and not fewer than the defaults
+  pub IsMacro : {C L : Type 0} → Macro C L → Type 0
+  IsMacro (macro n x args defaults body) = AreVariables args × AreAllWhole defaults × (length defaults ≤ length args) × AreInner false body × (all_block_names body ≡ [])
+
 -- a template, or a statement that stands in one
+abbrev pub IsRoot : {C L : Type 0} → Stmt C L → Type 0
+IsRoot (template ss) = AreInner false ss
+IsRoot s = IsInner false s
+
+-- of which no two blocks have one name
 abbrev pub IsWellFormed : {C L : Type 0} → Stmt C L → Type 0
-IsWellFormed (template ss) = AreInner false ss
-IsWellFormed s = IsInner false s
+IsWellFormed s = IsRoot s × AreDistinct (block_names s)

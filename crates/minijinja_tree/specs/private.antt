@@ -1,7 +1,9 @@
 -- What specifies private functions alone, and need not be believed.
 pub mod Sizes
-pub mod Lists
 pub mod WellFormedTests
-pub mod TargetRests
-pub mod FilterParts
-pub mod FoldingSteps
+pub mod Bodies
+pub mod BlockNames
+pub mod FoundNames
+pub mod Mentions
+pub mod Ways
+pub mod TargetRows

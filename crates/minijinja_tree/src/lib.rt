@@ -2,6 +2,9 @@
 #![tactic(auto)]
 
 pub mod ast;
-pub mod constants;
-pub mod fold;
+mod distinct;
+pub mod meta;
+pub mod nodes;
 mod well_formed;
+
+pub use minijinja_expressions::{constants, fold};

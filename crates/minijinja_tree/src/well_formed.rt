@@ -1,35 +1,26 @@
 //! Which trees code is made of.
-ghost use Rattle.std.specs.Prelude.{◌≡◌, ◌==◌, ◌↔◌, ◌<◌, ◌≤◌, ◌&&◌, IfSome, IsTrue, map, nat_le, option_map, true};
-ghost use Rattle.minijinja_tree.specs.Erasure.{expr_tree, optional_of, exprs_of, arg_tree, args_of, comparisons_of, assignments_of, stmt_tree};
-ghost use Rattle.minijinja_tree.specs.Tree as tree;
+ghost use Rattle.std.specs.Prelude.{◌≡◌, ◌↔◌, ◌<◌, ◌&&◌, IfSome, IsTrue, map, option_map, true};
+ghost use Rattle.minijinja_tree.specs.Erasure.{expr_tree, optional_of, macro_tree, stmt_tree};
 ghost use Rattle.minijinja_tree.specs.Tree.{stmts_of};
-ghost use Rattle.minijinja_tree.specs.WellFormed.{IsWhole, IsWellFormed, most_arguments, arg_count, expr_count};
-ghost use Rattle.minijinja_tree.specs.private.Sizes.{size_of, list_size, stmt_size};
-ghost use Rattle.minijinja_tree.specs.private.FilterParts.{filter_tree, only_filter};
-ghost use Rattle.minijinja_tree.specs.private.TargetRests.{rest_decides, rest_size, are_targets_if_some};
+ghost use Rattle.minijinja_tree.specs.WellFormed.{IsWellFormed};
+ghost use Rattle.minijinja_tree.specs.private.Sizes.{stmt_size};
 ghost use Rattle.minijinja_tree.specs.private.WellFormedTests as tests;
 ghost use Rattle.minijinja_tree.specs.private.WellFormedTests.{only_item};
 
-use crate::ast::{
-    Call, CallArg, CompareOp, Expr, Filter, ForLoop, IfCond, IfExpr, List, MOST_ARGUMENTS, Map,
-    Slice, Stmt,
-};
+use crate::ast::{ForLoop, IfCond, Macro, Stmt};
+use crate::distinct::has_distinct_blocks;
 use minijinja_base::value::TemplateValue;
-
-impl<'s, V: TemplateValue> Expr<'s, V> {
-    /// Whether each chain of comparisons has two operators or more, each map as many keys as values, each call, filter and
-    /// test at most [`MOST_ARGUMENTS`] arguments, and each filter an operand.
-    pub fn is_well_formed(&self) -> bool
-        ensures { IsTrue result ↔ IsWhole (expr_tree V.contents self.now) }
-    {
-        is_whole(self)
-    }
-}
+use minijinja_expressions::well_formed::{
+    are_assignments, are_names, are_variables, have_arguments, is_call, is_chain_if_any,
+    is_chain_of_filters, is_target, is_whole, is_whole_if_any,
+};
 
 impl<'s, V: TemplateValue> Stmt<'s, V> {
     /// Whether no template stands within it, its targets are variables, attributes or lists of targets, `break` and `continue`
     /// stand only in a loop's body, the filter of a set or filter block is a chain of filters whose innermost has no operand,
-    /// and its other expressions are well formed.
+    /// the arguments of macros are variables and not fewer than the defaults, names that are taken from a template and their
+    /// aliases are variables, no block stands in a macro, no two blocks have one name, and its other expressions are well
+    /// formed. It looks for each block's name among the blocks after it, without memory.
     pub fn is_well_formed(&self) -> bool
         ensures { IsTrue result ↔ IsWellFormed (stmt_tree V.contents self.now) }
     {
@@ -40,18 +31,24 @@ impl<'s, V: TemplateValue> Stmt<'s, V> {
 fn is_formed<V: TemplateValue>(stmt: &Stmt<'_, V>) -> bool
     ensures { result ≡ tests.is_well_formed (stmt_tree V.contents stmt.now) }
 {
+    is_root(stmt) && has_distinct_blocks(stmt)
+}
+
+fn is_root<V: TemplateValue>(stmt: &Stmt<'_, V>) -> bool
+    ensures { result ≡ tests.is_root (stmt_tree V.contents stmt.now) }
+{
     match stmt {
-        Stmt::Template(template) => are_inner(&template.node().children, false),
-        _ => is_inner(stmt, false),
+        Stmt::Template(template) => are_inner(&template.node().children, false, false),
+        _ => is_inner(stmt, false, false),
     }
 }
 
 #[cycle(inner)]
-fn are_inner<V: TemplateValue>(stmts: &[Stmt<'_, V>], in_loop: bool) -> bool
-    ensures { result ≡ tests.are_inner in_loop (stmts_of (map (stmt_tree V.contents) stmts.now)) }
+fn are_inner<V: TemplateValue>(stmts: &[Stmt<'_, V>], in_loop: bool, in_macro: bool) -> bool
+    ensures { result ≡ tests.are_inner in_loop in_macro (stmts_of (map (stmt_tree V.contents) stmts.now)) }
 {
     for stmt in stmts {
-        if !is_inner(stmt, in_loop) {
+        if !is_inner(stmt, in_loop, in_macro) {
             return false;
         }
     }
@@ -60,12 +57,12 @@ fn are_inner<V: TemplateValue>(stmts: &[Stmt<'_, V>], in_loop: bool) -> bool
 
 /// Goes down false bodies in a loop, so that a row of `elif` takes no more stack than one of them.
 #[cycle(inner)]
-fn is_inner<V: TemplateValue>(stmt: &Stmt<'_, V>, in_loop: bool) -> bool
-    ensures { result ≡ tests.is_inner in_loop (stmt_tree V.contents stmt.now) }
+fn is_inner<V: TemplateValue>(stmt: &Stmt<'_, V>, in_loop: bool, in_macro: bool) -> bool
+    ensures { result ≡ tests.is_inner in_loop in_macro (stmt_tree V.contents stmt.now) }
 {
     let mut rest = Some(stmt);
     while let Some(part) = rest {
-        if !is_inner_beside(part, in_loop) {
+        if !is_inner_beside(part, in_loop, in_macro) {
             return false;
         }
         rest = otherwise(part);
@@ -74,7 +71,7 @@ fn is_inner<V: TemplateValue>(stmt: &Stmt<'_, V>, in_loop: bool) -> bool
 }
 
 /// The only statement of a false body: rows of `elif` nest in it without a bound.
-fn otherwise<'a, 's, V: TemplateValue>(stmt: &'a Stmt<'s, V>) -> Option<&'a Stmt<'s, V>>
+pub(crate) fn otherwise<'a, 's, V: TemplateValue>(stmt: &'a Stmt<'s, V>) -> Option<&'a Stmt<'s, V>>
     ensures part { option_map (λ s. stmt_tree V.contents s.now) result ≡ tests.otherwise
         (stmt_tree V.contents stmt.now) }
     ensures smaller { IfSome result (λ s. stmt_size s.now < stmt_size stmt.now) }
@@ -86,7 +83,7 @@ fn otherwise<'a, 's, V: TemplateValue>(stmt: &'a Stmt<'s, V>) -> Option<&'a Stmt
 }
 
 /// The statement, if there is one alone.
-fn only<'a, 's, V: TemplateValue>(stmts: &'a [Stmt<'s, V>]) -> Option<&'a Stmt<'s, V>>
+pub(crate) fn only<'a, 's, V: TemplateValue>(stmts: &'a [Stmt<'s, V>]) -> Option<&'a Stmt<'s, V>>
     ensures { option_map (λ s. s.now) result ≡ only_item stmts.now }
 {
     match stmts {
@@ -97,65 +94,80 @@ fn only<'a, 's, V: TemplateValue>(stmts: &'a [Stmt<'s, V>]) -> Option<&'a Stmt<'
 
 /// Whether all but that statement is well formed.
 #[cycle(inner)]
-fn is_inner_beside<V: TemplateValue>(stmt: &Stmt<'_, V>, in_loop: bool) -> bool
-    ensures { result ≡ (tests.is_headed in_loop (stmt_tree V.contents stmt.now)
-        && tests.has_bodies in_loop (stmt_tree V.contents stmt.now)) }
+fn is_inner_beside<V: TemplateValue>(stmt: &Stmt<'_, V>, in_loop: bool, in_macro: bool) -> bool
+    ensures { result ≡ (tests.is_headed in_loop in_macro (stmt_tree V.contents stmt.now)
+        && tests.has_bodies in_loop in_macro (stmt_tree V.contents stmt.now)) }
 {
-    is_headed(stmt, in_loop) && has_bodies(stmt, in_loop)
+    is_headed(stmt, in_loop, in_macro) && has_bodies(stmt, in_loop, in_macro)
 }
 
 /// Whether the bodies are well formed, but for the only statement of a false body.
 #[cycle(inner)]
-fn has_bodies<V: TemplateValue>(stmt: &Stmt<'_, V>, in_loop: bool) -> bool
-    ensures { result ≡ tests.has_bodies in_loop (stmt_tree V.contents stmt.now) }
+fn has_bodies<V: TemplateValue>(stmt: &Stmt<'_, V>, in_loop: bool, in_macro: bool) -> bool
+    ensures { result ≡ tests.has_bodies in_loop in_macro (stmt_tree V.contents stmt.now) }
 {
     match stmt {
-        Stmt::ForLoop(repeated) => has_loop_bodies(repeated.node(), in_loop),
-        Stmt::IfCond(condition) => has_branches(condition.node(), in_loop),
-        Stmt::WithBlock(block) => are_inner(&block.node().body, in_loop),
-        Stmt::SetBlock(block) => are_inner(&block.node().body, in_loop),
-        Stmt::AutoEscape(block) => are_inner(&block.node().body, in_loop),
-        Stmt::FilterBlock(block) => are_inner(&block.node().body, in_loop),
+        Stmt::ForLoop(repeated) => has_loop_bodies(repeated.node(), in_loop, in_macro),
+        Stmt::IfCond(condition) => has_branches(condition.node(), in_loop, in_macro),
+        Stmt::WithBlock(block) => are_inner(&block.node().body, in_loop, in_macro),
+        Stmt::SetBlock(block) => are_inner(&block.node().body, in_loop, in_macro),
+        Stmt::AutoEscape(block) => are_inner(&block.node().body, in_loop, in_macro),
+        Stmt::FilterBlock(block) => are_inner(&block.node().body, in_loop, in_macro),
+        Stmt::Block(block) => are_inner(&block.node().body, false, in_macro),
+        Stmt::Macro(declared) => has_macro_body(declared.node()),
+        Stmt::CallBlock(block) => has_macro_body(block.node().macro_decl.node()),
         _ => true,
     }
 }
 
+#[cycle(inner)]
+fn has_macro_body<V: TemplateValue>(declared: &Macro<'_, V>) -> bool
+    ensures { result ≡ tests.has_macro_body (macro_tree V.contents declared.now) }
+{
+    are_inner(&declared.body, false, true)
+}
+
 /// A loop's else body does not belong to it.
 #[cycle(inner)]
-fn has_loop_bodies<V: TemplateValue>(repeated: &ForLoop<'_, V>, in_loop: bool) -> bool
+fn has_loop_bodies<V: TemplateValue>(
+    repeated: &ForLoop<'_, V>,
+    in_loop: bool,
+    in_macro: bool,
+) -> bool
     ensures { result ≡
-        (tests.are_inner true (stmts_of (map (stmt_tree V.contents) repeated.now.body.items))
-        && tests.are_inner in_loop
+        (tests.are_inner true in_macro (stmts_of (map (stmt_tree V.contents) repeated.now.body.items))
+        && tests.are_inner in_loop in_macro
         (stmts_of (map (stmt_tree V.contents) repeated.now.else_body.items))) }
 {
-    are_inner(&repeated.body, true) && are_inner(&repeated.else_body, in_loop)
+    are_inner(&repeated.body, true, in_macro) && are_inner(&repeated.else_body, in_loop, in_macro)
 }
 
 #[cycle(inner)]
-fn has_branches<V: TemplateValue>(condition: &IfCond<'_, V>, in_loop: bool) -> bool
+fn has_branches<V: TemplateValue>(condition: &IfCond<'_, V>, in_loop: bool, in_macro: bool) -> bool
     ensures { result ≡
-        (tests.are_inner in_loop
+        (tests.are_inner in_loop in_macro
         (stmts_of (map (stmt_tree V.contents) condition.now.true_body.items))
-        && tests.are_inner_but_one in_loop
+        && tests.are_inner_but_one in_loop in_macro
         (stmts_of (map (stmt_tree V.contents) condition.now.false_body.items))) }
 {
-    are_inner(&condition.true_body, in_loop) && are_inner_but_one(&condition.false_body, in_loop)
+    are_inner(&condition.true_body, in_loop, in_macro)
+        && are_inner_but_one(&condition.false_body, in_loop, in_macro)
 }
 
 #[cycle(inner)]
-fn are_inner_but_one<V: TemplateValue>(stmts: &[Stmt<'_, V>], in_loop: bool) -> bool
-    ensures { result ≡ tests.are_inner_but_one in_loop
+fn are_inner_but_one<V: TemplateValue>(stmts: &[Stmt<'_, V>], in_loop: bool, in_macro: bool) -> bool
+    ensures { result ≡ tests.are_inner_but_one in_loop in_macro
         (stmts_of (map (stmt_tree V.contents) stmts.now)) }
 {
     match only(stmts) {
         Some(_) => true,
-        None => are_inner(stmts, in_loop),
+        None => are_inner(stmts, in_loop, in_macro),
     }
 }
 
 /// Whether a statement is well formed but for its bodies.
-fn is_headed<V: TemplateValue>(stmt: &Stmt<'_, V>, in_loop: bool) -> bool
-    ensures { result ≡ tests.is_headed in_loop (stmt_tree V.contents stmt.now) }
+fn is_headed<V: TemplateValue>(stmt: &Stmt<'_, V>, in_loop: bool, in_macro: bool) -> bool
+    ensures { result ≡ tests.is_headed in_loop in_macro (stmt_tree V.contents stmt.now) }
 {
     match stmt {
         Stmt::Template(_) => false,
@@ -174,10 +186,33 @@ fn is_headed<V: TemplateValue>(stmt: &Stmt<'_, V>, in_loop: bool) -> bool
         }
         Stmt::AutoEscape(block) => is_whole(&block.node().enabled),
         Stmt::FilterBlock(block) => is_chain_of_filters(&block.node().filter),
+        Stmt::Block(_) => !in_macro,
+        Stmt::Extends(parent) => is_whole(&parent.node().name),
+        Stmt::Include(included) => is_whole(&included.node().name),
+        Stmt::Import(import) => {
+            let import = import.node();
+            is_whole(&import.expr) && is_target(&import.name)
+        }
+        Stmt::FromImport(import) => {
+            let import = import.node();
+            is_whole(&import.expr) && are_names(&import.names)
+        }
+        Stmt::Macro(declared) => is_macro_headed(declared.node()),
+        Stmt::CallBlock(block) => {
+            let block = block.node();
+            is_call(block.call.node()) && is_macro_headed(block.macro_decl.node())
+        }
         Stmt::Continue(_) => in_loop,
         Stmt::Break(_) => in_loop,
         Stmt::Do(statement) => is_call(statement.node().call.node()),
     }
+}
+
+/// Whether the arguments of a macro are variables, its defaults well formed, and no more than the arguments.
+fn is_macro_headed<V: TemplateValue>(declared: &Macro<'_, V>) -> bool
+    ensures { result ≡ tests.is_macro_headed (macro_tree V.contents declared.now) }
+{
+    are_variables(&declared.args) && have_arguments(&declared.defaults, &declared.args)
 }
 
 fn has_head<V: TemplateValue>(repeated: &ForLoop<'_, V>) -> bool
@@ -188,370 +223,4 @@ fn has_head<V: TemplateValue>(repeated: &ForLoop<'_, V>) -> bool
     is_target(&repeated.target)
         && is_whole(&repeated.iter)
         && is_whole_if_any(&repeated.filter_expr)
-}
-
-fn is_call<V: TemplateValue>(call: &Call<'_, V>) -> bool
-    ensures { result ≡ (tests.is_whole (expr_tree V.contents call.now.expr)
-        && tests.takes_arguments (args_of V.contents call.now.args.items)) }
-{
-    is_whole(&call.expr) && are_arguments(&call.args)
-}
-
-fn are_assignments<V: TemplateValue>(assignments: &[(Expr<'_, V>, Expr<'_, V>)]) -> bool
-    ensures { result ≡ tests.are_assignments (assignments_of V.contents assignments.now) }
-{
-    for (target, value) in assignments {
-        if !(is_target(target) && is_whole(value)) {
-            return false;
-        }
-    }
-    true
-}
-
-fn is_target<V: TemplateValue>(expr: &Expr<'_, V>) -> bool
-    ensures { result ≡ tests.is_target (expr_tree V.contents expr.now) }
-{
-    match list_of(expr) {
-        Some(list) => are_targets(list),
-        None => is_name(expr),
-    }
-}
-
-/// The expression, if it is a list.
-fn list_of<'a, 's, V: TemplateValue>(expr: &'a Expr<'s, V>) -> Option<&'a List<'s, V>>
-    ensures items { option_map (λ l. exprs_of V.contents l.now.items.items) result ≡ tests.items_of
-        (expr_tree V.contents expr.now) }
-    ensures smaller { IfSome result (λ l. list_size l.now < size_of expr.now) }
-{
-    match expr {
-        Expr::List(list) => Some(list.node()),
-        Expr::Var(_) => None,
-        Expr::Const(_) => None,
-        Expr::Slice(_) => None,
-        Expr::UnaryOp(_) => None,
-        Expr::BinOp(_) => None,
-        Expr::Compare(_) => None,
-        Expr::IfExpr(_) => None,
-        Expr::Filter(_) => None,
-        Expr::Test(_) => None,
-        Expr::GetAttr(_) => None,
-        Expr::GetItem(_) => None,
-        Expr::Call(_) => None,
-        Expr::Tuple(_) => None,
-        Expr::Map(_) => None,
-    }
-}
-
-/// Whether it is a target that is no list.
-fn is_name<V: TemplateValue>(expr: &Expr<'_, V>) -> bool
-    ensures { result ≡ tests.is_name (expr_tree V.contents expr.now) }
-{
-    match expr {
-        Expr::Var(_) => true,
-        Expr::GetAttr(attribute) => is_whole(&attribute.node().expr),
-        _ => false,
-    }
-}
-
-/// Goes down the last list in a loop, so that lists which hold one list each take no more stack than one of them.
-#[cycle(targets)]
-fn are_targets<V: TemplateValue>(list: &List<'_, V>) -> bool
-    ensures { result ≡ tests.are_targets (exprs_of V.contents list.now.items.items) }
-{
-    let mut rest = Rest::List(list);
-    while let Rest::List(list) = rest {
-        rest = last_list(list);
-    }
-    matches!(rest, Rest::Over)
-}
-
-/// What is left to look at of the items of a list.
-#[derive(Drop)]
-enum Rest<'a, 's, V: TemplateValue> {
-    /// Nothing, since one of them is no target.
-    Refused,
-    /// Nothing, since all are targets.
-    Over,
-    /// The last list among them; the others are targets.
-    List(&'a List<'s, V>),
-}
-
-/// Looks at all items but for the last list.
-#[cycle(targets)]
-fn last_list<'a, 's, V: TemplateValue>(list: &'a List<'s, V>) -> Rest<'a, 's, V>
-    ensures decides { rest_decides V.contents result ≡ tests.are_targets
-        (exprs_of V.contents list.now.items.items) }
-    ensures smaller { rest_size result ≤ list_size list.now }
-{
-    let mut last = None;
-    for expr in &list.items {
-        let Some(items) = list_of(expr) else {
-            if !is_name(expr) {
-                return Rest::Refused;
-            }
-            continue;
-        };
-        if !are_targets_if_any(last) {
-            return Rest::Refused;
-        }
-        last = Some(items);
-    }
-    match last {
-        Some(list) => Rest::List(list),
-        None => Rest::Over,
-    }
-}
-
-#[cycle(targets)]
-fn are_targets_if_any<V: TemplateValue>(list: Option<&List<'_, V>>) -> bool
-    ensures { result ≡ are_targets_if_some V.contents list.entry }
-{
-    match list {
-        Some(list) => are_targets(list),
-        None => true,
-    }
-}
-
-fn is_chain_if_any<V: TemplateValue>(chain: &Option<Expr<'_, V>>) -> bool
-    ensures { result ≡ tests.is_chain_if_any (optional_of V.contents chain.now) }
-{
-    match chain {
-        Some(chain) => is_chain_of_filters(chain),
-        None => true,
-    }
-}
-
-/// Whether it is filters alone, of which the innermost has no operand.
-fn is_chain_of_filters<V: TemplateValue>(expr: &Expr<'_, V>) -> bool
-    ensures { result ≡ tests.is_chain_of_filters (expr_tree V.contents expr.now) }
-{
-    let mut rest = Some(expr);
-    while let Some(part) = rest {
-        let Some(filter) = filter_of(part) else {
-            return false;
-        };
-        if !are_arguments(&filter.args) {
-            return false;
-        }
-        rest = filter.expr.as_ref();
-    }
-    true
-}
-
-/// The expression, if it is a filter.
-fn filter_of<'a, 's, V: TemplateValue>(expr: &'a Expr<'s, V>) -> Option<&'a Filter<'s, V>>
-    ensures filter { option_map (λ f. filter_tree V.contents f.now) result ≡ only_filter
-        (expr_tree V.contents expr.now) }
-    ensures smaller { IfSome result
-        (λ f. IfSome f.now.expr (λ e. size_of e < size_of expr.now)) }
-{
-    match expr {
-        Expr::Filter(filter) => Some(filter.node()),
-        Expr::Var(_) => None,
-        Expr::Const(_) => None,
-        Expr::Slice(_) => None,
-        Expr::UnaryOp(_) => None,
-        Expr::BinOp(_) => None,
-        Expr::Compare(_) => None,
-        Expr::IfExpr(_) => None,
-        Expr::Test(_) => None,
-        Expr::GetAttr(_) => None,
-        Expr::GetItem(_) => None,
-        Expr::Call(_) => None,
-        Expr::List(_) => None,
-        Expr::Tuple(_) => None,
-        Expr::Map(_) => None,
-    }
-}
-
-/// Goes down the long side in a loop, so that a row of operators, calls or else parts takes no more stack than one of them.
-#[cycle(well_formed)]
-fn is_whole<V: TemplateValue>(expr: &Expr<'_, V>) -> bool
-    ensures { result ≡ tests.is_whole (expr_tree V.contents expr.now) }
-{
-    let mut rest = Some(expr);
-    while let Some(part) = rest {
-        if !is_whole_beside(part) {
-            return false;
-        }
-        rest = long_side(part);
-    }
-    true
-}
-
-/// The part that rows nest in without a bound, if the expression has one: the operand on its left, or the last part of an if
-/// expression.
-fn long_side<'a, 's, V: TemplateValue>(expr: &'a Expr<'s, V>) -> Option<&'a Expr<'s, V>>
-    ensures side { option_map (λ e. expr_tree V.contents e.now) result ≡ tests.long_side
-        (expr_tree V.contents expr.now) }
-    ensures smaller { IfSome result (λ e. size_of e.now < size_of expr.now) }
-{
-    match expr {
-        Expr::Var(_) => None,
-        Expr::Const(_) => None,
-        Expr::Slice(slice) => Some(&slice.node().expr),
-        Expr::UnaryOp(operation) => Some(&operation.node().expr),
-        Expr::BinOp(operation) => Some(&operation.node().left),
-        Expr::Compare(chain) => Some(&chain.node().expr),
-        Expr::IfExpr(choice) => {
-            let choice = choice.node();
-            match &choice.false_expr {
-                Some(expr) => Some(expr),
-                None => Some(&choice.true_expr),
-            }
-        }
-        Expr::Filter(filter) => filter.node().expr.as_ref(),
-        Expr::Test(test) => Some(&test.node().expr),
-        Expr::GetAttr(attribute) => Some(&attribute.node().expr),
-        Expr::GetItem(item) => Some(&item.node().expr),
-        Expr::Call(call) => Some(&call.node().expr),
-        Expr::List(_) => None,
-        Expr::Tuple(_) => None,
-        Expr::Map(_) => None,
-    }
-}
-
-/// Whether all but the long side is whole.
-#[cycle(well_formed)]
-fn is_whole_beside<V: TemplateValue>(expr: &Expr<'_, V>) -> bool
-    ensures { result ≡ tests.is_whole_beside (expr_tree V.contents expr.now) }
-{
-    match expr {
-        Expr::Var(_) => true,
-        Expr::Const(_) => true,
-        Expr::Slice(slice) => are_bounds(slice.node()),
-        Expr::UnaryOp(_) => true,
-        Expr::BinOp(operation) => is_whole(&operation.node().right),
-        Expr::Compare(chain) => are_compared(&chain.node().ops),
-        Expr::IfExpr(choice) => is_choice(choice.node()),
-        Expr::Filter(filter) => {
-            let filter = filter.node();
-            match filter.expr {
-                Some(_) => are_arguments(&filter.args),
-                None => false,
-            }
-        }
-        Expr::Test(test) => are_arguments(&test.node().args),
-        Expr::GetAttr(_) => true,
-        Expr::GetItem(item) => is_whole(&item.node().subscript_expr),
-        Expr::Call(call) => are_arguments(&call.node().args),
-        Expr::List(list) => are_whole(&list.node().items),
-        Expr::Tuple(tuple) => are_whole(&tuple.node().items),
-        Expr::Map(map) => is_map(map.node()),
-    }
-}
-
-#[cycle(well_formed)]
-fn are_bounds<V: TemplateValue>(slice: &Slice<'_, V>) -> bool
-    ensures { result ≡ (tests.is_whole_if_any (optional_of V.contents slice.now.start)
-        && (tests.is_whole_if_any (optional_of V.contents slice.now.stop)
-        && tests.is_whole_if_any (optional_of V.contents slice.now.step))) }
-{
-    is_whole_if_any(&slice.start) && is_whole_if_any(&slice.stop) && is_whole_if_any(&slice.step)
-}
-
-#[cycle(well_formed)]
-fn is_choice<V: TemplateValue>(choice: &IfExpr<'_, V>) -> bool
-    ensures { result ≡ tests.is_whole_beside (tree.if_expr
-        (expr_tree V.contents choice.now.test_expr) (expr_tree V.contents choice.now.true_expr)
-        (optional_of V.contents choice.now.false_expr)) }
-{
-    is_whole(&choice.test_expr) && (choice.false_expr.is_none() || is_whole(&choice.true_expr))
-}
-
-#[cycle(well_formed)]
-fn is_map<V: TemplateValue>(map: &Map<'_, V>) -> bool
-    ensures { result ≡ tests.is_whole (tree.map (exprs_of V.contents map.now.keys.items)
-        (exprs_of V.contents map.now.values.items)) }
-{
-    are_as_many(&map.keys, &map.values) && are_whole(&map.keys) && are_whole(&map.values)
-}
-
-#[cycle(well_formed)]
-fn is_whole_if_any<V: TemplateValue>(expr: &Option<Expr<'_, V>>) -> bool
-    ensures { result ≡ tests.is_whole_if_any (optional_of V.contents expr.now) }
-{
-    match expr {
-        Some(expr) => is_whole(expr),
-        None => true,
-    }
-}
-
-#[cycle(well_formed)]
-fn are_whole<V: TemplateValue>(exprs: &[Expr<'_, V>]) -> bool
-    ensures { result ≡ tests.are_whole (exprs_of V.contents exprs.now) }
-{
-    for expr in exprs {
-        if !is_whole(expr) {
-            return false;
-        }
-    }
-    true
-}
-
-/// Whether there are two comparisons or more, and their operands are whole.
-#[cycle(well_formed)]
-fn are_compared<V: TemplateValue>(comparisons: &[CompareOp<'_, V>]) -> bool
-    ensures { result ≡ (tests.is_chain (comparisons_of V.contents comparisons.now)
-        && tests.are_compared (comparisons_of V.contents comparisons.now)) }
-{
-    if !has_two(comparisons) {
-        return false;
-    }
-    for comparison in comparisons {
-        if !is_whole(&comparison.expr) {
-            return false;
-        }
-    }
-    true
-}
-
-/// Whether there are not too many arguments, and they are whole.
-#[cycle(well_formed)]
-fn are_arguments<V: TemplateValue>(args: &[CallArg<'_, V>]) -> bool
-    ensures { result ≡ tests.takes_arguments (args_of V.contents args.now) }
-{
-    if !are_few(args) {
-        return false;
-    }
-    for arg in args {
-        if !is_argument(arg) {
-            return false;
-        }
-    }
-    true
-}
-
-#[cycle(well_formed)]
-fn is_argument<V: TemplateValue>(arg: &CallArg<'_, V>) -> bool
-    ensures { result ≡ tests.are_arguments (arg_tree V.contents arg.now tree.no_args) }
-{
-    match arg {
-        CallArg::Pos(expr) => is_whole(expr),
-        CallArg::Kwarg(_, expr) => is_whole(expr),
-        CallArg::PosSplat(expr) => is_whole(expr),
-        CallArg::KwargSplat(expr) => is_whole(expr),
-    }
-}
-
-/// Whether there are two comparisons or more.
-fn has_two<V: TemplateValue>(comparisons: &[CompareOp<'_, V>]) -> bool
-    ensures { result ≡ tests.is_chain (comparisons_of V.contents comparisons.now) }
-{
-    comparisons.len() >= 2
-}
-
-/// Whether there are not too many arguments.
-fn are_few<V: TemplateValue>(args: &[CallArg<'_, V>]) -> bool
-    ensures { result ≡ nat_le (arg_count (args_of V.contents args.now)) most_arguments }
-{
-    args.len() <= MOST_ARGUMENTS
-}
-
-/// Whether there are as many keys as values.
-fn are_as_many<V: TemplateValue>(keys: &[Expr<'_, V>], values: &[Expr<'_, V>]) -> bool
-    ensures { result ≡
-        (expr_count (exprs_of V.contents keys.now) == expr_count (exprs_of V.contents values.now)) }
-{
-    keys.len() == values.len()
 }

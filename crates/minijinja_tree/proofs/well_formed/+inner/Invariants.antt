@@ -18,6 +18,9 @@ decreases-has_bodies g l = 6 * goal.size-has_bodies g l + 0
 abbrev pub decreases-has_loop_bodies : goal.decreases-has_loop_bodies
 decreases-has_loop_bodies g l = 6 * goal.size-has_loop_bodies g l + 0
 
+abbrev pub decreases-has_macro_body : goal.decreases-has_macro_body
+decreases-has_macro_body g l = 6 * goal.size-has_macro_body g l + 0
+
 abbrev pub decreases-has_branches : goal.decreases-has_branches
 decreases-has_branches g l = 6 * goal.size-has_branches g l + 0
 
@@ -28,11 +31,11 @@ abbrev pub decreases-are_inner_but_one : goal.decreases-are_inner_but_one
 decreases-are_inner_but_one g l = 6 * goal.size-are_inner_but_one g l + 4
 
 abbrev pub invariant-is_inner-loop-rest : goal.invariant-is_inner-loop-rest
-invariant-is_inner-loop-rest g l = IsInnerRest g.V.TemplateValue.contents l.in_loop l.fn.stmt l.rest
+invariant-is_inner-loop-rest g l = IsInnerRest g.V.TemplateValue.contents l.in_loop l.in_macro l.fn.stmt l.rest
 
 abbrev pub decreases-is_inner-loop-rest : goal.decreases-is_inner-loop-rest
 decreases-is_inner-loop-rest g l = rest_stmt_size l.rest
 
 -- what is left decides
 abbrev pub invariant-are_inner-loop-stmt : goal.invariant-are_inner-loop-stmt
-invariant-are_inner-loop-stmt g l = let c = g.V.TemplateValue.contents in are_inner l.in_loop (body_of c l.stmts) ≡ are_inner l.in_loop (body_of c (drop l.stmt-index l.stmts))
+invariant-are_inner-loop-stmt g l = let c = g.V.TemplateValue.contents in are_inner l.in_loop l.in_macro (body_of c l.stmts) ≡ are_inner l.in_loop l.in_macro (body_of c (drop l.stmt-index l.stmts))

@@ -1,0 +1,15 @@
+pub mod SpannedNodes
+pub mod Sizes
+pub mod Lists
+pub mod FilterChains
+pub mod Targets
+pub mod Descriptions
+pub mod ConstantItems
+pub mod Chains
+pub mod FoldingSteps
+pub mod KeywordItems
+pub mod WellFormedTesting
+pub mod WellFormedCounts
+pub mod WellFormedSides
+pub mod Bare
+pub mod NodeRows
