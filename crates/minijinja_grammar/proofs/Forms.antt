@@ -1,7 +1,7 @@
 -- Reading a form gives exactly what it derives.
 use Rattle.std.proofs.Common.{◌≡◌, inl, inr, ℕ, zero, suc, ◌<◌, ◌≤◌, Bool, true, false, List, [], ◌∷◌, length, if◌then◌else◌, Option, Some, None, refl, sym, ap, ◌∙◌, subst, arith}
 use Rattle.minijinja_syntax.specs.Streams.{SpannedTok}
-use Rattle.minijinja_grammar.specs.Forms.{Place, Turn, go_on, over, Form, pure, nothing, one, source, start, last, and_then, either, many, comes, held_next, Takes, Turns, no_turn, last_turn, turn, Derives, Read, got, short, wrong, read_then, after, held_or_wrong, read_one, misfit, read_turn, if_held, read_any, read_many, reads}
+use Rattle.minijinja_grammar.specs.Forms.{Place, Turn, go_on, over, Form, pure, nothing, one, source, start, last, new_name, is_given, giving, and_then, either, many, comes, held_next, Takes, Turns, no_turn, last_turn, turn, Derives, Read, got, short, wrong, read_then, after, held_or_wrong, read_one, misfit, read_turn, if_held, read_any, read_many, reads}
 
 -- how many tokens are left
 abbrev pub left : Place → ℕ
@@ -64,6 +64,7 @@ no_longer (one held) p q x d = omega (arith, takes_shorter held p q x d)
 no_longer source p q x d = omega (arith, ap left d.0)
 no_longer start p q x d = omega (arith, ap left d.0)
 no_longer last p q x d = omega (arith, ap left d.0)
+no_longer (new_name y) p q x d = omega (arith, ap left d.1)
 no_longer (and_then f g) p q x d = omega (arith, no_longer f p d.1 d.0 d.2, no_longer (g d.0) d.1 q x d.3)
 no_longer (either begins f g) p q x (inl d) = no_longer f p q x d.1
 no_longer (either begins f g) p q x (inr d) = no_longer g p q x d.1
@@ -133,6 +134,15 @@ sound (one held) p q x e = one_sound held p q x e
 sound source p q x e = same_read _ _ _ _ e
 sound start p q x e = same_read _ _ _ _ e
 sound last p q x e = same_read _ _ _ _ e
+sound (new_name y) p q x e = go (is_given y p) refl e
+  where
+    no : (ts : List SpannedTok) → misfit p ts ≡ got x q → ⊥
+    no [] k = cc
+    no (t ∷ ts) k = cc
+
+    go : (b : Bool) → is_given y p ≡ b → (if b then misfit p p.tokens else got tt (giving y p)) ≡ got x q → Derives (new_name y) p q x
+    go true i j = absurd (no p.tokens j)
+    go false i j = (i, sym (same_read tt x (giving y p) q j).0)
 sound (and_then f g) p q x e =
     let i : (y : _) × (m : Place) × (reads f p ≡ got y m) × (reads (g y) m ≡ got x q) = read_then_got _ _ _ _ e in
     (i.0, i.1, sound f p i.1 i.0 i.2, sound (g i.0) i.1 q x i.3)
@@ -152,6 +162,7 @@ complete (one held) p q x d = one_complete held p q x d
 complete source p q x d = ap (λ y. got y p) d.1 ∙ ap (got x) d.0
 complete start p q x d = ap (λ y. got y p) d.1 ∙ ap (got x) d.0
 complete last p q x d = ap (λ y. got y p) d.1 ∙ ap (got x) d.0
+complete (new_name y) p q x d = rw (d.0, d.1) refl
 complete (and_then f g) p q x d = rw (complete f p d.1 d.0 d.2) (complete (g d.0) d.1 q x d.3)
 complete (either begins f g) p q x (inl d) = rw d.0 (complete f p q x d.1)
 complete (either begins f g) p q x (inr d) = rw d.0 (complete g p q x d.1)

@@ -10,4 +10,5 @@ pub mod Standing
 pub mod Targets
 pub mod Statements
 pub mod Templates
+pub mod Names
 pub mod Trees

@@ -4,7 +4,7 @@ use Rattle.minijinja_syntax.specs.Texts.{Text}
 use Rattle.minijinja_syntax.specs.Tokens.{Tok}
 use Rattle.minijinja_syntax.specs.declared.tokens.Span.{Span}
 use Rattle.minijinja_syntax.specs.Streams.{SpannedTok}
-use Rattle.minijinja_grammar.specs.Forms.{Place, Turn, go_on, over, Form, pure, nothing, one, source, start, last, and_then, either, many, comes, held_next, start_at, Derives, Read, got, short, wrong, read_then, after, held_or_wrong, read_one, misfit, read_turn, if_held, read_any, read_many, reads}
+use Rattle.minijinja_grammar.specs.Forms.{Place, Turn, go_on, over, Form, pure, nothing, one, source, start, last, new_name, is_given, giving, and_then, either, many, comes, held_next, start_at, Derives, Read, got, short, wrong, read_then, after, held_or_wrong, read_one, misfit, read_turn, if_held, read_any, read_many, reads}
 use Rattle.minijinja_grammar.proofs.Forms.{left, sound, no_longer}
 
 -- these tokens follow those that are left
@@ -40,6 +40,11 @@ at_end (one held) p e = rw e tt
 at_end source p e = e
 at_end start p e = e
 at_end last p e = e
+at_end (new_name x) p e = go (is_given x p) p.tokens e
+  where
+    go : (b : Bool) (ts : List SpannedTok) → ts ≡ [] → Ends (if b then misfit p ts else got (tt {0}) (giving x p))
+    go true ts k = rw k tt
+    go false ts k = e
 at_end (and_then f g) p e = ends_then (reads f p) (λ x. reads (g x)) (at_end f p e) (λ x. at_end (g x))
 at_end (either begins f g) p e = let i : comes begins p.tokens ≡ false = ap (comes begins) e in rw i (at_end g p e)
 at_end (many held t x) p e = many_ends held (λ y h. reads (t y h)) (suc (left p)) x p e
@@ -128,6 +133,12 @@ goes {A = A} ts (one held) p = ones p.tokens
 goes ts source p = λ n. refl
 goes ts start p = λ n. ap (λ s. got s (with_more ts p)) (same_start p ts n)
 goes ts last p = λ n. refl
+goes ts (new_name x) p = go (is_given x p) p.tokens
+  where
+    go : (b : Bool) (us : List SpannedTok) → Goes ts (if b then misfit p us else got (tt {0}) (giving x p)) (if b then misfit (with_more ts p) (us ++ ts) else got (tt {0}) (giving x (with_more ts p)))
+    go true [] = tt
+    go true (u ∷ us) = refl
+    go false us = λ n. refl
 goes ts (and_then f g) p = goes_then ts (λ x. reads (g x)) (λ x. goes ts (g x)) (λ x. at_end (g x)) (reads f p) (reads f (with_more ts p)) (goes ts f p)
 goes {A = A} ts (either begins f g) p = go p.tokens refl (goes ts f p) (goes ts g p)
   where

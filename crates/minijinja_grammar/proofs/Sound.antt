@@ -39,12 +39,12 @@ span_or s None = s
 span_or s (Some x) = x.1
 
 module _ (T : SpannedTok → Type 0) (S : Span → Type 0) (spans : (t : SpannedTok) → T t → S t.1)
-    (joins : (s to : Span) → S s → S to → S (expanded s to)) where
+    (joins : (s to : Span) → S s → S to → S (expanded s to)) (G : Text → Type 0) where
   -- what is made with a span
-  pub spanned : {A : Type 0} (from : Span) (make : Span → A) (P : A → Type 1) → S from → ((s : Span) → S s → P (make s)) → Ensured T S (g.spanned from make) P
+  pub spanned : {A : Type 0} (from : Span) (make : Span → A) (P : A → Type 1) → S from → ((s : Span) → S s → P (make s)) → Ensured T S G (g.spanned from make) P
   spanned from make P h k = λ to i. k (expanded from to) (joins from to h i)
 
-  pub next : (m : Tok) (P : Span → Type 1) → ((s : Span) → S s → P s) → Ensured T S (g.next m) P
+  pub next : (m : Tok) (P : Span → Type 1) → ((s : Span) → S s → P s) → Ensured T S G (g.next m) P
   next m P k = λ t x i j. k x (go t (is m t.0) x (spans t i) j)
     where
       go : (t : SpannedTok) (b : Bool) (x : Span) → S t.1 → (if b then Some t.1 else None) ≡ Some x → S x
@@ -54,14 +54,14 @@ module _ (T : SpannedTok → Type 0) (S : Span → Type 0) (spans : (t : Spanned
           some_is y x e = cc
       go t false x i j = cc
 
-  pub behind : {A : Type 0} (m : Tok) (f h : Form A) (P : A → Type 1) → Ensured T S f P → Ensured T S h P → Ensured T S (g.behind m f h) P
-  behind m f h P i j = (next m (λ s. Ensured T S f P) (λ s k. i), j)
+  pub behind : {A : Type 0} (m : Tok) (f h : Form A) (P : A → Type 1) → Ensured T S G f P → Ensured T S G h P → Ensured T S G (g.behind m f h) P
+  behind m f h P i j = (next m (λ s. Ensured T S G f P) (λ s k. i), j)
 
   pub items : {A : Type 0} (begins : Tok → Bool) (part : A → Form A) (I : A → Type 0) (P : A → Type 1) →
-      ((x : A) → I x → Ensured T S (part x) (λ y. Holds (I y))) → ((x : A) → I x → P x) → (x : A) → I x → Ensured T S (g.items begins part x) P
+      ((x : A) → I x → Ensured T S G (part x) (λ y. Holds (I y))) → ((x : A) → I x → P x) → (x : A) → I x → Ensured T S G (g.items begins part x) P
   items begins part I P k l x i = (
-    weaker T S (part x) (λ y. Holds (I y)) _
-        (λ y j. (I, j, (λ z u h m n o. (weaker T S (part z) (λ w. Holds (I w)) _ (λ w r. r) (k z m), record { it = m })), l))
+    weaker T S G (part x) (λ y. Holds (I y)) _
+        (λ y j. (I, j, (λ z u h m n o. (weaker T S G (part z) (λ w. Holds (I w)) _ (λ w r. r) (k z m), record { it = m })), l))
         (k x i),
     l x i,
   )
@@ -98,7 +98,7 @@ module _ (T : SpannedTok → Type 0) (S : Span → Type 0) (spans : (t : Spanned
   ident_span (ident y, s) x i e = subst S (ap (span_or s) e) (spans (ident y, s) i)
   ident_span _ x i e = cc
 
-  pub name : Ensured T S g.name IsName
+  pub name : Ensured T S G g.name IsName
   unfolding g.name g.name_part g.name_parts
   name = λ t x i j. (((λ _. Unit {0}), alone tt, (λ y u h k l m. λ v z n o. alone tt), (λ y k. λ z. alone tt)), alone tt)
 
@@ -115,32 +115,32 @@ module _ (T : SpannedTok → Type 0) (S : Span → Type 0) (spans : (t : Spanned
     abbrev Are : List (Expr C) → Type 1
     Are es = Holds (AreSound T S (exprs_of es))
 
-    module _ (expr : Form (Expr C)) (he : Ensured T S expr IsOne) where
-      pub exprs : (es : List (Expr C)) (P : List (Expr C) → Type 1) → AreSound T S (exprs_of es) → ((fs : List (Expr C)) → AreSound T S (exprs_of fs) → P fs) → Ensured T S (g.exprs expr es) P
+    module _ (expr : Form (Expr C)) (he : Ensured T S G expr IsOne) where
+      pub exprs : (es : List (Expr C)) (P : List (Expr C) → Type 1) → AreSound T S (exprs_of es) → ((fs : List (Expr C)) → AreSound T S (exprs_of fs) → P fs) → Ensured T S G (g.exprs expr es) P
       unfolding g.exprs g.also
       exprs es P h k = items begins_expr (g.also expr) (λ fs. AreSound T S (exprs_of fs)) P
-          (λ fs i. weaker T S expr IsOne _ (λ e j. record { it = all_append fs e i j.it }) he) k es h
+          (λ fs i. weaker T S G expr IsOne _ (λ e j. record { it = all_append fs e i j.it }) he) k es h
 
       -- a node that ends with the token
-      closed : (m : Tok) (from : Span) (make : Span → Expr C) → S from → ((s : Span) → S s → IsSound T S (make s)) → Ensured T S (g.next m >> g.spanned from make) IsOne
-      closed m from make i k = next m (λ s. Ensured T S (g.spanned from make) IsOne) (λ s j. spanned from make IsOne i (λ u l. alone (k u l)))
+      closed : (m : Tok) (from : Span) (make : Span → Expr C) → S from → ((s : Span) → S s → IsSound T S (make s)) → Ensured T S G (g.next m >> g.spanned from make) IsOne
+      closed m from make i k = next m (λ s. Ensured T S G (g.spanned from make) IsOne) (λ s j. spanned from make IsOne i (λ u l. alone (k u l)))
 
-      in_brackets : (from : Span) → S from → Ensured T S (g.in_brackets expr from) IsOne
+      in_brackets : (from : Span) → S from → Ensured T S G (g.in_brackets expr from) IsOne
       unfolding g.in_brackets
       in_brackets from i = exprs [] _ tt (λ es h. closed bracket_close from (tree.list (exprs_of es)) i (λ s l. (l, h)))
 
-      rest_of_group : (from : Span) (e : Expr C) → S from → IsSound T S e → Ensured T S (g.rest_of_group expr from e) IsOne
+      rest_of_group : (from : Span) (e : Expr C) → S from → IsSound T S e → Ensured T S G (g.rest_of_group expr from e) IsOne
       unfolding g.rest_of_group
       rest_of_group from e i h = (
         λ t u j k. exprs (e ∷ []) _ (h, tt) (λ es l. closed paren_close from (tree.tuple (exprs_of es)) i (λ s m. (m, l))),
         λ t u j k. alone h,
       )
 
-      group : (from : Span) → S from → Ensured T S (g.group expr from) IsOne
+      group : (from : Span) → S from → Ensured T S G (g.group expr from) IsOne
       unfolding g.group
       group from i = (
         λ t u j k. spanned from (tree.tuple (exprs_of [])) IsOne i (λ s l. alone (l, tt)),
-        weaker T S expr IsOne _ (λ e h. rest_of_group from e i h.it) he,
+        weaker T S G expr IsOne _ (λ e h. rest_of_group from e i h.it) he,
       )
 
       -- the keys and the values
@@ -159,11 +159,11 @@ module _ (T : SpannedTok → Type 0) (S : Span → Type 0) (spans : (t : Spanned
       pairs_append kvs k v h i j =
           (all_append kvs.0 k h.0 i, all_append kvs.1 v h.1 j, one_more kvs.0 k ∙ ap suc h.2 ∙ sym (one_more kvs.1 v))
 
-      entry : (kvs : List (Expr C) × List (Expr C)) → Pairs kvs → Ensured T S (g.entry expr kvs) (λ x. Holds (Pairs x))
+      entry : (kvs : List (Expr C) × List (Expr C)) → Pairs kvs → Ensured T S G (g.entry expr kvs) (λ x. Holds (Pairs x))
       unfolding g.entry
-      entry kvs h = weaker T S expr IsOne _ (λ k i. λ t u j l. weaker T S expr IsOne _ (λ v m. alone (pairs_append kvs k v h i.it m.it)) he) he
+      entry kvs h = weaker T S G expr IsOne _ (λ k i. λ t u j l. weaker T S G expr IsOne _ (λ v m. alone (pairs_append kvs k v h i.it m.it)) he) he
 
-      in_braces : (from : Span) → S from → Ensured T S (g.in_braces expr from) IsOne
+      in_braces : (from : Span) → S from → Ensured T S G (g.in_braces expr from) IsOne
       unfolding g.in_braces g.entries
       in_braces from i = items begins_expr (g.entry expr) Pairs _ (λ kvs h. entry kvs h)
           (λ kvs h. closed brace_close from (tree.map (exprs_of kvs.0) (exprs_of kvs.1)) i (λ s l. (l, h.0, h.1, count_is kvs.0 ∙ h.2 ∙ sym (count_is kvs.1)))) ([], []) (tt, tt, refl)
@@ -178,11 +178,11 @@ module _ (T : SpannedTok → Type 0) (S : Span → Type 0) (spans : (t : Spanned
           go false false true = i
           go false false false = j
 
-      texts : {F : Type 0} (f : Functions C F) (from : Span) (t : Text) → S from → Ensured T S (g.texts f from t) IsOne
+      texts : {F : Type 0} (f : Functions C F) (from : Span) (t : Text) → S from → Ensured T S G (g.texts f from t) IsOne
       unfolding g.texts
       texts f from t i = ((λ _. Unit {0}), alone tt, (λ y u h j k l. alone tt), (λ y j. spanned from (constant (f.of_str y)) IsOne i (λ s l. alone l)))
 
-      begun : {F : Type 0} (f : Functions C F) (t : SpannedTok) → T t → Ensured T S (g.begun expr f t) IsOne
+      begun : {F : Type 0} (f : Functions C F) (t : SpannedTok) → T t → Ensured T S G (g.begun expr f t) IsOne
       begun f (ident x, s) i = alone (word f x s (spans (ident x, s) i) i)
       begun f (str t, s) i = texts f s t (spans (str t, s) i)
       begun f (string t, s) i = texts f s t (spans (string t, s) i)
@@ -193,7 +193,7 @@ module _ (T : SpannedTok → Type 0) (S : Span → Type 0) (spans : (t : Spanned
       begun f (brace_open, s) i = in_braces s (spans (brace_open, s) i)
       begun f _ i = alone tt
 
-      primary : {F : Type 0} (f : Functions C F) → Ensured T S (g.primary expr f) IsOne
+      primary : {F : Type 0} (f : Functions C F) → Ensured T S G (g.primary expr f) IsOne
       unfolding g.primary
       primary f = λ t u i j. begun f u (of_kind_is begins_primary t u i j)
 
@@ -215,17 +215,17 @@ module _ (T : SpannedTok → Type 0) (S : Span → Type 0) (spans : (t : Spanned
       args_append (keyword y e ∷ xs) x h k = (h.0, args_append xs x h.1 k)
       args_append (double_starred e ∷ xs) x h k = (h.0, args_append xs x h.1 k)
 
-      rest_of_arg : (e : Expr C) → IsSound T S e → Ensured T S (g.rest_of_arg expr e) (λ x. Holds (IsArgSound x))
-      rest_of_arg (variable x s) h = ((λ t u i j. weaker T S expr IsOne _ (λ e k. alone k.it) he), alone h)
+      rest_of_arg : (e : Expr C) → IsSound T S e → Ensured T S G (g.rest_of_arg expr e) (λ x. Holds (IsArgSound x))
+      rest_of_arg (variable x s) h = ((λ t u i j. weaker T S G expr IsOne _ (λ e k. alone k.it) he), alone h)
       rest_of_arg e h = alone h
 
-      arg : Ensured T S (g.arg expr) (λ x. Holds (IsArgSound x))
+      arg : Ensured T S G (g.arg expr) (λ x. Holds (IsArgSound x))
       unfolding g.arg
       arg = (
-        λ t u i j. weaker T S expr IsOne _ (λ e k. alone k.it) he,
+        λ t u i j. weaker T S G expr IsOne _ (λ e k. alone k.it) he,
         (
-          λ t u i j. weaker T S expr IsOne _ (λ e k. alone k.it) he,
-          weaker T S expr IsOne _ (λ e k. rest_of_arg e k.it) he,
+          λ t u i j. weaker T S G expr IsOne _ (λ e k. alone k.it) he,
+          weaker T S G expr IsOne _ (λ e k. rest_of_arg e k.it) he,
         ),
       )
 
@@ -242,60 +242,60 @@ module _ (T : SpannedTok → Type 0) (S : Span → Type 0) (spans : (t : Spanned
       abbrev pub AreArgs : List (Arg C) → Type 0
       AreArgs xs = AreArgsSound T S (args_of xs) × (arg_count (bare_args (args_of xs)) ≤ most_arguments)
 
-      also_arg : (xs : List (Arg C)) → AreArgs xs → Ensured T S (g.also_arg expr xs) (λ ys. Holds (AreArgs ys))
+      also_arg : (xs : List (Arg C)) → AreArgs xs → Ensured T S G (g.also_arg expr xs) (λ ys. Holds (AreArgs ys))
       unfolding g.also_arg
-      also_arg xs h = weaker T S (g.arg expr) (λ x. Holds (IsArgSound x)) _ (λ x k. given (not (g.is_plain x && g.has_named xs)) (nat_lt (length xs) most_arguments) x refl k.it) arg
+      also_arg xs h = weaker T S G (g.arg expr) (λ x. Holds (IsArgSound x)) _ (λ x k. given (not (g.is_plain x && g.has_named xs)) (nat_lt (length xs) most_arguments) x refl k.it) arg
         where
-          given : (b c : Bool) (x : Arg C) → nat_lt (length xs) most_arguments ≡ c → IsArgSound x → Ensured T S (g.when (b && c) (pure (xs ++ x ∷ []))) (λ zs. Holds (AreArgs zs))
+          given : (b c : Bool) (x : Arg C) → nat_lt (length xs) most_arguments ≡ c → IsArgSound x → Ensured T S G (g.when (b && c) (pure (xs ++ x ∷ []))) (λ zs. Holds (AreArgs zs))
           given true true x i k = alone (args_append xs x h.0 k, omega (arith, ltb-true _ _ i, count_append xs x))
           given true false x i k = alone tt
           given false c x i k = alone tt
 
-      pub args : Ensured T S (g.args expr) (λ xs. Holds (AreArgs xs))
+      pub args : Ensured T S G (g.args expr) (λ xs. Holds (AreArgs xs))
       unfolding g.args g.arg_items
       args = items begins_arg (g.also_arg expr) AreArgs _ also_arg (λ xs h. λ t u i j. alone h) [] (tt, omega arith)
 
       -- ---- operands
 
-      pub chosen : {A : Type 0} (m : Tok) (f h : Form A) (P : A → Type 1) → Ensured T S f P → Ensured T S h P → Ensured T S (g.behind m f h) P
+      pub chosen : {A : Type 0} (m : Tok) (f h : Form A) (P : A → Type 1) → Ensured T S G f P → Ensured T S G h P → Ensured T S G (g.behind m f h) P
       chosen m f h P i j = ((λ t u k l. i), j)
 
       abbrev pub IsOptionSound : Option (Expr C) → Type 0
       IsOptionSound o = IsSoundIfAny T S (optional_of o)
 
-      pub maybe_expr : (P : Option (Expr C) → Type 1) → ((o : Option (Expr C)) → IsOptionSound o → P o) → Ensured T S (g.maybe_expr expr) P
-      maybe_expr P k = (weaker T S expr IsOne _ (λ e h. k (Some e) h.it) he, k None tt)
+      pub maybe_expr : (P : Option (Expr C) → Type 1) → ((o : Option (Expr C)) → IsOptionSound o → P o) → Ensured T S G (g.maybe_expr expr) P
+      maybe_expr P k = (weaker T S G expr IsOne _ (λ e h. k (Some e) h.it) he, k None tt)
 
-      step : (P : Option (Expr C) → Type 1) → ((o : Option (Expr C)) → IsOptionSound o → P o) → Ensured T S (g.step expr) P
+      step : (P : Option (Expr C) → Type 1) → ((o : Option (Expr C)) → IsOptionSound o → P o) → Ensured T S G (g.step expr) P
       step P k = ((λ t u i j. maybe_expr P k), k None tt)
 
-      range : (e : Expr C) (from : Span) (o : Option (Expr C)) → IsSound T S e → S from → IsOptionSound o → Ensured T S (g.range expr e from o) IsOne
+      range : (e : Expr C) (from : Span) (o : Option (Expr C)) → IsSound T S e → S from → IsOptionSound o → Ensured T S G (g.range expr e from o) IsOne
       unfolding g.range
       range e from o h i j = maybe_expr _ (λ stop k. step _ (λ by l. closed bracket_close from (tree.slice e (optional_of o) (optional_of stop) (optional_of by)) i (λ s m. (m, h, j, k, l))))
 
-      rest_of_subscript : (e : Expr C) (from : Span) (x : Expr C) → IsSound T S e → S from → IsSound T S x → Ensured T S (g.rest_of_subscript expr e from x) IsOne
+      rest_of_subscript : (e : Expr C) (from : Span) (x : Expr C) → IsSound T S e → S from → IsSound T S x → Ensured T S G (g.rest_of_subscript expr e from x) IsOne
       unfolding g.rest_of_subscript
       rest_of_subscript e from x h i j = chosen colon (g.range expr e from (Some x)) (g.next bracket_close >> g.spanned from (tree.item e x)) IsOne (range e from (Some x) h i j) (closed bracket_close from (tree.item e x) i (λ s m. (m, h, j)))
 
-      subscript : (e : Expr C) (from : Span) → IsSound T S e → S from → Ensured T S (g.subscript expr e from) IsOne
+      subscript : (e : Expr C) (from : Span) → IsSound T S e → S from → Ensured T S G (g.subscript expr e from) IsOne
       unfolding g.subscript
-      subscript e from h i = chosen colon (g.range expr e from None) (expr >>= g.rest_of_subscript expr e from) IsOne (range e from None h i tt) (weaker T S expr IsOne _ (λ x k. rest_of_subscript e from x h i k.it) he)
+      subscript e from h i = chosen colon (g.range expr e from None) (expr >>= g.rest_of_subscript expr e from) IsOne (range e from None h i tt) (weaker T S G expr IsOne _ (λ x k. rest_of_subscript e from x h i k.it) he)
 
       module _ {F : Type 0} (f : Functions C F) where
-        member_of : (e : Expr C) (from : Span) (t : SpannedTok) → T t → IsSound T S e → S from → Ensured T S (g.member_of expr f e from t) IsOne
+        member_of : (e : Expr C) (from : Span) (t : SpannedTok) → T t → IsSound T S e → S from → Ensured T S G (g.member_of expr f e from t) IsOne
         member_of e from (ident x, s) i h j = spanned from (tree.attribute e x) IsOne j (λ s m. alone (m, h))
         member_of e from (int n, s) i h j = spanned from (tree.item e (constant (f.of_u64 n) s)) IsOne j (λ u m. alone (m, h, spans (int n, s) i))
         member_of e from (int128 n, s) i h j = spanned from (tree.item e (constant (f.of_u128 n) s)) IsOne j (λ u m. alone (m, h, spans (int128 n, s) i))
         member_of e from _ i h j = alone tt
 
-        member : (e : Expr C) (from : Span) → IsSound T S e → S from → Ensured T S (g.member expr f e from) IsOne
+        member : (e : Expr C) (from : Span) → IsSound T S e → S from → Ensured T S G (g.member expr f e from) IsOne
         unfolding g.member
         member e from h j = λ t u i k. member_of e from u (of_kind_is (g.begins_member expr) t u i k) h j
 
-        called : (e : Expr C) (from : Span) → IsSound T S e → S from → Ensured T S (g.args expr >>= (λ xs. g.spanned from (tree.call e (args_of xs)))) IsOne
-        called e from h i = weaker T S (g.args expr) (λ xs. Holds (AreArgs xs)) _ (λ xs k. spanned from (tree.call e (args_of xs)) IsOne i (λ s m. alone (m, h, k.it.0, k.it.1))) args
+        called : (e : Expr C) (from : Span) → IsSound T S e → S from → Ensured T S G (g.args expr >>= (λ xs. g.spanned from (tree.call e (args_of xs)))) IsOne
+        called e from h i = weaker T S G (g.args expr) (λ xs. Holds (AreArgs xs)) _ (λ xs k. spanned from (tree.call e (args_of xs)) IsOne i (λ s m. alone (m, h, k.it.0, k.it.1))) args
 
-        postfix : (e : Expr C) (from : Span) (t : Tok) → IsSound T S e → S from → Ensured T S (g.postfix expr f e from t) IsOne
+        postfix : (e : Expr C) (from : Span) (t : Tok) → IsSound T S e → S from → Ensured T S G (g.postfix expr f e from t) IsOne
         postfix e from dot h i = member e from h i
         postfix e from bracket_open h i = subscript e from h i
         postfix e from _ h i = called e from h i
@@ -306,78 +306,78 @@ module _ (T : SpannedTok → Type 0) (S : Span → Type 0) (spans : (t : Spanned
       wrapped o to [] e i h k = k
       wrapped o to (s ∷ ss) e i h k = wrapped o to ss (tree.unary o e (expanded s to)) i h.1 (joins s to h.0 i, k)
 
-      prefixed : (m : Tok) (o : _) (f : Form (Expr C)) → Ensured T S f IsOne → Ensured T S (g.prefixed m o f) IsOne
+      prefixed : (m : Tok) (o : _) (f : Form (Expr C)) → Ensured T S G f IsOne → Ensured T S G (g.prefixed m o f) IsOne
       prefixed m o f h = (
         AllSpans,
         alone tt,
         (λ ss t s i j k. alone (mark_span m t s j k, i)),
-        λ ss i. weaker T S f IsOne _ (λ e k. λ to l. alone (wrapped o to ss e l i k.it)) h,
+        λ ss i. weaker T S G f IsOne _ (λ e k. λ to l. alone (wrapped o to ss e l i k.it)) h,
       )
 
-      module _ {F : Type 0} (f : Functions C F) (prim : Form (Expr C)) (hp : Ensured T S prim IsOne) where
+      module _ {F : Type 0} (f : Functions C F) (prim : Form (Expr C)) (hp : Ensured T S G prim IsOne) where
         -- an operand so far, and where the next postfix begins the node that it makes
         abbrev IsBase : Expr C × Span → Type 0
         IsBase e = IsSound T S e.0 × S e.1
 
-        postfixed : Ensured T S (g.postfixed f expr prim) IsOne
+        postfixed : Ensured T S G (g.postfixed f expr prim) IsOne
         unfolding g.postfixed
-        postfixed = λ from i. weaker T S prim IsOne _ (λ e h. (
+        postfixed = λ from i. weaker T S G prim IsOne _ (λ e h. (
           IsBase,
           alone (h.it, i),
-          (λ y t u j k l. weaker T S (g.postfix expr f y.0 y.1 u.0) IsOne _ (λ x m. alone (m.it, spans u (of_kind_is begins_postfix t u k l))) (postfix f y.0 y.1 u.0 j.0 j.1)),
+          (λ y t u j k l. weaker T S G (g.postfix expr f y.0 y.1 u.0) IsOne _ (λ x m. alone (m.it, spans u (of_kind_is begins_postfix t u k l))) (postfix f y.0 y.1 u.0 j.0 j.1)),
           λ y j. alone j.0,
         )) hp
 
-        operand : Ensured T S (g.operand f expr prim) IsOne
+        operand : Ensured T S G (g.operand f expr prim) IsOne
         unfolding g.operand
         operand = prefixed minus negation (g.postfixed f expr prim) postfixed
 
-        test_args : Ensured T S (g.test_args f expr prim) (λ xs. Holds (AreArgs xs))
+        test_args : Ensured T S G (g.test_args f expr prim) (λ xs. Holds (AreArgs xs))
         unfolding g.test_args
         test_args = (
           (λ t u i j. args),
-          (weaker T S (g.operand f expr prim) IsOne _ (λ e h. alone ((h.it, tt), omega arith)) operand, alone (tt, omega arith)),
+          (weaker T S G (g.operand f expr prim) IsOne _ (λ e h. alone ((h.it, tt), omega arith)) operand, alone (tt, omega arith)),
         )
 
-        named_test : (e : Expr C) → IsSound T S e → Ensured T S (g.named_test f expr prim e) IsOne
+        named_test : (e : Expr C) → IsSound T S e → Ensured T S G (g.named_test f expr prim e) IsOne
         unfolding g.named_test
-        named_test e h = λ from i. weaker T S g.name IsName _
-            (λ x j. weaker T S (g.test_args f expr prim) (λ xs. Holds (AreArgs xs)) _ (λ xs k. spanned from (tree.test e x (args_of xs)) IsOne i (λ s m. alone (m, h, k.it.0, k.it.1))) test_args) name
+        named_test e h = λ from i. weaker T S G g.name IsName _
+            (λ x j. weaker T S G (g.test_args f expr prim) (λ xs. Holds (AreArgs xs)) _ (λ xs k. spanned from (tree.test e x (args_of xs)) IsOne i (λ s m. alone (m, h, k.it.0, k.it.1))) test_args) name
 
-        negated_test : (from : Span) (e : Expr C) → S from → IsSound T S e → Ensured T S (g.named_test f expr prim e >>= (λ t. g.spanned from (tree.unary logical_not t))) IsOne
-        negated_test from e i h = weaker T S (g.named_test f expr prim e) IsOne _ (λ t k. spanned from (tree.unary logical_not t) IsOne i (λ s m. alone (m, k.it))) (named_test e h)
+        negated_test : (from : Span) (e : Expr C) → S from → IsSound T S e → Ensured T S G (g.named_test f expr prim e >>= (λ t. g.spanned from (tree.unary logical_not t))) IsOne
+        negated_test from e i h = weaker T S G (g.named_test f expr prim e) IsOne _ (λ t k. spanned from (tree.unary logical_not t) IsOne i (λ s m. alone (m, k.it))) (named_test e h)
 
-        any_test : (e : Expr C) → IsSound T S e → Ensured T S (g.any_test f expr prim e) IsOne
+        any_test : (e : Expr C) → IsSound T S e → Ensured T S G (g.any_test f expr prim e) IsOne
         unfolding g.any_test
         any_test e h = ((λ t u i j. λ from k. negated_test from e k h), named_test e h)
 
-        filtered : (e : Expr C) → IsSound T S e → Ensured T S (g.filtered f expr prim e) IsOne
+        filtered : (e : Expr C) → IsSound T S e → Ensured T S G (g.filtered f expr prim e) IsOne
         unfolding g.filtered
-        filtered e h = λ from i. weaker T S g.name IsName _ (λ x j. chosen paren_open (g.args expr) (pure []) _
-            (weaker T S (g.args expr) (λ xs. Holds (AreArgs xs)) _ (λ xs k. spanned from (tree.filter (tree.present e) x (args_of xs)) IsOne i (λ s m. alone (m, h, k.it.0, k.it.1))) args)
+        filtered e h = λ from i. weaker T S G g.name IsName _ (λ x j. chosen paren_open (g.args expr) (pure []) _
+            (weaker T S G (g.args expr) (λ xs. Holds (AreArgs xs)) _ (λ xs k. spanned from (tree.filter (tree.present e) x (args_of xs)) IsOne i (λ s m. alone (m, h, k.it.0, k.it.1))) args)
             (spanned from (tree.filter (tree.present e) x (args_of [])) IsOne i (λ s m. alone (m, h, tt, omega arith)))) name
 
-        suffix : (e : Expr C) (t : Tok) → IsSound T S e → Ensured T S (g.suffix f expr prim e t) IsOne
+        suffix : (e : Expr C) (t : Tok) → IsSound T S e → Ensured T S G (g.suffix f expr prim e t) IsOne
         suffix e pipe h = filtered e h
         suffix e _ h = any_test e h
 
-        unary_level : Ensured T S (g.unary_level f expr prim) IsOne
+        unary_level : Ensured T S G (g.unary_level f expr prim) IsOne
         unfolding g.unary_level
-        unary_level = weaker T S (g.operand f expr prim) IsOne _ (λ e h. (
+        unary_level = weaker T S G (g.operand f expr prim) IsOne _ (λ e h. (
           IsSound T S,
           h,
-          (λ y t u i j k. weaker T S (g.suffix f expr prim y u.0) IsOne _ (λ x m. alone m.it) (suffix y u.0 i)),
+          (λ y t u i j k. weaker T S G (g.suffix f expr prim y u.0) IsOne _ (λ x m. alone m.it) (suffix y u.0 i)),
           λ y i. alone i,
         )) operand
 
     -- ---- operators of two sides
 
-    level : (op : Tok → Option BinOp) (f : Form (Expr C)) → Ensured T S f IsOne → Ensured T S (g.level op f) IsOne
+    level : (op : Tok → Option BinOp) (f : Form (Expr C)) → Ensured T S G f IsOne → Ensured T S G (g.level op f) IsOne
     unfolding g.level
-    level op f h = λ from i. weaker T S f IsOne _ (λ l j. (
+    level op f h = λ from i. weaker T S G f IsOne _ (λ l j. (
       IsSound T S,
       j,
-      (λ y t o k m n. weaker T S f IsOne _ (λ r p. spanned from (λ s. go_on (tree.binary o y r s)) (λ z. Holds (Kept (IsSound T S) z)) i (λ s q. alone (q, k, p.it))) h),
+      (λ y t o k m n. weaker T S G f IsOne _ (λ r p. spanned from (λ s. go_on (tree.binary o y r s)) (λ z. Holds (Kept (IsSound T S) z)) i (λ s q. alone (q, k, p.it))) h),
       λ y k. alone k,
     )) h
 
@@ -403,20 +403,20 @@ module _ (T : SpannedTok → Type 0) (S : Span → Type 0) (spans : (t : Spanned
     abbrev AreCompared : List (CompareOp × Expr C) → Type 0
     AreCompared cs = AreComparedSound T S (comparisons_of cs)
 
-    comparison : (f : Form (Expr C)) → Ensured T S f IsOne → (cs : List (CompareOp × Expr C)) (t : SpannedTok) → AreCompared cs → Ensured T S (g.comparison f cs t) (λ z. Holds (Kept AreCompared z))
+    comparison : (f : Form (Expr C)) → Ensured T S G f IsOne → (cs : List (CompareOp × Expr C)) (t : SpannedTok) → AreCompared cs → Ensured T S G (g.comparison f cs t) (λ z. Holds (Kept AreCompared z))
     unfolding g.comparison
     comparison f h cs t k = go (compare_op t.0)
       where
-        after : (o : CompareOp) → Ensured T S (f >>= (λ e. pure (go_on (cs ++ (o, e) ∷ [])))) (λ z. Holds (Kept AreCompared z))
-        after o = weaker T S f IsOne _ (λ e j. alone (compared_append cs (o, e) k j.it)) h
+        after : (o : CompareOp) → Ensured T S G (f >>= (λ e. pure (go_on (cs ++ (o, e) ∷ [])))) (λ z. Holds (Kept AreCompared z))
+        after o = weaker T S G f IsOne _ (λ e j. alone (compared_append cs (o, e) k j.it)) h
 
-        go : (o : Option CompareOp) → Ensured T S (g.compare_operator o >>= (λ p. f >>= (λ e. pure (go_on (cs ++ (p, e) ∷ []))))) (λ z. Holds (Kept AreCompared z))
+        go : (o : Option CompareOp) → Ensured T S G (g.compare_operator o >>= (λ p. f >>= (λ e. pure (go_on (cs ++ (p, e) ∷ []))))) (λ z. Holds (Kept AreCompared z))
         go (Some o) = after o
         go None = λ u s i j. after cmp.not_in
 
-    compared_level : (f : Form (Expr C)) → Ensured T S f IsOne → Ensured T S (g.compared_level f) IsOne
+    compared_level : (f : Form (Expr C)) → Ensured T S G f IsOne → Ensured T S G (g.compared_level f) IsOne
     unfolding g.compared_level
-    compared_level f h = λ from i. weaker T S f IsOne _ (λ e j. (
+    compared_level f h = λ from i. weaker T S G f IsOne _ (λ e j. (
       AreCompared,
       alone tt,
       (λ cs t u k l m. comparison f h cs u k),
@@ -436,15 +436,15 @@ module _ (T : SpannedTok → Type 0) (S : Span → Type 0) (spans : (t : Spanned
     closed_ifs to [] e i h k = k
     closed_ifs to (w ∷ ws) e i h k = closed_ifs to ws (tree.if_expr w.2 w.1 (tree.present e) (expanded w.0 to)) i h.3 (joins w.0 to h.0 i, h.2, h.1, k)
 
-    if_turn : (f : Form (Expr C)) → Ensured T S f IsOne → (c : g.Ifs C) (at : Span) → AreIfs c → Ensured T S (g.if_turn f c at) (λ z. Holds (Kept AreIfs z))
+    if_turn : (f : Form (Expr C)) → Ensured T S G f IsOne → (c : g.Ifs C) (at : Span) → AreIfs c → Ensured T S G (g.if_turn f c at) (λ z. Holds (Kept AreIfs z))
     unfolding g.if_turn
-    if_turn f h c at k = weaker T S f IsOne _ (λ t i. λ to j. pair
-        (λ u s l m. weaker T S f IsOne _ (λ e n. alone ((k.2, k.1, i.it, k.0), n.it, mark_span else_word u s l m)) h)
+    if_turn f h c at k = weaker T S G f IsOne _ (λ t i. λ to j. pair
+        (λ u s l m. weaker T S G f IsOne _ (λ e n. alone ((k.2, k.1, i.it, k.0), n.it, mark_span else_word u s l m)) h)
         (alone (k.0, (joins c.from to k.2 j, i.it, k.1, tt), j))) h
 
-    cond : (f : Form (Expr C)) → Ensured T S f IsOne → Ensured T S (g.cond f) IsOne
+    cond : (f : Form (Expr C)) → Ensured T S G f IsOne → Ensured T S G (g.cond f) IsOne
     unfolding g.cond
-    cond f h = λ from i. weaker T S f IsOne _ (λ e j. (
+    cond f h = λ from i. weaker T S G f IsOne _ (λ e j. (
       AreIfs,
       alone (tt, j.it, i),
       (λ c t u k l m. if_turn f h c u k),
@@ -454,7 +454,7 @@ module _ (T : SpannedTok → Type 0) (S : Span → Type 0) (spans : (t : Spanned
     -- ---- the levels
 
     module _ {F : Type 0} (f : Functions C F) where
-      pub or_level : (expr prim : Form (Expr C)) → Ensured T S expr IsOne → Ensured T S prim IsOne → Ensured T S (g.or_level f expr prim) IsOne
+      pub or_level : (expr prim : Form (Expr C)) → Ensured T S G expr IsOne → Ensured T S G prim IsOne → Ensured T S G (g.or_level f expr prim) IsOne
       or_level expr prim he hp =
           let unaries = unary_level expr he f prim hp in
           let powers = level pow_op (g.unary_level f expr prim) unaries in
@@ -468,10 +468,10 @@ module _ (T : SpannedTok → Type 0) (S : Span → Type 0) (spans : (t : Spanned
       mutual
         unfolding g.expr_at
 
-        pub expr_sound : (d : ℕ) → Ensured T S (g.expr_at f d) IsOne
+        pub expr_sound : (d : ℕ) → Ensured T S G (g.expr_at f d) IsOne
         expr_sound zero = alone tt
         expr_sound (suc d) = cond (g.or_level f (g.expr_at f d) (g.primary_at f d)) (or_level (g.expr_at f d) (g.primary_at f d) (expr_sound d) (primary_sound d))
 
-        pub primary_sound : (d : ℕ) → Ensured T S (g.primary_at f d) IsOne
+        pub primary_sound : (d : ℕ) → Ensured T S G (g.primary_at f d) IsOne
         primary_sound zero = alone tt
         primary_sound (suc d) = primary (g.expr_at f d) (expr_sound d) f

@@ -2,7 +2,7 @@
 use Rattle.minijinja_grammar.proofs.Forms.{left, sound, no_longer}
 use Rattle.std.proofs.Common.{◌≡◌, ◌<◌, ◌≤◌, arith, List, [], ◌∷◌, ℕ, zero, suc, Bool, true, false, if◌then◌else◌, Option, Some, None, refl, sym, ap, ◌∙◌, length}
 use Rattle.minijinja_syntax.specs.Streams.{SpannedTok, Ending}
-use Rattle.minijinja_grammar.specs.Forms.{Place, Turn, go_on, over, Form, pure, nothing, one, source, start, last, and_then, either, many, comes, after, Read, got, short, wrong, read_then, misfit, read_one, held_or_wrong, read_turn, if_held, read_any, read_many, reads}
+use Rattle.minijinja_grammar.specs.Forms.{Place, Turn, go_on, over, Form, pure, nothing, one, source, start, last, new_name, is_given, giving, and_then, either, many, comes, after, Read, got, short, wrong, read_then, misfit, read_one, held_or_wrong, read_turn, if_held, read_any, read_many, reads}
 
 -- the text is the same, and how its tokens end
 pub record IsOfSame (p q : Place) : Type 0 where
@@ -84,6 +84,12 @@ stays {A = A} (one held) p = go p.tokens refl
 stays source p = same p
 stays start p = same p
 stays last p = same p
+stays (new_name x) p = go (is_given x p) p.tokens refl
+  where
+    go : (b : Bool) (ts : List SpannedTok) → p.tokens ≡ ts → Stays p (if b then misfit p ts else got (tt {0}) (giving x p))
+    go true [] e = (same p, e)
+    go true (t ∷ ts) e = same p
+    go false ts e = record { source = refl; ending = refl }
 stays (and_then f g) p = then_stays p (reads f p) (λ x. reads (g x)) (stays f p) (λ x. stays (g x))
 stays {A = A} (either begins f g) p = go (comes begins p.tokens) (reads f p) (reads g p) (stays f p) (stays g p)
   where

@@ -7,7 +7,7 @@ use Rattle.minijinja_syntax.specs.Tokens.{Tok, ident, comma, paren_open, paren_c
 use Rattle.minijinja_syntax.specs.declared.tokens.Span.{Span}
 use Rattle.minijinja_syntax.specs.Streams.{SpannedTok}
 use Rattle.minijinja_tree.specs.SpannedTrees.{Expr, variable, attribute, list, exprs_of, bare_expr, bare_exprs}
-use Rattle.minijinja_tree.specs.WellFormed.{IsTarget, AreTargets}
+use Rattle.minijinja_tree.specs.WellFormed.{IsTarget, AreTargets, IsVariable}
 use Rattle.minijinja_grammar.specs.Words.{is_reserved}
 use Rattle.minijinja_grammar.specs.Forms.{Form, Turn, go_on, over, pure, one, either, many, ◌>>=◌, ◌>>◌}
 use Rattle.minijinja_grammar.specs.Grammar as g
@@ -19,8 +19,8 @@ use Rattle.minijinja_grammar.proofs.Ensured.{weaker}
 use Rattle.minijinja_grammar.proofs.Sound.{alone, behind, ident_span, next, spanned}
 use Rattle.minijinja_grammar.proofs.Standing.{is_whole}
 
--- an identifier that may be assigned to is a token
-word_is : (T : SpannedTok → Type 0) (refused : Text → Bool) (t : SpannedTok) (x : Text × Span) → T t → form.word_but refused t ≡ Some x → T (ident x.0, x.1)
+-- an identifier that is not refused is a token
+pub word_is : (T : SpannedTok → Type 0) (refused : Text → Bool) (t : SpannedTok) (x : Text × Span) → T t → form.word_but refused t ≡ Some x → T (ident x.0, x.1)
 word_is T refused (ident y, s) x i e = go (refused y) e
   where
     go : (b : Bool) → (if b then None else Some (y, s)) ≡ Some x → T (ident x.0, x.1)
@@ -32,7 +32,7 @@ word_is T refused (ident y, s) x i e = go (refused y) e
 word_is T refused _ x i e = cc
 
 module _ (C : Type 0) (T : SpannedTok → Type 0) (S : Span → Type 0) (spans : (t : SpannedTok) → T t → S t.1)
-    (joins : (s to : Span) → S s → S to → S (expanded s to)) where
+    (joins : (s to : Span) → S s → S to → S (expanded s to)) (G : Text → Type 0) where
   pub record IsAssignable (e : Expr C) : Type 0 where
     pub sound : IsSound T S e
     pub target : IsTarget (bare_expr e)
@@ -44,25 +44,31 @@ module _ (C : Type 0) (T : SpannedTok → Type 0) (S : Span → Type 0) (spans :
   abbrev pub IsOneTarget : Expr C → Type 1
   IsOneTarget e = Holds (IsAssignable e)
 
-  part : (e : Expr C) (at : Span) → IsAssignable e → Ensured T S (form.target_part e at) (λ z. Holds (Kept IsAssignable z))
-  unfolding form.target_part
-  part e at h = λ t x i j. alone (record { sound = (ident_span T S spans joins t x i j, h.sound); target = is_whole T S e h.sound })
+  -- a variable
+  pub record IsName (e : Expr C) : Type 0 where
+    pub sound : IsSound T S e
+    pub target : IsTarget (bare_expr e)
+    pub variable : IsVariable (bare_expr e)
 
-  attributes : (e : Expr C) → IsAssignable e → Ensured T S (form.attributes e) IsOneTarget
+  pub stored_name : Ensured T S G (form.stored_name {C = C}) (λ e. Holds (IsName e))
+  unfolding form.stored_name
+  stored_name = λ t x i j. alone (record { sound = word_is T is_reserved t x i j; target = tt; variable = tt })
+
+  part : (e : Expr C) (at : Span) → IsAssignable e → Ensured T S G (form.target_part e at) (λ z. Holds (Kept IsAssignable z))
+  unfolding form.target_part
+  part e at h = λ t x i j. alone (record { sound = (ident_span T S spans joins G t x i j, h.sound); target = is_whole T S e h.sound })
+
+  attributes : (e : Expr C) → IsAssignable e → Ensured T S G (form.attributes e) IsOneTarget
   unfolding form.attributes
   attributes e h = (IsAssignable, alone h, (λ x t s i j k. part x s i), λ x i. alone i)
 
-  parts : (dotted : Bool) (e : Expr C) → IsAssignable e → Ensured T S (form.target_parts dotted e) IsOneTarget
+  parts : (dotted : Bool) (e : Expr C) → IsAssignable e → Ensured T S G (form.target_parts dotted e) IsOneTarget
   parts false e h = alone h
   parts true e h = attributes e h
 
-  pub named : (dotted : Bool) → Ensured T S (form.named_target dotted) IsOneTarget
+  pub named : (dotted : Bool) → Ensured T S G (form.named_target dotted) IsOneTarget
   unfolding form.named_target
   named dotted = λ t x i j. parts dotted (variable x.0 x.1) (record { sound = word_is T _ t x i j; target = tt })
-
-  pub stored : Ensured T S (form.stored_name {C = C}) IsOneTarget
-  unfolding form.stored_name
-  stored = λ t x i j. alone (record { sound = word_is T is_reserved t x i j; target = tt })
 
   append : (es : List (Expr C)) (e : Expr C) → AreAssignable es → IsAssignable e → AreAssignable (es ++ e ∷ [])
   append [] e h k = record { sound = (k.sound, tt); targets = (k.target, tt) }
@@ -70,16 +76,16 @@ module _ (C : Type 0) (T : SpannedTok → Type 0) (S : Span → Type 0) (spans :
       let i = append es e (record { sound = h.sound.1; targets = h.targets.1 }) k in
       record { sound = (h.sound.0, i.sound); targets = (h.targets.0, i.targets) }
 
-  listed : (from : Span) (es : List (Expr C)) → S from → AreAssignable es → Ensured T S (g.spanned from (list (exprs_of es))) IsOneTarget
-  listed from es i h = spanned T S spans joins from (list (exprs_of es)) IsOneTarget i (λ s j. alone (record { sound = (j, h.sound); target = h.targets }))
+  listed : (from : Span) (es : List (Expr C)) → S from → AreAssignable es → Ensured T S G (g.spanned from (list (exprs_of es))) IsOneTarget
+  listed from es i h = spanned T S spans joins G from (list (exprs_of es)) IsOneTarget i (λ s j. alone (record { sound = (j, h.sound); target = h.targets }))
 
-  module _ (target : Form (Expr C)) (ht : Ensured T S target IsOneTarget) where
-    further : (es : List (Expr C)) (at : Span) → AreAssignable es → Ensured T S (form.next_target target es at) (λ z. Holds (Kept AreAssignable z))
+  module _ (target : Form (Expr C)) (ht : Ensured T S G target IsOneTarget) where
+    further : (es : List (Expr C)) (at : Span) → AreAssignable es → Ensured T S G (form.next_target target es at) (λ z. Holds (Kept AreAssignable z))
     unfolding form.next_target
-    further es at h = (alone h, weaker T S target IsOneTarget _ (λ e i. alone (append es e h i.it)) ht)
+    further es at h = (alone h, weaker T S G target IsOneTarget _ (λ e i. alone (append es e h i.it)) ht)
 
     commas : (from : Span) (e : Expr C) → S from → IsAssignable e →
-        Ensured T S (many (g.span_of_mark comma) (form.next_target target) (e ∷ []) >>= (λ es. g.spanned from (list (exprs_of es)))) IsOneTarget
+        Ensured T S G (many (g.span_of_mark comma) (form.next_target target) (e ∷ []) >>= (λ es. g.spanned from (list (exprs_of es)))) IsOneTarget
     commas from e i h = (
       AreAssignable,
       alone (record { sound = (h.sound, tt); targets = (h.target, tt) }),
@@ -87,24 +93,24 @@ module _ (C : Type 0) (T : SpannedTok → Type 0) (S : Span → Type 0) (spans :
       λ es j. listed from es i j,
     )
 
-    pub all_targets : Ensured T S (form.targets target) IsOneTarget
+    pub all_targets : Ensured T S G (form.targets target) IsOneTarget
     unfolding form.targets
     all_targets = λ from i. (
       listed from [] i (record { sound = tt; targets = tt }),
-      weaker T S target IsOneTarget _ (λ e h. (commas from e i h.it, alone h.it)) ht,
+      weaker T S G target IsOneTarget _ (λ e h. (commas from e i h.it, alone h.it)) ht,
     )
 
-  target_in : (dotted : Bool) (n : ℕ) → Ensured T S (form.target_in dotted n) IsOneTarget
+  target_in : (dotted : Bool) (n : ℕ) → Ensured T S G (form.target_in dotted n) IsOneTarget
   unfolding form.target_in
   target_in dotted zero = named dotted
-  target_in dotted (suc n) = behind T S spans joins paren_open
+  target_in dotted (suc n) = behind T S spans joins G paren_open
       (form.targets (form.target_in dotted n) >>= (λ t. g.next paren_close >> pure t))
       (form.named_target {C = C} dotted)
       IsOneTarget
-      (weaker T S (form.targets (form.target_in dotted n)) IsOneTarget _ (λ e h. next T S spans joins paren_close _ (λ s i. h))
+      (weaker T S G (form.targets (form.target_in dotted n)) IsOneTarget _ (λ e h. next T S spans joins G paren_close _ (λ s i. h))
       (all_targets (form.target_in dotted n) (target_in dotted n)))
       (named dotted)
 
-  pub any_targets : (dotted : Bool) → Ensured T S (form.any_targets dotted) IsOneTarget
+  pub any_targets : (dotted : Bool) → Ensured T S G (form.any_targets dotted) IsOneTarget
   unfolding form.any_targets
   any_targets dotted = all_targets (form.target_in dotted form.most_parentheses) (target_in dotted form.most_parentheses)

@@ -1,5 +1,6 @@
 -- The laws of the grammar.
 use Rattle.std.proofs.Common.{◌≡◌, ◌<◌, ℕ, suc, List, [], ◌∷◌, ◌++◌, length, Contains, arith, refl, sym, ap, ◌∙◌, subst}
+use Rattle.minijinja_syntax.specs.Texts.{Text}
 use Rattle.minijinja_value.specs.Values.{Functions}
 use Rattle.minijinja_syntax.specs.declared.tokens.Span.{Span}
 use Rattle.minijinja_syntax.specs.Streams.{SpannedTok, finished}
@@ -19,6 +20,7 @@ use Rattle.minijinja_grammar.proofs.Prefixes.{with_more}
 use Rattle.minijinja_grammar.proofs.Sound.{expr_sound}
 use Rattle.minijinja_grammar.proofs.Standing.{stands, is_whole}
 use Rattle.minijinja_grammar.proofs.Templates.{IsTemplate, template_sound}
+use Rattle.minijinja_grammar.proofs.Names.{template_distinct}
 
 pub one_whole : {A : Type 0} (form : Form A) (p : Place) (t u : A) → IsWholeOf form p t → IsWholeOf form p u → t ≡ u
 one_whole form p t u h k = (one_only form p h.stop k.stop t u h.derived k.derived).1
@@ -49,7 +51,11 @@ module _ (ts : List SpannedTok) (before : Span) where
       ends to (token_end m k) = token_end m (record { line = k.line; col = k.col; offset = k.offset })
       ends to (end_before k) = end_before (record { line = k.line; col = k.col; offset = k.offset })
 
-  all_contained : (us : List SpannedTok) → ((t : SpannedTok) → Contains us t → Contains ts t) → All (Contains ts) (IsOfTokens ts before) token_span us
+  -- any name may be given
+  abbrev Any : Text → Type 0
+  Any x = Unit {0}
+
+  all_contained : (us : List SpannedTok) → ((t : SpannedTok) → Contains us t → Contains ts t) → All (Contains ts) (IsOfTokens ts before) token_span Any us
   all_contained [] k = tt
   all_contained (u ∷ us) k = (k u (0, omega arith, refl), all_contained us (λ t h. k t (suc h.0, omega (arith, h.1), h.2)))
 
@@ -60,19 +66,22 @@ module _ {C F : Type 0} (f : Functions C F) (p : Place) where
   abbrev S : Span → Type 0
   S = IsOfTokens p.tokens p.last
 
-  fine : Fine T S (token_span p.tokens p.last) p
+  abbrev G : Text → Type 0
+  G = Any p.tokens p.last
+
+  fine : Fine T S (token_span p.tokens p.last) G p
   fine = record { tokens = all_contained p.tokens p.last p.tokens (λ t h. h); last = span_before p.tokens p.last }
 
-  template : (t : Stmt C) → IsTemplateTree f p t → IsTemplate T S (token_span p.tokens p.last) (joined p.tokens p.last) f t
-  template t h = (ensured T S (token_span p.tokens p.last) (template_at f max_depth) _
-      (template_sound T S (token_span p.tokens p.last) (joined p.tokens p.last) f max_depth) p h.stop t fine h.derived).is.it
+  template : (t : Stmt C) → IsTemplateTree f p t → IsTemplate T S (token_span p.tokens p.last) (joined p.tokens p.last) G f t
+  template t h = (ensured T S (token_span p.tokens p.last) G (template_at f max_depth) _
+      (template_sound T S (token_span p.tokens p.last) (joined p.tokens p.last) G f (λ x. tt) max_depth) p h.stop t fine h.derived).is.it
 
   expression : (e : Expr C) → IsExprTree f p e → IsSound T S e
-  expression e h = (ensured T S (token_span p.tokens p.last) (expr_at f max_depth) _
-      (expr_sound T S (token_span p.tokens p.last) (joined p.tokens p.last) f max_depth) p h.stop e fine h.derived).is.it
+  expression e h = (ensured T S (token_span p.tokens p.last) G (expr_at f max_depth) _
+      (expr_sound T S (token_span p.tokens p.last) (joined p.tokens p.last) G f max_depth) p h.stop e fine h.derived).is.it
 
   pub template_formed : (t : Stmt C) → IsTemplateTree f p t → IsWellFormed (bare_stmt t)
-  template_formed t h = (template t h).formed
+  template_formed t h = ((template t h).root, template_distinct f max_depth p h.stop t h.derived)
 
   pub template_stands : (t : Stmt C) → IsTemplateTree f p t → StmtStands T S t
   template_stands t h = (template t h).stands

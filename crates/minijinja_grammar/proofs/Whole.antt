@@ -1,7 +1,7 @@
 -- What a form derives of all tokens: one thing at most, and what reading them comes to where they end refused.
 use Rattle.std.proofs.Common.{◌≡◌, ◌≢◌, ◌⊎◌, inl, inr, List, [], ◌∷◌, ◌++◌, Option, Some, None, refl, sym, ap, ◌∙◌, subst}
 use Rattle.minijinja_syntax.specs.Streams.{SpannedTok, Ending}
-use Rattle.minijinja_grammar.specs.Forms.{Place, Turn, go_on, over, Form, pure, nothing, one, source, start, last, and_then, either, many, start_at, held_next, after, Takes, Turns, no_turn, last_turn, turn, Derives, Read, got, short, wrong, read_then, misfit, read_one, held_or_wrong, read_turn, if_held, read_any, read_many, reads}
+use Rattle.minijinja_grammar.specs.Forms.{Place, Turn, go_on, over, Form, pure, nothing, one, source, start, last, new_name, and_then, either, many, start_at, held_next, after, Takes, Turns, no_turn, last_turn, turn, Derives, Read, got, short, wrong, read_then, misfit, read_one, held_or_wrong, read_turn, if_held, read_any, read_many, reads}
 use Rattle.minijinja_grammar.proofs.Forms.{same_read, sound, complete}
 use Rattle.minijinja_grammar.proofs.Prefixes.{with_more, Goes, goes}
 
@@ -39,6 +39,7 @@ module _ (e : Ending) where
   elsewhere source p q x d = (ap (ending_in e) d.0, d.1)
   elsewhere start p q x d = (ap (ending_in e) d.0, start_elsewhere p ∙ d.1)
   elsewhere last p q x d = (ap (ending_in e) d.0, d.1)
+  elsewhere (new_name y) p q x d = (d.0, ap (ending_in e) d.1)
   elsewhere (and_then f g) p q x d = (d.0, ending_in e d.1, elsewhere f p d.1 d.0 d.2, elsewhere (g d.0) d.1 q x d.3)
   elsewhere (either begins f g) p q x (inl d) = inl (d.0, elsewhere f p q x d.1)
   elsewhere (either begins f g) p q x (inr d) = inr (d.0, elsewhere g p q x d.1)

@@ -1,16 +1,23 @@
 -- What a grammar is made of: forms, what they derive, and how they are read from the left.
 use Rattle.std.specs.Prelude.{◌≡◌, ◌⊎◌, ℕ, Bool, true, false, zero, suc, List, [], ◌∷◌, length, if◌then◌else◌, Option, Some, None}
+use Rattle.std.specs.Str.{bytes_eq}
+use Rattle.std.specs.Ordering.{nat_cmp}
+use Rattle.std.specs.List.{list_any}
+use Rattle.std.specs.BTreeSet.{insert_key}
+use Rattle.std.specs.Cmp.Lexicographic.{slice_cmp}
 use Rattle.minijinja_syntax.specs.Texts.{Text}
 use Rattle.minijinja_syntax.specs.Tokens.{Tok}
 use Rattle.minijinja_syntax.specs.declared.tokens.Span.{Span}
 use Rattle.minijinja_syntax.specs.Streams.{SpannedTok, Ending}
 
--- the text, the tokens that are left of it and how they end, and where the token taken last stands
+-- the text, the tokens that are left of it and how they end, where the token taken last stands, and the names that were given so
+-- far, in order of their bytes
 pub record Place : Type 0 where
   pub source : Text
   pub tokens : List SpannedTok
   pub ending : Ending
   pub last : Span
+  pub names : List Text
 
 -- a turn of a repetition: more may follow, or none
 pub data Turn (A : Type 0) : Type 0 where
@@ -24,6 +31,8 @@ pub data Form : Type 0 → Type 1 where
   source : Form Text
   start : Form Span
   last : Form Span
+  -- a name that was not given before
+  new_name : Text → Form (Unit {0})
   and_then : {A B : Type 0} → Form A → (A → Form B) → Form B
   either : {A : Type 0} → (Tok → Bool) → Form A → Form A → Form A
   many : {A B : Type 0} → (SpannedTok → Option B) → (A → B → Form (Turn A)) → A → Form A
@@ -52,6 +61,14 @@ start_at p = go p.tokens
 abbrev pub after : Place → SpannedTok → List SpannedTok → Place
 after p t ts = record p { tokens = ts; last = t.1 }
 
+-- whether the name was given before
+abbrev pub is_given : Text → Place → Bool
+is_given x p = list_any (bytes_eq x) p.names
+
+-- the place where it was given
+abbrev pub giving : Text → Place → Place
+giving x p = record p { names = insert_key (slice_cmp nat_cmp) p.names x }
+
 -- the next token is taken, and holds that
 pub record Takes {A : Type 0} (held : SpannedTok → Option A) (p q : Place) (x : A) : Type 0 where
   pub token : SpannedTok
@@ -74,6 +91,7 @@ Derives (one held) p q y = Takes held p q y
 Derives source p q y = (p ≡ q) × (p.source ≡ y)
 Derives start p q y = (p ≡ q) × (start_at p ≡ y)
 Derives last p q y = (p ≡ q) × (p.last ≡ y)
+Derives (new_name x) p q y = (is_given x p ≡ false) × (q ≡ giving x p)
 Derives (and_then {A = A} f g) p r y = (x : A) × (q : Place) × Derives f p q x × Derives (g x) q r y
 Derives (either begins f g) p q y = ((comes begins p.tokens ≡ true) × Derives f p q y) ⊎ ((comes begins p.tokens ≡ false) × Derives g p q y)
 Derives (many held t x) p q y = Turns held (λ x h. Derives (t x h)) x p q y
@@ -132,6 +150,7 @@ reads (one held) p = read_one held p p.tokens
 reads source p = got p.source p
 reads start p = got (start_at p) p
 reads last p = got p.last p
+reads (new_name x) p = if is_given x p then misfit p p.tokens else got tt (giving x p)
 reads (and_then f g) p = read_then (reads f p) (λ x q. reads (g x) q)
 reads (either begins f g) p = if comes begins p.tokens then reads f p else reads g p
 reads (many held t x) p = read_many held (λ x h. reads (t x h)) (suc (length p.tokens)) x p

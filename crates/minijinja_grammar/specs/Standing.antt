@@ -5,7 +5,7 @@ use Rattle.minijinja_syntax.specs.Tokens.{Tok, ident, template_data}
 use Rattle.minijinja_syntax.specs.declared.tokens.Span.{Span}
 use Rattle.minijinja_tree.specs.CompareOps.{CompareOp}
 use Rattle.minijinja_syntax.specs.Streams.{SpannedTok}
-use Rattle.minijinja_tree.specs.SpannedTrees.{Expr, variable, constant, slice, unary, binary, compare, if_expr, filter, test, attribute, item, call, list, tuple, map, Optional, absent, present, Exprs, no_more, more, Comparisons, compared, against, Args, no_args, pos, pos_splat, kwarg, kwarg_splat, Stmt, template, data_text, output, assignment, for_loop, if_cond, with_block, set_block, auto_escape, filter_block, do_call, break_loop, continue_loop, Stmts, done, also}
+use Rattle.minijinja_tree.specs.SpannedTrees.{Expr, variable, constant, slice, unary, binary, compare, if_expr, filter, test, attribute, item, call, list, tuple, map, Optional, absent, present, Exprs, no_more, more, Comparisons, compared, against, Args, no_args, pos, pos_splat, kwarg, kwarg_splat, Stmt, template, data_text, output, assignment, for_loop, if_cond, with_block, set_block, auto_escape, filter_block, named_block, extends, include, import_all, from_import, declare, call_block, do_call, break_loop, continue_loop, Stmts, done, also, Macro, macro}
 
 module _ {C : Type 0} (T : SpannedTok → Type 0) (S : Span → Type 0) where
   abbrev mutual
@@ -51,6 +51,15 @@ module _ {C : Type 0} (T : SpannedTok → Type 0) (S : Span → Type 0) where
   BindingsStand [] = Unit {0}
   BindingsStand (b ∷ bs) = Stands b.0 × Stands b.1 × BindingsStand bs
 
+  abbrev pub AllStand : List (Expr C) → Type 0
+  AllStand [] = Unit {0}
+  AllStand (e ∷ es) = Stands e × AllStand es
+
+  -- each name and its alias
+  abbrev pub NamesStand : List (Expr C × Optional C) → Type 0
+  NamesStand [] = Unit {0}
+  NamesStand (n ∷ ns) = Stands n.0 × StandsIfAny n.1 × NamesStand ns
+
   abbrev mutual
     -- the span of data is that of its token
     pub StmtStands : Stmt C → Type 0
@@ -64,6 +73,13 @@ module _ {C : Type 0} (T : SpannedTok → Type 0) (S : Span → Type 0) where
     StmtStands (set_block t e ss s) = S s × Stands t × StandsIfAny e × StmtsStand ss
     StmtStands (auto_escape e ss s) = S s × Stands e × StmtsStand ss
     StmtStands (filter_block e ss s) = S s × Stands e × StmtsStand ss
+    StmtStands (named_block x required ss s) = S s × StmtsStand ss
+    StmtStands (extends e s) = S s × Stands e
+    StmtStands (include e ignore s) = S s × Stands e
+    StmtStands (import_all e t s) = S s × Stands e × Stands t
+    StmtStands (from_import e ns s) = S s × Stands e × NamesStand ns
+    StmtStands (declare m) = MacroStands m
+    StmtStands (call_block e args from m s) = S s × S from × Stands e × ArgsStand args × MacroStands m
     StmtStands (do_call e args from s) = S s × S from × Stands e × ArgsStand args
     StmtStands (break_loop s) = S s
     StmtStands (continue_loop s) = S s
@@ -71,3 +87,6 @@ module _ {C : Type 0} (T : SpannedTok → Type 0) (S : Span → Type 0) where
     pub StmtsStand : Stmts C → Type 0
     StmtsStand done = Unit {0}
     StmtsStand (also s ss) = StmtStands s × StmtsStand ss
+
+    pub MacroStands : Macro C → Type 0
+    MacroStands (macro x args defaults ss s) = S s × AllStand args × AllStand defaults × StmtsStand ss

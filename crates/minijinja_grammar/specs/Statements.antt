@@ -1,16 +1,18 @@
 -- The grammar of statements, over that of expressions.
-use Rattle.std.specs.Prelude.{ℕ, zero, suc, List, [], ◌∷◌, ◌++◌, Bool, true, false, ◌||◌, if◌then◌else◌, Option, Some, None, codes}
+use Rattle.std.specs.Prelude.{ℕ, zero, suc, ◌==◌, List, [], ◌∷◌, ◌++◌, map, length, Bool, true, false, not, ◌||◌, if◌then◌else◌, Option, Some, None, is_some, nat_eq, codes}
+use Rattle.std.specs.List.{list_any, starts_with}
+use Rattle.std.specs.Str.{trim}
 use Rattle.std.specs.Option.{option_map}
 use Rattle.minijinja_syntax.specs.Texts.{Text}
 use Rattle.minijinja_value.specs.Values.{Functions}
 use Rattle.minijinja_syntax.specs.Tokens.{Tok, ident, template_data, variable_start, variable_end, block_start, block_end, assign, comma, pipe, paren_open, paren_close}
 use Rattle.minijinja_syntax.specs.declared.tokens.Span.{Span}
-use Rattle.minijinja_tree.specs.SpannedTrees.{Expr, Args, call, filter, tuple, absent, present, optional_of, exprs_of, args_of, Stmt, template, data_text, output, assignment, for_loop, if_cond, with_block, set_block, auto_escape, filter_block, do_call, break_loop, continue_loop, stmts_of}
-use Rattle.minijinja_grammar.specs.Words.{is, in_word, if_word, else_word, elif_word, recursive_word, endfor_word, endif_word, endwith_word, endset_word, endautoescape_word, endfilter_word, Keyword, for_keyword, if_keyword, with_keyword, set_keyword, autoescape_keyword, filter_keyword, do_keyword, break_keyword, continue_keyword, keyword_of}
+use Rattle.minijinja_tree.specs.SpannedTrees.{Expr, Args, variable, attribute, call, filter, list, tuple, Optional, absent, present, optional_of, Exprs, no_more, more, exprs_of, args_of, Stmt, template, data_text, output, assignment, for_loop, if_cond, with_block, set_block, auto_escape, filter_block, named_block, extends, include, import_all, from_import, declare, call_block, do_call, break_loop, continue_loop, stmts_of, macro_of}
+use Rattle.minijinja_grammar.specs.Words.{is, is_identifier, in_word, if_word, else_word, elif_word, recursive_word, as_word, import_word, scoped_word, required_word, ignore_word, missing_word, with_word, without_word, context_word, endfor_word, endif_word, endwith_word, endset_word, endautoescape_word, endfilter_word, endblock_word, endmacro_word, endcall_word, Keyword, for_keyword, if_keyword, with_keyword, set_keyword, autoescape_keyword, filter_keyword, block_keyword, extends_keyword, include_keyword, import_keyword, from_keyword, macro_keyword, call_keyword, do_keyword, break_keyword, continue_keyword, keyword_of}
 use Rattle.minijinja_syntax.specs.Streams.{SpannedTok}
-use Rattle.minijinja_grammar.specs.Forms.{Form, Turn, go_on, over, pure, nothing, one, start, last, many, either, ◌>>=◌, ◌>>◌}
-use Rattle.minijinja_grammar.specs.Grammar.{next, of_kind, span_of_mark, when, spanned, behind, ident_and_span, exprs, maybe_args, name, expanded, expr_at, primary_at, or_level, max_depth}
-use Rattle.minijinja_grammar.specs.Targets.{stored_name, any_targets}
+use Rattle.minijinja_grammar.specs.Forms.{Form, Turn, go_on, over, pure, nothing, one, start, last, new_name, many, either, ◌>>=◌, ◌>>◌}
+use Rattle.minijinja_grammar.specs.Grammar.{next, of_kind, span_of_mark, when, spanned, behind, ident_and_span, items, exprs, maybe_args, name, expanded, expr_at, primary_at, or_level, max_depth}
+use Rattle.minijinja_grammar.specs.Targets.{name_word, stored_name, any_targets}
 
 -- ---- words
 
@@ -23,7 +25,7 @@ keyword_and_span _ = None
 
 -- what a body may end at: the words that may follow its last `{%`; a template's own goes on to the end of the text
 pub data Ends : Type 0 where
-  at_end_of_text at_endfor_or_else at_endfor at_endif_else_or_elif at_endif at_endwith at_endset at_endautoescape at_endfilter : Ends
+  at_end_of_text at_endfor_or_else at_endfor at_endif_else_or_elif at_endif at_endwith at_endset at_endautoescape at_endfilter at_endblock at_endmacro at_endcall : Ends
 
 abbrev pub ends_body : Ends → Tok → Bool
 ends_body at_end_of_text t = false
@@ -35,6 +37,9 @@ ends_body at_endwith t = is endwith_word t
 ends_body at_endset t = is endset_word t
 ends_body at_endautoescape t = is endautoescape_word t
 ends_body at_endfilter t = is endfilter_word t
+ends_body at_endblock t = is endblock_word t
+ends_body at_endmacro t = is endmacro_word t
+ends_body at_endcall t = is endcall_word t
 
 abbrev pub begins_part : Tok → Bool
 begins_part (template_data t) = true
@@ -165,12 +170,156 @@ done from (Some c) = spanned from (do_call c.0 c.1 c.2)
 unfoldable pub do_stmt : {C : Type 0} → Form (Expr C) → Span → Form (Stmt C)
 do_stmt expr from = expr >>= (λ e. done from (call_of e))
 
+-- an expression that has to be a call: what is called, the arguments, and where the call stands
+abbrev pub call_in : {C : Type 0} → Option (Expr C × Args C × Span) → Form (Expr C × Args C × Span)
+call_in None = nothing
+call_in (Some c) = pure c
+
+unfoldable pub called : {C : Type 0} → Form (Expr C) → Form (Expr C × Args C × Span)
+called expr = expr >>= (λ e. call_in (call_of e))
+
+-- ---- other templates
+
+abbrev pub begins_context : Tok → Bool
+begins_context t = is with_word t || is without_word t
+
+-- [ ("with" | "without") "context" ], and whether it was there
+unfoldable pub context_if_any : Form Bool
+context_if_any = either begins_context (one (of_kind begins_context) >> next context_word >> pure true) (pure false)
+
+-- the same, unless it was there before
+abbrev pub context_unless : Bool → Form Bool
+context_unless true = pure true
+context_unless false = context_if_any
+
+-- "extends" Expr
+unfoldable pub extends_stmt : {C : Type 0} → Form (Expr C) → Span → Form (Stmt C)
+extends_stmt expr from = do
+  e ← expr
+  spanned from (extends e)
+
+-- "include" Expr [Ctx] [ "ignore" "missing" [Ctx] ]
+unfoldable pub include_stmt : {C : Type 0} → Form (Expr C) → Span → Form (Stmt C)
+include_stmt expr from = do
+  e ← expr
+  had ← context_if_any
+  ignore ← behind ignore_word (next missing_word >> context_unless had >> pure true) (pure false)
+  spanned from (include e ignore)
+
+-- a variable, an attribute, or a list of such
+abbrev mutual
+  pub is_storable : {C : Type 0} → Expr C → Bool
+  is_storable (variable x s) = true
+  is_storable (attribute e x s) = true
+  is_storable (list es s) = are_storable es
+  is_storable _ = false
+
+  pub are_storable : {C : Type 0} → Exprs C → Bool
+  are_storable no_more = true
+  are_storable (more e es) = if is_storable e then are_storable es else false
+
+-- "import" Expr "as" Expr [Ctx]: what all that the template stores is stored to has to be storable
+unfoldable pub import_stmt : {C : Type 0} → Form (Expr C) → Span → Form (Stmt C)
+import_stmt expr from = do
+  e ← expr
+  next as_word
+  t ← expr
+  when (is_storable t) (context_if_any >> spanned from (import_all e t))
+
+-- a name that may be taken from a template: it is not reserved, and has no `_` in front
+abbrev pub public_word : SpannedTok → Option (Text × Span)
+public_word (ident x, s) = if starts_with nat_eq x (codes "_") then None else name_word (ident x, s)
+public_word _ = None
+
+-- Imp = Ident [ "as" Ident ]
+unfoldable pub imported : {C : Type 0} → Form (Expr C × Optional C)
+imported = do
+  x ← one public_word
+  alias ← behind as_word (stored_name >>= (λ e. pure (present e))) (pure absent)
+  pure (variable x.0 x.1, alias)
+
+abbrev pub ends_names : Tok → Bool
+ends_names t = is block_end t || begins_context t
+
+-- the name after a comma, unless that was the last one
+unfoldable pub next_imported : {C : Type 0} → List (Expr C × Optional C) → Span → Form (Turn (List (Expr C × Optional C)))
+next_imported ns at = either ends_names (pure (over ns)) (imported >>= (λ n. pure (go_on (ns ++ n ∷ []))))
+
+-- [ Imp { , Imp } [,] ]
+unfoldable pub imports : {C : Type 0} → Form (List (Expr C × Optional C))
+imports = either ends_names (pure []) (imported >>= (λ n. many (span_of_mark comma) next_imported (n ∷ [])))
+
+-- "from" Expr "import" [ Imp { , Imp } [,] ] [Ctx]
+unfoldable pub from_stmt : {C : Type 0} → Form (Expr C) → Span → Form (Stmt C)
+from_stmt expr from = do
+  e ← expr
+  next import_word
+  ns ← imports
+  context_if_any
+  spanned from (from_import e ns)
+
+-- ---- blocks
+
+-- an identifier that no block before it has as its name
+unfoldable pub block_name : Form Text
+block_name = do
+  x ← one ident_and_span
+  new_name x.0
+  pure x.0
+
+-- ["scoped"], which changes nothing
+abbrev pub scoped_if_any : Form (Unit {0})
+scoped_if_any = behind scoped_word (pure tt) (pure tt)
+
+-- [Ident], which has to be that name
+unfoldable pub end_name : Text → Form (Unit {0})
+end_name x = either is_identifier (next (ident x) >> pure tt) (pure tt)
+
+-- whitespace alone
+abbrev pub is_blank : Text → Bool
+is_blank t = length (trim t) == 0
+
+-- Data that is whitespace, from its token on, or the {% of the word that the body ends at
+abbrev pub blank_part : {C : Type 0} → List (Stmt C) → SpannedTok → Form (Turn (List (Stmt C)))
+blank_part ss (template_data t, s) = when (is_blank t) (pure (go_on (ss ++ data_text t s ∷ [])))
+blank_part ss (block_start, s) = pure (over ss)
+blank_part ss _ = nothing
+
+-- { Data }, all of it whitespace, up to the first {%
+unfoldable pub blank_body : {C : Type 0} → Form (List (Stmt C))
+blank_body = many (of_kind begins_part) blank_part []
+
+-- ---- macros
+
+-- whether an argument of a macro has a default
+abbrev pub have_default : {C : Type 0} → List (Expr C × Option (Expr C)) → Bool
+have_default ps = list_any (λ p. is_some p.1) ps
+
+-- [ = Expr ]: after an argument that has a default all have one
+abbrev pub default_of : {C : Type 0} → Form (Expr C) → (has_to_have : Bool) → Form (Option (Expr C))
+default_of expr true = next assign >> expr >>= (λ d. pure (Some d))
+default_of expr false = behind assign (expr >>= (λ d. pure (Some d))) (pure None)
+
+-- Param = Ident [ = Expr ], after those so far
+unfoldable pub param : {C : Type 0} → Form (Expr C) → List (Expr C × Option (Expr C)) → Form (List (Expr C × Option (Expr C)))
+param expr ps = do
+  e ← stored_name
+  d ← default_of expr (have_default ps)
+  pure (ps ++ (e, d) ∷ [])
+
+-- Params ), with Params = [ Param { , Param } [,] ], after the (
+unfoldable pub params : {C : Type 0} → Form (Expr C) → Form (List (Expr C × Option (Expr C)))
+params expr = do
+  ps ← items is_identifier (param expr) []
+  next paren_close
+  pure ps
+
 -- what follows the targets of a set block: the end of its tag, or filters
 abbrev pub begins_set_block : Tok → Bool
 begins_set_block t = is block_end t || is pipe t
 
 -- What statements are made of: expressions, those that no `if` part ends, values that may be tuples, chains of filters, bodies,
--- and the bodies of loops.
+-- and the bodies of loops, of blocks and of macros.
 pub record Parts (C : Type 0) : Type 1 where
   pub expr : Form (Expr C)
   pub or : Form (Expr C)
@@ -178,6 +327,8 @@ pub record Parts (C : Type 0) : Type 1 where
   pub chain : Form (Expr C)
   pub body : Ends → Form (List (Stmt C))
   pub loop_body : Ends → Form (List (Stmt C))
+  pub block_body : Ends → Form (List (Stmt C))
+  pub macro_body : Ends → Form (List (Stmt C))
 
 module _ {C : Type 0} (p : Parts C) where
   -- %} Body w, and the word w
@@ -266,17 +417,66 @@ module _ {C : Type 0} (p : Parts C) where
     ss ← closed_body at_endfilter endfilter_word
     spanned from (filter_block e (stmts_of ss))
 
+  -- %} Body, of a block: where it has to be overridden, whitespace
+  unfoldable pub block_body : Bool → Form (List (Stmt C))
+  block_body true = next block_end >> blank_body
+  block_body false = next block_end >> p.block_body at_endblock
+
+  -- "block" Ident ["scoped"] ["required"] %} Body "endblock" [Ident]
+  unfoldable pub block_stmt : Span → Form (Stmt C)
+  block_stmt from = do
+    x ← block_name
+    scoped_if_any
+    required ← behind required_word (pure true) (pure false)
+    ss ← block_body required
+    next endblock_word
+    end_name x
+    spanned from (named_block x required (stmts_of ss))
+
+  -- %} Body w, of a macro, and the word w
+  unfoldable pub macro_body : Ends → Tok → Form (List (Stmt C))
+  macro_body ends word = do
+    next block_end
+    ss ← p.macro_body ends
+    next word
+    pure ss
+
+  -- "macro" Ident ( Params ) %} Body "endmacro"
+  unfoldable pub macro_stmt : Span → Form (Stmt C)
+  macro_stmt from = do
+    x ← one ident_and_span
+    next paren_open
+    ps ← params p.expr
+    ss ← macro_body at_endmacro endmacro_word
+    spanned from (λ s. declare (macro_of x.0 ps ss s))
+
+  -- "call" [ ( Params ) ] Expr %} Body "endcall": the macro is named `caller`, and stands where the statement does
+  unfoldable pub call_stmt : Span → Form (Stmt C)
+  call_stmt from = do
+    ps ← behind paren_open (params p.expr) (pure [])
+    c ← called p.expr
+    ss ← macro_body at_endcall endcall_word
+    spanned from (λ s. call_block c.0 c.1 c.2 (macro_of (codes "caller") ps ss s) s)
+
 -- ---- in their context
 
--- where a statement stands
+-- where a statement stands: whether the body of a loop is round it, in the same block, macro or call block, and whether it is in a
+-- macro or call block
 pub record Context : Type 0 where
   pub in_loop : Bool
+  pub in_macro : Bool
 
 abbrev pub outside : Context
-outside = record { in_loop = false }
+outside = record { in_loop = false; in_macro = false }
 
 abbrev pub inside_loop : Context → Context
 inside_loop c = record c { in_loop = true }
+
+abbrev pub inside_block : Context → Context
+inside_block c = record c { in_loop = false }
+
+abbrev pub inside_macro : Context
+inside_macro = record { in_loop = false; in_macro = true }
 
 unfoldable pub break_stmt : {C : Type 0} → Context → Span → Form (Stmt C)
 break_stmt c from = when c.in_loop (spanned from break_loop)
@@ -292,6 +492,13 @@ stmt_of c p (with_keyword, from) = with_stmt p from
 stmt_of c p (set_keyword, from) = set_stmt p from
 stmt_of c p (autoescape_keyword, from) = autoescape_stmt p from
 stmt_of c p (filter_keyword, from) = filter_stmt p from
+stmt_of c p (block_keyword, from) = when (not c.in_macro) (block_stmt p from)
+stmt_of c p (extends_keyword, from) = extends_stmt p.expr from
+stmt_of c p (include_keyword, from) = include_stmt p.expr from
+stmt_of c p (import_keyword, from) = import_stmt p.expr from
+stmt_of c p (from_keyword, from) = from_stmt p.expr from
+stmt_of c p (macro_keyword, from) = macro_stmt p from
+stmt_of c p (call_keyword, from) = call_stmt p from
 stmt_of c p (do_keyword, from) = do_stmt p.expr from
 stmt_of c p (break_keyword, from) = break_stmt c from
 stmt_of c p (continue_keyword, from) = continue_stmt c from
@@ -300,15 +507,25 @@ stmt_of c p (continue_keyword, from) = continue_stmt c from
 abbrev pub or_at : {C F : Type 0} → Functions C F → ℕ → Form (Expr C)
 or_at f d = or_level f (expr_at f d) (primary_at f d)
 
--- the parts of statements of such expressions, in which such statements nest, and such in the body of a loop
-abbrev pub parts_of : {C : Type 0} → (expr or : Form (Expr C)) → (nested in_loop : Form (Stmt C)) → Parts C
-parts_of expr or nested in_loop = record { expr = expr; or = or; value = value expr; chain = chain expr; body = body expr nested; loop_body = body expr in_loop }
+-- the parts of statements of such expressions, in which such statements nest, and such in the body of a loop, of a block and of a macro
+abbrev pub parts_of : {C : Type 0} → (expr or : Form (Expr C)) → (nested in_loop in_block in_macro : Form (Stmt C)) → Parts C
+parts_of expr or nested in_loop in_block in_macro = record {
+  expr = expr;
+  or = or;
+  value = value expr;
+  chain = chain expr;
+  body = body expr nested;
+  loop_body = body expr in_loop;
+  block_body = body expr in_block;
+  macro_body = body expr in_macro;
+}
 
 -- each nested Stmt counts 1
 unfoldable pub stmt_at : {C F : Type 0} → Functions C F → Context → ℕ → Form (Stmt C)
 stmt_at f c zero = nothing
-stmt_at f c (suc d) = one keyword_and_span >>= stmt_of c (parts_of (expr_at f d) (or_at f d) (stmt_at f c d) (stmt_at f (inside_loop c) d))
+stmt_at f c (suc d) =
+    one keyword_and_span >>= stmt_of c (parts_of (expr_at f d) (or_at f d) (stmt_at f c d) (stmt_at f (inside_loop c) d) (stmt_at f (inside_block c) d) (stmt_at f inside_macro d))
 
 -- the parts of a statement in which statements and expressions nest so deep at most
 abbrev pub parts_at : {C F : Type 0} → Functions C F → Context → ℕ → Parts C
-parts_at f c d = parts_of (expr_at f d) (or_at f d) (stmt_at f c d) (stmt_at f (inside_loop c) d)
+parts_at f c d = parts_of (expr_at f d) (or_at f d) (stmt_at f c d) (stmt_at f (inside_loop c) d) (stmt_at f (inside_block c) d) (stmt_at f inside_macro d)

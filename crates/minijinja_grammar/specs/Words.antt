@@ -95,6 +95,33 @@ is_word = ident (codes "is")
 abbrev pub recursive_word : Tok
 recursive_word = ident (codes "recursive")
 
+abbrev pub as_word : Tok
+as_word = ident (codes "as")
+
+abbrev pub import_word : Tok
+import_word = ident (codes "import")
+
+abbrev pub scoped_word : Tok
+scoped_word = ident (codes "scoped")
+
+abbrev pub required_word : Tok
+required_word = ident (codes "required")
+
+abbrev pub ignore_word : Tok
+ignore_word = ident (codes "ignore")
+
+abbrev pub missing_word : Tok
+missing_word = ident (codes "missing")
+
+abbrev pub with_word : Tok
+with_word = ident (codes "with")
+
+abbrev pub without_word : Tok
+without_word = ident (codes "without")
+
+abbrev pub context_word : Tok
+context_word = ident (codes "context")
+
 -- the words that end a body
 
 abbrev pub elif_word : Tok
@@ -118,10 +145,19 @@ endautoescape_word = ident (codes "endautoescape")
 abbrev pub endfilter_word : Tok
 endfilter_word = ident (codes "endfilter")
 
+abbrev pub endblock_word : Tok
+endblock_word = ident (codes "endblock")
+
+abbrev pub endmacro_word : Tok
+endmacro_word = ident (codes "endmacro")
+
+abbrev pub endcall_word : Tok
+endcall_word = ident (codes "endcall")
+
 -- ---- the words that begin a statement
 
 pub data Keyword : Type 0 where
-  for_keyword if_keyword with_keyword set_keyword autoescape_keyword filter_keyword do_keyword break_keyword continue_keyword : Keyword
+  for_keyword if_keyword with_keyword set_keyword autoescape_keyword filter_keyword block_keyword extends_keyword include_keyword import_keyword from_keyword macro_keyword call_keyword do_keyword break_keyword continue_keyword : Keyword
 
 abbrev pub keyword_of : Text → Option Keyword
 keyword_of x =
@@ -131,12 +167,23 @@ keyword_of x =
     else if bytes_eq x (codes "set") then Some set_keyword
     else if bytes_eq x (codes "autoescape") then Some autoescape_keyword
     else if bytes_eq x (codes "filter") then Some filter_keyword
+    else if bytes_eq x (codes "block") then Some block_keyword
+    else if bytes_eq x (codes "extends") then Some extends_keyword
+    else if bytes_eq x (codes "include") then Some include_keyword
+    else if bytes_eq x (codes "import") then Some import_keyword
+    else if bytes_eq x (codes "from") then Some from_keyword
+    else if bytes_eq x (codes "macro") then Some macro_keyword
+    else if bytes_eq x (codes "call") then Some call_keyword
     else if bytes_eq x (codes "do") then Some do_keyword
     else if bytes_eq x (codes "break") then Some break_keyword
     else if bytes_eq x (codes "continue") then Some continue_keyword
     else None
 
 -- ---- what a token holds
+
+abbrev pub is_identifier : Tok → Bool
+is_identifier (ident x) = true
+is_identifier _ = false
 
 -- text outside of tags
 abbrev pub data_of : Tok → Option Text

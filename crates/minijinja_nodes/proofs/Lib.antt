@@ -1,6 +1,6 @@
 pub mod Calls
 pub mod Members
 pub mod Names
-pub mod NodeRows
-pub mod StatementRows
 pub mod Strings
+pub mod WantedForms
+pub mod Storables

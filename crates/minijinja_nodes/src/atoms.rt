@@ -11,10 +11,10 @@ ghost use Rattle.minijinja_nodes.specs.private.Texts.{Joins};
 ghost use Rattle.minijinja_tree.specs.SpannedErasure.{expr_node};
 ghost use Rattle.minijinja_tree.specs.SpannedTrees as tree;
 
-use crate::nodes;
 use minijinja_base::error::Expected;
 use minijinja_base::tokens::{Span, Token};
 use minijinja_base::value::TemplateValue;
+use minijinja_expressions::nodes;
 use minijinja_stream::marks::{Mark, Part};
 use minijinja_stream::refusal::{Refusal, Wanted};
 use minijinja_stream::token_stream::TokenStream;

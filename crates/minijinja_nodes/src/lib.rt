@@ -1,9 +1,7 @@
-//! The nodes of a tree, as the rules of the grammar make them.
+//! The nodes of expressions, as the rules of the grammar make them.
 #![tactic(auto)]
 
 mod atoms;
-mod nodes;
-mod of_parts;
-mod statement_nodes;
+pub mod expressions;
+mod storable;
 pub mod tree_nodes;
-pub mod tree_statements;

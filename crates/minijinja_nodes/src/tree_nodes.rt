@@ -11,11 +11,12 @@ ghost use Rattle.minijinja_rules.specs.private.Made.{argument_of, node_tree};
 ghost use Rattle.minijinja_rules.specs.private.Primaries.{atom_at};
 ghost use Rattle.minijinja_stream.specs.private.Reads.{Reads};
 
-use crate::{atoms, nodes};
+use crate::atoms;
 use minijinja_base::error::Expected;
 use minijinja_base::syntax::SyntaxConfig;
 use minijinja_base::tokens::{Span, Token};
 use minijinja_base::value::TemplateValue;
+use minijinja_expressions::nodes;
 use minijinja_rules::nodes::{Argument, Node, Nodes};
 use minijinja_stream::marks::Mark;
 use minijinja_stream::refusal::{Refusal, Wanted};

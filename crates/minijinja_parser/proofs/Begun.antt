@@ -1,6 +1,6 @@
 -- Parsers of whole texts: what holds at the place where a parser begins holds before the first token of the text, or memory was
 -- refused for that token.
-use Rattle.std.proofs.Common.{◌≡◌, ◌⊎◌, inl, inr, None, Result, Ok, Err, IfErr, IsErrAnd, MatchResult, refl, sym, ap, subst}
+use Rattle.std.proofs.Common.{◌≡◌, [], ◌⊎◌, inl, inr, None, Result, Ok, Err, IfErr, IsErrAnd, MatchResult, refl, sym, ap, subst}
 use Rattle.minijinja_syntax.specs.Errors.{kind_of, span_of}
 use Rattle.minijinja_syntax.specs.Texts.{Text}
 use Rattle.minijinja_syntax.specs.Streams.{Stream}
@@ -13,14 +13,14 @@ use Rattle.minijinja_parser.specs.Parsing.{AnswersItsRefusal, HasRefused}
 use Rattle.minijinja_stream.specs.TokenStreams.{Comes, first_place, no_place, stream_at}
 
 module _ {A X : Type 0} (f : Form A) (view : X → A) (text : Text) (s : Stream) (p : Place) (r : Result X Error)
-    (source : p.source ≡ text) (last : p.last ≡ no_place) (comes : Comes s (stream_at p))
+    (source : p.source ≡ text) (last : p.last ≡ no_place) (names : p.names ≡ []) (comes : Comes s (stream_at p))
     (again : HasRefused p OutOfMemory None → IsErrAnd r (λ e. (kind_of e ≡ OutOfMemory) × (span_of e ≡ None))) where
   -- the place is before the first token, or the answer is want of memory
   begun : (first_place text s ≡ p) ⊎ IsErrAnd r (λ e. (kind_of e ≡ OutOfMemory) × (span_of e ≡ None))
   begun = go comes
     where
       go : Comes s (stream_at p) → (first_place text s ≡ p) ⊎ IsErrAnd r (λ e. (kind_of e ≡ OutOfMemory) × (span_of e ≡ None))
-      go (inl e) = let i = ap (λ (t : Stream). t.tokens) e in let j = ap (λ (t : Stream). t.ending) e in inl (rw (sym source, sym last, sym i, sym j) refl)
+      go (inl e) = let i = ap (λ (t : Stream). t.tokens) e in let j = ap (λ (t : Stream). t.ending) e in inl (rw (sym source, sym last, sym names, sym i, sym j) refl)
       go (inr h) = inr (again h.0)
 
   pub begun_refused : IfErr r (λ e. IsRefusal e → (t : A) → IsWholeOf f p t → ⊥) → IfErr r (λ e. IsRefusal e → (t : A) → IsWholeOf f (first_place text s) t → ⊥)

@@ -12,7 +12,7 @@ use Rattle.minijinja_value.specs.Values.{Functions}
 use Rattle.minijinja_tree.specs.Erasure.{stmt_tree}
 use Rattle.minijinja_tree.specs.SpannedErasure.{expr_node, stmt_node}
 use Rattle.minijinja_tree.specs.Tree.{done, template}
-use Rattle.minijinja_tree.specs.declared.ast.Expr.{Expr}
+use Rattle.minijinja_expressions.specs.declared.ast.Expr.{Expr}
 use Rattle.minijinja_tree.specs.declared.ast.Stmt.{Stmt}
 use Rattle.minijinja_grammar.specs.Derived.{IsTemplateTree, IsExprTree}
 use Rattle.minijinja_grammar.specs.Forms.{Place}

@@ -1,5 +1,5 @@
 //! From the tokens of a template to its tree.
-ghost use Rattle.std.specs.Prelude.{◌≡◌, ◌≢◌, ◌<◌, ◌≤◌, ◌^◌, codes, length, IfErr, IfOk, IsErrAnd};
+ghost use Rattle.std.specs.Prelude.{◌≡◌, ◌≢◌, ◌<◌, ◌≤◌, ◌^◌, [], codes, length, IfErr, IfOk, IsErrAnd};
 ghost use Rattle.minijinja_syntax.specs.Errors.{kind_of, span_of};
 ghost use Rattle.minijinja_syntax.specs.Streams.{refused};
 ghost use Rattle.minijinja_syntax.specs.Syntax.{default_syntax};
@@ -23,9 +23,10 @@ ghost use Rattle.minijinja_parser.specs.private.Wholes.{Ends, IsErrorAt, ReadsWh
 use minijinja_base::error::{Detail, Error, ErrorKind, Expected};
 use minijinja_base::syntax::SyntaxConfig;
 use minijinja_base::value::TemplateValue;
+use minijinja_nodes::expressions::expression;
 use minijinja_nodes::tree_nodes::TreeNodes;
-use minijinja_nodes::tree_statements::template;
-use minijinja_rules::rules::conditions::expr;
+use minijinja_statement_nodes::tree_statements::template;
+use minijinja_stream::forms::ExprForm;
 use minijinja_stream::marks::expected;
 use minijinja_stream::refusal::{Refusal, Wanted};
 pub use minijinja_stream::token_stream::TokenStream;
@@ -76,6 +77,7 @@ impl<'s, 'c> Parser<'s, 'c> {
         ensures filename { result.filename ≡ filename.now }
         ensures source { result.place.source ≡ text_of syntax.now source.now }
         ensures last { result.place.last ≡ no_place }
+        ensures names { result.place.names ≡ [] }
         ensures stream { Comes (tokens_of in_expr syntax.now source.now) (stream_at result.place) }
     {
         Parser {
@@ -105,6 +107,12 @@ impl<'s, 'c> Parser<'s, 'c> {
             Wanted::Keyword => return Detail::PlainAfterKeyword,
             Wanted::Loop => return Detail::OutsideLoop(self.last_word()),
             Wanted::Call => return Detail::NotACall,
+            Wanted::Storable => Expected::Identifier,
+            Wanted::NewName => Expected::Identifier,
+            Wanted::Blank => Expected::BlockKeyword,
+            Wanted::BlockName => Expected::BlockEnd,
+            Wanted::NoBlock => Expected::BlockKeyword,
+            Wanted::PublicName => Expected::Identifier,
         };
         if is_over {
             Detail::UnexpectedEnd(part)
@@ -236,7 +244,7 @@ impl<'s, 'c> Parser<'s, 'c> {
         ensures filename { self.new.filename ≡ self.old.filename }
     {
         let nodes = self.nodes();
-        let expr = expr(nodes, &mut self.tokens, PhantomData, MAX_DEPTH)?;
+        let expr = expression(nodes, &mut self.tokens, ExprForm::Full, MAX_DEPTH)?;
         self.end()?;
         Ok(expr)
     }

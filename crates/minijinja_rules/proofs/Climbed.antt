@@ -9,9 +9,9 @@ use Rattle.minijinja_syntax.specs.declared.tokens.Span.{Span}
 use Rattle.minijinja_tree.specs.BinOps as bin
 use Rattle.minijinja_tree.specs.SpannedTrees.{Expr, binary}
 use Rattle.minijinja_tree.specs.Erasure.{bin_op}
-use Rattle.minijinja_tree.specs.declared.ast.BinOpKind.{BinOpKind}
+use Rattle.minijinja_expressions.specs.declared.ast.BinOpKind.{BinOpKind}
 use Rattle.minijinja_grammar.specs.Grammar.{expanded}
-use Rattle.minijinja_tree.specs.declared.ast.BinOpKind.TheVariants as op
+use Rattle.minijinja_expressions.specs.declared.ast.BinOpKind.TheVariants as op
 use Rattle.minijinja_grammar.specs.Words.{is, not_word, begins_comparison}
 use Rattle.minijinja_grammar.specs.Forms.{Place, Form, Read, comes, start_at, got, read_then, read_one, reads}
 use Rattle.minijinja_grammar.specs.private.Climbing.{Row, binaries, comparing, Infix, binary_of, comparing_of, or_else, infix_in, next_infix, first_of, rest_of, level_of, operation, comparisons}

@@ -1,4 +1,5 @@
 pub mod Taking
 pub mod Turned
 mod InView
+mod Naming
 mod Comparisons

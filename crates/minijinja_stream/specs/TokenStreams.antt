@@ -22,7 +22,7 @@ stream_at p = record { tokens = p.tokens; ending = p.ending }
 
 -- the place before the first of these tokens
 abbrev pub first_place : Text → Stream → Place
-first_place text s = record { source = text; tokens = s.tokens; ending = s.ending; last = no_place }
+first_place text s = record { source = text; tokens = s.tokens; ending = s.ending; last = no_place; names = [] }
 
 -- the tokens to come, with one in view: those, or want of memory where the next of them needs some
 abbrev pub Comes : Stream → Stream → Type 0

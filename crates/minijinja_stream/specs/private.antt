@@ -1,5 +1,6 @@
 -- What proofs and the contracts of what the parser alone calls cite.
 pub mod AtTokenStream
+pub mod Forms
 pub mod Marks
 pub mod Reads
 pub mod Levels

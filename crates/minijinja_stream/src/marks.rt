@@ -20,12 +20,22 @@ pub enum Mark {
     Elif,
     Else,
     Recursive,
+    As,
+    Import,
+    Scoped,
+    Required,
+    Ignore,
+    Missing,
+    Context,
     EndFor,
     EndIf,
     EndWith,
     EndSet,
     EndAutoEscape,
     EndFilter,
+    EndBlock,
+    EndMacro,
+    EndCall,
     Not,
     In,
     Is,
@@ -58,6 +68,12 @@ pub enum Part {
     Bare,
     Text,
     Template,
+    /// An identifier.
+    Name,
+    /// `with` or `without`, before `context`.
+    Context,
+    /// What ends the names that are taken from a template.
+    NamesEnd,
     /// What follows the targets of a `set` block.
     SetBlock,
     /// What ends targets.
@@ -78,6 +94,9 @@ pub enum Ends {
     EndSet,
     EndAutoEscape,
     EndFilter,
+    EndBlock,
+    EndMacro,
+    EndCall,
 }
 
 /// Whether the token is that word.
@@ -92,15 +111,25 @@ pub fn expected(mark: Mark) -> Expected {
     match mark {
         Mark::If => Expected::If,
         Mark::Else => Expected::Else,
-        // These come where a body ends, in a tag.
+        // These come in a tag, or where a body ends.
         Mark::Elif
         | Mark::Recursive
+        | Mark::As
+        | Mark::Import
+        | Mark::Scoped
+        | Mark::Required
+        | Mark::Ignore
+        | Mark::Missing
+        | Mark::Context
         | Mark::EndFor
         | Mark::EndIf
         | Mark::EndWith
         | Mark::EndSet
         | Mark::EndAutoEscape
-        | Mark::EndFilter => Expected::BlockKeyword,
+        | Mark::EndFilter
+        | Mark::EndBlock
+        | Mark::EndMacro
+        | Mark::EndCall => Expected::BlockKeyword,
         Mark::Not => Expected::Not,
         Mark::In => Expected::In,
         Mark::Is => Expected::Is,
@@ -133,12 +162,22 @@ pub fn is_mark(token: &Token<'_>, mark: Mark) -> bool
         Mark::Elif => is_word(token, "elif"),
         Mark::Else => is_word(token, "else"),
         Mark::Recursive => is_word(token, "recursive"),
+        Mark::As => is_word(token, "as"),
+        Mark::Import => is_word(token, "import"),
+        Mark::Scoped => is_word(token, "scoped"),
+        Mark::Required => is_word(token, "required"),
+        Mark::Ignore => is_word(token, "ignore"),
+        Mark::Missing => is_word(token, "missing"),
+        Mark::Context => is_word(token, "context"),
         Mark::EndFor => is_word(token, "endfor"),
         Mark::EndIf => is_word(token, "endif"),
         Mark::EndWith => is_word(token, "endwith"),
         Mark::EndSet => is_word(token, "endset"),
         Mark::EndAutoEscape => is_word(token, "endautoescape"),
         Mark::EndFilter => is_word(token, "endfilter"),
+        Mark::EndBlock => is_word(token, "endblock"),
+        Mark::EndMacro => is_word(token, "endmacro"),
+        Mark::EndCall => is_word(token, "endcall"),
         Mark::Not => is_word(token, "not"),
         Mark::In => is_word(token, "in"),
         Mark::Is => is_word(token, "is"),
@@ -262,6 +301,24 @@ fn begins_template_part(token: &Token<'_>) -> bool
     )
 }
 
+fn is_name(token: &Token<'_>) -> bool
+    ensures { result ≡ words.is_identifier (tok_of token.now) }
+{
+    matches!(token, Token::Ident(_))
+}
+
+fn begins_context(token: &Token<'_>) -> bool
+    ensures { result ≡ statements.begins_context (tok_of token.now) }
+{
+    is_word(token, "with") || is_word(token, "without")
+}
+
+fn ends_names(token: &Token<'_>) -> bool
+    ensures { result ≡ statements.ends_names (tok_of token.now) }
+{
+    is_mark(token, Mark::BlockEnd) || begins_context(token)
+}
+
 fn begins_set_block(token: &Token<'_>) -> bool
     ensures { result ≡ statements.begins_set_block (tok_of token.now) }
 {
@@ -290,6 +347,9 @@ fn ends_body(token: &Token<'_>, ends: Ends) -> bool
         Ends::EndSet => is_mark(token, Mark::EndSet),
         Ends::EndAutoEscape => is_mark(token, Mark::EndAutoEscape),
         Ends::EndFilter => is_mark(token, Mark::EndFilter),
+        Ends::EndBlock => is_mark(token, Mark::EndBlock),
+        Ends::EndMacro => is_mark(token, Mark::EndMacro),
+        Ends::EndCall => is_mark(token, Mark::EndCall),
     }
 }
 
@@ -306,6 +366,9 @@ pub fn begins_part(token: &Token<'_>, part: Part) -> bool
         Part::Bare => begins_bare(token),
         Part::Text => is_text(token),
         Part::Template => begins_template_part(token),
+        Part::Name => is_name(token),
+        Part::Context => begins_context(token),
+        Part::NamesEnd => ends_names(token),
         Part::SetBlock => begins_set_block(token),
         Part::TargetsEnd => ends_targets(token),
         Part::BodyEnd(ends) => ends_body(token, ends),

@@ -24,6 +24,18 @@ pub enum Wanted {
     Loop,
     /// The expression is no call.
     Call,
+    /// The expression is nothing that may be stored to.
+    Storable,
+    /// A block before it has that name.
+    NewName,
+    /// It is no whitespace.
+    Blank,
+    /// The name is not that of the block.
+    BlockName,
+    /// A block stands in a macro.
+    NoBlock,
+    /// The name is not one that may be taken from a template.
+    PublicName,
 }
 
 /// Why a rule does not read the tokens that come. It stands at the token taken last.

@@ -1,5 +1,5 @@
 //! The tokens of a template, with the next one in view.
-ghost use Rattle.std.specs.Prelude.{◌≡◌, ◌<◌, ◌^◌, length, IfErr, IfSome, if◌then◌else◌};
+ghost use Rattle.std.specs.Prelude.{◌≡◌, ◌<◌, ◌^◌, [], length, IfErr, IfSome, if◌then◌else◌};
 ghost use Rattle.minijinja_syntax.specs.Errors.{kind_of, span_of};
 ghost use Rattle.minijinja_lexer.specs.Stream.{IsTokenizerKind};
 ghost use Rattle.minijinja_lexer.specs.TextTokens.{text_of, tokens_of_template, tokens_of_expression};
@@ -14,6 +14,7 @@ use minijinja_base::syntax::SyntaxConfig;
 use minijinja_base::tokens::{Span, Token};
 use minijinja_lexer::lexer::Tokenizer;
 use std::alloc::Global;
+use std::collections::BTreeSet;
 use std::marker::Model;
 use std::mem;
 
@@ -23,6 +24,8 @@ pub struct TokenStream<'s, 'c> {
     pub(crate) tokenizer: Tokenizer<'s, 'c>,
     pub(crate) current: Result<Option<(Token<'s>, Span)>, Error<'s>>,
     pub(crate) last_span: Span,
+    /// The names that were given so far.
+    pub(crate) names: BTreeSet<&'s str>,
 }
 
 impl<'s, 'c> Model for TokenStream<'s, 'c> {
@@ -51,6 +54,7 @@ impl<'s, 'c> TokenStream<'s, 'c> {
         ensures stream { Comes (if in_expr then tokens_of_expression syntax.now source.now else
             tokens_of_template syntax.now source.now) (stream_at result) }
         ensures last { result.last ≡ no_place }
+        ensures names { result.names ≡ [] }
     {
         let mut tokenizer = Tokenizer::new(alloc, source, filename, in_expr, syntax);
         let current = tokenizer.next_token();
@@ -58,6 +62,7 @@ impl<'s, 'c> TokenStream<'s, 'c> {
             tokenizer,
             current,
             last_span: Span::default(),
+            names: BTreeSet::new(alloc),
         }
     }
 
@@ -69,6 +74,7 @@ impl<'s, 'c> TokenStream<'s, 'c> {
         ensures cause { IfErr result (λ e. IsTokenizerKind (kind_of e)) }
         ensures last { self.new.last ≡ last_after result self.old.last }
         ensures source { self.new.source ≡ self.old.source }
+        ensures names { self.new.names ≡ self.old.names }
     {
         if let Err(error) = &self.current {
             return Err(*error);

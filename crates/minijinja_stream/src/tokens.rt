@@ -11,6 +11,7 @@ ghost use Rattle.minijinja_tree.specs.Erasure.{compare_op};
 ghost use Rattle.minijinja_grammar.specs.Forms.{Place, comes, one, reads, start_at};
 ghost use Rattle.minijinja_grammar.specs.Grammar.{expanded, ident_and_span, next};
 ghost use Rattle.minijinja_grammar.specs.Words.{is};
+ghost use Rattle.minijinja_stream.specs.private.Forms.{new_ident_and_span};
 ghost use Rattle.minijinja_stream.specs.private.Levels.{compare_op_at, next_compare, next_operator};
 ghost use Rattle.minijinja_stream.specs.private.Marks.{begins, keyword_view, mark_tok};
 ghost use Rattle.minijinja_stream.specs.private.Reads.{Misfits, Reads, eaten, next_ident, skipped};
@@ -285,4 +286,19 @@ pub fn ident<'s>(
         Some(name) => Ok((name, span)),
         None => Err(Refusal::Wrong(wanted)),
     }
+}
+
+/// Takes an identifier, which a refusal calls `wanted`, as a name that was not given before, and gives it.
+#[tactic(auto, using(crate::proofs::Naming::new_ident_is))]
+pub fn new_ident<'s>(
+    tokens: &mut TokenStream<'s, '_>,
+    wanted: Wanted,
+) -> Result<(&'s str, Span), Refusal>
+    ensures { Reads (λ t. (t.0.now, t.1)) (reads new_ident_and_span tokens.old) result tokens.new }
+{
+    let (name, span) = ident(tokens, wanted)?;
+    if !tokens.names.insert(name)? {
+        return Err(tokens.misfit(Wanted::NewName));
+    }
+    Ok((name, span))
 }

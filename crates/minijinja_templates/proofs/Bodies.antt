@@ -4,10 +4,10 @@ use Rattle.minijinja_syntax.specs.Tokens.{Tok, template_data, variable_start, bl
 use Rattle.minijinja_syntax.specs.Streams.{SpannedTok}
 use Rattle.minijinja_syntax.specs.declared.tokens.Span.{Span}
 use Rattle.minijinja_value.specs.Values.{Functions}
-use Rattle.minijinja_tree.specs.SpannedTrees.{Stmt, data_text}
-use Rattle.minijinja_grammar.specs.Forms.{Place, Turn, go_on, over, Form, pure, one, comes, Read, got, short, wrong, misfit, read_then, after, held_or_wrong, read_one, read_turn, if_held, read_any, reads, ◌>>=◌}
+use Rattle.minijinja_tree.specs.SpannedTrees.{Stmt}
+use Rattle.minijinja_grammar.specs.Forms.{Place, Turn, go_on, over, one, comes, Read, got, short, wrong, misfit, read_then, after, held_or_wrong, read_one, read_turn, if_held, read_any, reads}
 use Rattle.minijinja_grammar.specs.Grammar.{of_kind, expr_at}
-use Rattle.minijinja_grammar.specs.Statements.{Context, Ends, also_part, begins_part, body, ends_body, part, shown, stmt_at, tag}
+use Rattle.minijinja_grammar.specs.Statements.{Context, Ends, begins_part, body, ends_body, part, shown, stmt_at, tag}
 use Rattle.minijinja_grammar.proofs.Unrolled.{many_is}
 use Rattle.minijinja_grammar.proofs.Forms.{sound, no_longer}
 use Rattle.minijinja_templates.specs.private.Bodies.{further, part_at, piece, rest_of_body, some_of, with_part}

@@ -1,7 +1,6 @@
 -- The branches of an `if` after the first one, one at a time.
-use Rattle.std.proofs.Common.{◌≡◌, Bool, true, false, if◌then◌else◌, List, [], ◌∷◌, Option, Some, None, refl, ◌∙◌}
+use Rattle.std.proofs.Common.{◌≡◌, Bool, true, false, if◌then◌else◌, List, [], ◌∷◌, Some, None, refl, ◌∙◌}
 use Rattle.minijinja_syntax.specs.Streams.{SpannedTok}
-use Rattle.minijinja_syntax.specs.declared.tokens.Span.{Span}
 use Rattle.minijinja_grammar.specs.Words.{is, elif_word}
 use Rattle.minijinja_grammar.specs.Forms.{Place, Read, go_on, got, short, wrong, comes, read_then, read_turn, read_any, read_one, held_or_wrong, if_held, after, reads}
 use Rattle.minijinja_grammar.specs.Grammar.{next, span_of_mark}

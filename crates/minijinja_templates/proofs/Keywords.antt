@@ -1,7 +1,6 @@
 -- Statements, by their depth and their first word.
-use Rattle.std.proofs.Common.{◌≡◌, ◌≢◌, ◌-◌, arith, ℕ, zero, suc, refl, ap, Err}
+use Rattle.std.proofs.Common.{◌≡◌, ◌≢◌, ◌-◌, arith, ℕ, zero, suc, refl}
 use Rattle.minijinja_value.specs.Values.{Functions}
-use Rattle.minijinja_syntax.specs.declared.tokens.Span.{Span}
 use Rattle.minijinja_grammar.specs.Forms.{Place, one, read_then, reads}
 use Rattle.minijinja_grammar.specs.Statements.{Context, keyword_and_span, parts_at, stmt_at, stmt_of}
 

@@ -4,4 +4,8 @@ pub mod Bodies
 pub mod Branches
 pub mod Calls
 pub mod Bindings
+pub mod Blanks
+pub mod Blocks
+pub mod Imports
+pub mod Params
 pub mod Keywords

@@ -1,5 +1,5 @@
 -- Targets in parentheses, a step at a time.
-use Rattle.std.proofs.Common.{◌≡◌, ◌<◌, ◌≤◌, ◌-◌, arith, length, ℕ, zero, suc, Bool, true, false, if◌then◌else◌, List, [], ◌∷◌, ◌++◌, Option, Some, None, Result, Ok, Err, refl, sym, ap, ◌∙◌, subst}
+use Rattle.std.proofs.Common.{◌≡◌, ◌<◌, ◌≤◌, arith, length, ℕ, zero, suc, Bool, true, false, if◌then◌else◌, List, [], ◌∷◌, ◌++◌, Result, Ok, Err, refl, ap, ◌∙◌}
 use Rattle.std.specs.Prelude.{◌&&◌, nat_lt}
 use Rattle.std.proofs.lemmas.Bool.{ltb-true, ltb-false}
 use Rattle.minijinja_syntax.specs.Tokens.{Tok, comma, paren_open, paren_close}
@@ -8,8 +8,8 @@ use Rattle.minijinja_syntax.specs.declared.tokens.Span.{Span}
 use Rattle.minijinja_tree.specs.SpannedTrees.{Expr, exprs_of}
 use Rattle.minijinja_tree.specs.SpannedTrees as tree
 use Rattle.minijinja_grammar.specs.Words.{is}
-use Rattle.minijinja_grammar.specs.Forms.{Form, Place, Read, Turn, go_on, over, got, short, wrong, comes, after, either, many, pure, read_one, read_then, read_turn, read_any, if_held, reads, start_at, ◌>>=◌, ◌>>◌}
-use Rattle.minijinja_grammar.specs.Grammar.{expanded, next, span_of_mark, spanned}
+use Rattle.minijinja_grammar.specs.Forms.{Form, Place, Read, go_on, got, short, wrong, comes, read_one, read_then, read_turn, read_any, reads, start_at}
+use Rattle.minijinja_grammar.specs.Grammar.{expanded, next, span_of_mark}
 use Rattle.minijinja_grammar.specs.Targets.{ends_targets, any_targets, targets, most_parentheses, named_target, next_target, target_in}
 use Rattle.minijinja_stream.specs.private.Reads.{eaten}
 use Rattle.minijinja_grammar.proofs.Forms.{same_read}

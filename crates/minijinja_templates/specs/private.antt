@@ -4,3 +4,7 @@ pub mod Made
 pub mod Targets
 pub mod Bodies
 pub mod Branches
+pub mod Blanks
+pub mod Blocks
+pub mod Macros
+pub mod Modules

@@ -7,9 +7,12 @@ use crate::statements::Statements;
 use minijinja_stream::refusal::Refusal;
 use std::marker::PhantomData;
 
+mod blocks;
 pub mod bodies;
 mod conditions;
 mod loops;
+mod macros;
+mod modules;
 mod scopes;
 pub mod statements;
 mod targets;
@@ -17,8 +20,10 @@ mod targets;
 /// Where a statement stands.
 #[derive(Clone, Copy)]
 pub struct Context {
-    /// Whether it stands in the body of a loop.
+    /// Whether it stands in the body of a loop, in the same block, macro or call block.
     pub in_loop: bool,
+    /// Whether it stands in a macro or a call block.
+    pub in_macro: bool,
 }
 
 /// The rules, over the parser of what is nested: a statement in which statements and expressions nest `depth` deep at most.

@@ -5,12 +5,12 @@ ghost use Rattle.std.specs.Option.{option_map};
 ghost use Rattle.minijinja_syntax.specs.Texts.{Text};
 ghost use Rattle.minijinja_value.specs.Values.{Functions};
 ghost use Rattle.minijinja_tree.specs.SpannedTrees.{Expr, Stmt};
-ghost use Rattle.minijinja_grammar.specs.Forms.{one};
-ghost use Rattle.minijinja_grammar.specs.Grammar.{ident_and_span};
-ghost use Rattle.minijinja_templates.specs.private.Made.{is_a_call, opening_of, opening_tok, statement_tree, target_tree};
-ghost use Rattle.minijinja_templates.specs.private.Parses.{Parses, expr_of};
+ghost use Rattle.minijinja_stream.specs.private.Forms.{expr_of, ident_of};
+ghost use Rattle.minijinja_templates.specs.private.Made.{opening_of, opening_tok, statement_tree, target_tree};
+ghost use Rattle.minijinja_templates.specs.private.Parses.{Parses};
 
 use minijinja_base::tokens::Span;
+use minijinja_stream::forms::{ExprForm, IdentForm};
 use minijinja_stream::refusal::{Refusal, Wanted};
 use minijinja_stream::tokens::Tokens;
 use std::alloc::{AllocError, Global};
@@ -24,19 +24,6 @@ pub enum Opening<N> {
     Output,
     /// The start of a statement.
     Statement,
-}
-
-/// What an expression may be where it stands.
-#[derive(Clone, Copy)]
-pub enum ExprForm {
-    /// Any expression.
-    Full,
-    /// One that takes no `if` part at its end.
-    Or,
-    /// Any expression, or a tuple where a comma follows it.
-    Value,
-    /// A chain of filters, the innermost of which has no operand.
-    Chain,
 }
 
 /// The parts of a target, over names and expressions.
@@ -63,6 +50,13 @@ pub enum Kind {
     SetBlock,
     AutoEscape,
     FilterBlock,
+    Block,
+    Extends,
+    Include,
+    Import,
+    FromImport,
+    Macro,
+    CallBlock,
     Do,
     Break,
     Continue,
@@ -73,18 +67,21 @@ pub enum Kind {
 #[derive(Drop)]
 pub struct StatementParts<N, E, S> {
     pub kind: Kind,
-    /// Text as it stands in the source.
+    /// Text as it stands in the source, or a name.
     pub name: Option<N>,
     pub target: Option<E>,
-    /// What is written, assigned, tested or gone through, or the chain of filters of a filter block.
+    /// What is written, assigned, tested, gone through or called, the chain of filters of a filter block, or the name of a template.
     pub expr: Option<E>,
     /// The test that an item of a loop has to pass, or the filters of a set block.
     pub filter: Option<E>,
     /// Targets with their values.
     pub assignments: Vec<(E, E)>,
+    /// Names that are taken from a template, with their aliases, or arguments of a macro, with their defaults.
+    pub names: Vec<(E, Option<E>)>,
     pub body: Vec<S>,
     pub else_body: Vec<S>,
-    pub recursive: bool,
+    /// Whether a loop is recursive, a block is required, or a template may be missing.
+    pub flag: bool,
 }
 
 /// A statement of that kind, without parts.
@@ -98,9 +95,10 @@ pub(crate) fn of_kind<N: Copy + Drop, E: Drop, S: Drop>(
     ensures expr { result.expr ≡ None }
     ensures filter { result.filter ≡ None }
     ensures assignments { result.assignments.items ≡ [] }
+    ensures names { result.names.items ≡ [] }
     ensures body { result.body.items ≡ [] }
     ensures else_body { result.else_body.items ≡ [] }
-    ensures recursive { result.recursive ≡ false }
+    ensures flag { result.flag ≡ false }
 {
     StatementParts {
         kind,
@@ -109,9 +107,10 @@ pub(crate) fn of_kind<N: Copy + Drop, E: Drop, S: Drop>(
         expr: None,
         filter: None,
         assignments: Vec::new(alloc),
+        names: Vec::new(alloc),
         body: Vec::new(alloc),
         else_body: Vec::new(alloc),
-        recursive: false,
+        flag: false,
     }
 }
 
@@ -156,10 +155,15 @@ pub trait Statements: Copy {
         ensures { Parses Self.Input.place tree (expr_of functions form depth) tokens.old result
             tokens.new };
 
-    /// An identifier, which a refusal calls `wanted`.
-    fn ident(&self, tokens: &mut Self::Input, wanted: Wanted) -> Result<(Self::Name, Span), Refusal>
-        ensures { Parses Self.Input.place (λ t. (text t.0, t.1)) (one ident_and_span) tokens.old
-            result tokens.new };
+    /// An identifier of that form, which a refusal calls `wanted`.
+    fn ident(
+        &self,
+        tokens: &mut Self::Input,
+        form: IdentForm,
+        wanted: Wanted,
+    ) -> Result<(Self::Name, Span), Refusal>
+        ensures { Parses Self.Input.place (λ t. (text t.0, t.1)) (ident_of form) tokens.old result
+            tokens.new };
 
     /// The letters of a name.
     fn letters(name: &Self::Name) -> &str
@@ -177,10 +181,6 @@ pub trait Statements: Copy {
     fn opening(token: &<Self::Input as Tokens>::Token) -> Option<Opening<Self::Name>>
         ensures { option_map (opening_tok text) result ≡ opening_of
             (Self.Input.tok token.now) };
-
-    /// Whether an expression is a call.
-    fn is_call(expr: &Self::Expr) -> bool
-        ensures { result ≡ is_a_call (tree expr.now) };
 
     /// A statement of these parts. Refused memory is the only error.
     fn statement(

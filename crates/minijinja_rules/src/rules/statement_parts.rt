@@ -3,19 +3,42 @@ ghost use Rattle.std.specs.Option.{option_map};
 ghost use Rattle.minijinja_grammar.specs.Grammar.{expr_at};
 ghost use Rattle.minijinja_grammar.specs.Statements as form;
 ghost use Rattle.minijinja_rules.specs.private.Nests.{Nests, Parses};
+ghost use Rattle.minijinja_stream.specs.private.Forms.{plain_of};
 
 use crate::nodes::{Node, Nodes};
 use crate::rules::Rules;
 use crate::rules::conditions::expr;
 use minijinja_base::tokens::Span;
+use minijinja_stream::forms::ExprForm;
 use minijinja_stream::marks::Mark;
 use minijinja_stream::operators::Level;
 use minijinja_stream::refusal::Refusal;
 use minijinja_stream::tokens::Tokens;
 use std::marker::PhantomData;
 
+/// An expression of that form, but that it may be one that is no call, or not to be stored to, in which expressions and primaries
+/// nest `depth` deep at most.
+pub fn expression<N: Nodes>(
+    nodes: N,
+    tokens: &mut N::Input,
+    form: ExprForm,
+    depth: usize,
+) -> Result<N::Expr, Refusal>
+    ensures { Parses N.Input.place N.tree (plain_of N.functions form depth) tokens.old result
+        tokens.new }
+{
+    match form {
+        ExprForm::Full | ExprForm::Call | ExprForm::Storable => {
+            expr(nodes, tokens, PhantomData, depth)
+        }
+        ExprForm::Or => or(nodes, tokens, depth),
+        ExprForm::Value => value(nodes, tokens, depth),
+        ExprForm::Chain => chain(nodes, tokens, depth),
+    }
+}
+
 /// An expression that takes no `if` part at its end, in which expressions and primaries nest `depth` deep at most.
-pub fn or<N: Nodes>(nodes: N, tokens: &mut N::Input, depth: usize) -> Result<N::Expr, Refusal>
+fn or<N: Nodes>(nodes: N, tokens: &mut N::Input, depth: usize) -> Result<N::Expr, Refusal>
     ensures { Parses N.Input.place N.tree (form.or_at N.functions depth) tokens.old result
         tokens.new }
 {
@@ -29,7 +52,7 @@ pub fn or<N: Nodes>(nodes: N, tokens: &mut N::Input, depth: usize) -> Result<N::
 
 /// An expression, or a tuple where a comma follows it, likewise.
 #[tactic(auto, using(minijinja_stream::proofs::Turned::behind_is), unfolding(minijinja_grammar::specs::Forms::reads, minijinja_grammar::specs::Statements::value))]
-pub fn value<N: Nodes>(nodes: N, tokens: &mut N::Input, depth: usize) -> Result<N::Expr, Refusal>
+fn value<N: Nodes>(nodes: N, tokens: &mut N::Input, depth: usize) -> Result<N::Expr, Refusal>
     ensures { Parses N.Input.place N.tree (form.value (expr_at N.functions depth)) tokens.old result
         tokens.new }
 {
@@ -52,7 +75,7 @@ pub fn value<N: Nodes>(nodes: N, tokens: &mut N::Input, depth: usize) -> Result<
 
 /// A chain of filters, the innermost of which has no operand, likewise.
 #[tactic(auto, using(crate::proofs::FilterChains::chain_is, crate::proofs::FilterChains::links_is))]
-pub fn chain<N: Nodes>(nodes: N, tokens: &mut N::Input, depth: usize) -> Result<N::Expr, Refusal>
+fn chain<N: Nodes>(nodes: N, tokens: &mut N::Input, depth: usize) -> Result<N::Expr, Refusal>
     ensures { Parses N.Input.place N.tree (form.chain (expr_at N.functions depth)) tokens.old result
         tokens.new }
 {

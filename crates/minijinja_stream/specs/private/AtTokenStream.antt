@@ -1,5 +1,6 @@
 -- The model of `TokenStream`.
-use Rattle.std.specs.Prelude.{◌≡◌, ◌∷◌, [], Option, Some, None, Result, Ok, Err}
+use Rattle.std.specs.Prelude.{◌≡◌, ◌∷◌, [], map, Option, Some, None, Result, Ok, Err}
+use Rattle.std.specs.BTreeSet.{keys}
 use Rattle.minijinja_syntax.specs.Errors.{kind_of, span_of}
 use Rattle.minijinja_syntax.specs.Streams.{Stream, before, ended, finished, refused, spanned_tok}
 use Rattle.minijinja_syntax.specs.declared.tokens.Token.{Token}
@@ -28,6 +29,7 @@ place_of a = record {
   tokens = (joined a.current a.tokenizer.stream).tokens;
   ending = (joined a.current a.tokenizer.stream).ending;
   last = a.last_span;
+  names = map (λ x. x.now) (keys a.names);
 }
 
 -- the token in view is ahead of those of the tokenizer, and stands between characters

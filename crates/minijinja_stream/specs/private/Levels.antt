@@ -5,7 +5,7 @@ use Rattle.minijinja_syntax.specs.Tokens as tok
 use Rattle.minijinja_syntax.specs.Tokens.{Tok}
 use Rattle.minijinja_tree.specs.CompareOps.{CompareOp}
 use Rattle.minijinja_tree.specs.SpannedTrees.{Expr}
-use Rattle.minijinja_tree.specs.declared.ast.BinOpKind.TheVariants as op
+use Rattle.minijinja_expressions.specs.declared.ast.BinOpKind.TheVariants as op
 use Rattle.minijinja_tree.specs.Erasure.{bin_op}
 use Rattle.minijinja_grammar.specs.Words.{is, and_word, or_word, begins_comparison, compare_op, and_op, sum_op, cat_op, term_op, pow_op}
 use Rattle.minijinja_grammar.specs.Forms.{Place, Read, Form, got, one, read_then, reads}

@@ -2,31 +2,21 @@
 use Rattle.std.specs.Prelude.{ℕ, ◌≤◌, Result}
 use denote.Ref.{MutBor}
 use Rattle.minijinja_value.specs.Values.{Functions}
-use Rattle.minijinja_tree.specs.SpannedTrees.{Expr, Stmt}
+use Rattle.minijinja_tree.specs.SpannedTrees.{Stmt}
 use Rattle.minijinja_grammar.specs.Forms.{Form, Place, reads}
-use Rattle.minijinja_grammar.specs.Grammar.{expr_at}
 use Rattle.minijinja_grammar.specs.Statements as grammar
-use Rattle.minijinja_grammar.specs.Statements.{chain, or_at, stmt_at, value}
+use Rattle.minijinja_grammar.specs.Statements.{stmt_at}
 use Rattle.minijinja_stream.specs.private.Reads.{Reads}
 use Rattle.minijinja_stream.specs.declared.refusal.Refusal.{Refusal}
 use Rattle.minijinja_templates.specs.declared.rules.Context.{Context}
-use Rattle.minijinja_templates.specs.declared.statements.ExprForm.{ExprForm}
-use Rattle.minijinja_templates.specs.declared.statements.ExprForm.TheVariants as form
 
 -- what reading the form from some tokens comes to, and which are left then
 abbrev pub Parses : {T A X : Type 0} → (T → Place) → (X → A) → Form A → T → Result X Refusal → T → Type 0
 Parses place view form old result new = Reads view (reads form (place old)) result (place new)
 
--- what an expression of that form is read by
-abbrev pub expr_of : {C F : Type 0} → Functions C F → ExprForm → ℕ → Form (Expr C)
-expr_of f form.Full d = expr_at f d
-expr_of f form.Or d = or_at f d
-expr_of f form.Value d = value (expr_at f d)
-expr_of f form.Chain d = chain (expr_at f d)
-
 -- where statements stand
 abbrev pub context_of : Context → grammar.Context
-context_of c = record { in_loop = c.in_loop }
+context_of c = record { in_loop = c.in_loop; in_macro = c.in_macro }
 
 -- called with any depth up to this, it parses a statement of that depth, wherever it stands
 pub record Nests {N T X M C F P : Type 0} (place : T → Place) (stmt : X → Stmt C) (f : Functions C F) (depth : ℕ)

@@ -11,9 +11,10 @@ ghost use Rattle.minijinja_templates.specs.private.Bodies.{part_at};
 ghost use Rattle.minijinja_templates.specs.private.Parses.{Nests, Parses, context_of};
 
 use crate::rules::{Context, Rules};
-use crate::statements::{ExprForm, Kind, Opening, Statements, of_kind};
+use crate::statements::{Kind, Opening, Statements, of_kind};
 use minijinja_base::error::Expected;
 use minijinja_base::tokens::Span;
+use minijinja_stream::forms::ExprForm;
 use minijinja_stream::marks::{Ends, Mark, Part};
 use minijinja_stream::refusal::{Refusal, Wanted};
 use minijinja_stream::tokens::Tokens;
@@ -41,7 +42,11 @@ fn output<S: Statements>(
 
 /// Text outside of tags.
 #[tactic(auto, unfolding(crate::specs::private::Made::statement_tree))]
-fn data<S: Statements>(statements: S, raw: S::Name, span: Span) -> Result<S::Stmt, AllocError>
+pub(super) fn data<S: Statements>(
+    statements: S,
+    raw: S::Name,
+    span: Span,
+) -> Result<S::Stmt, AllocError>
     ensures { IfOk result (λ s. S.stmt s ≡ data_text (S.text raw) span) }
 {
     let mut parts = of_kind(statements.alloc(), Kind::Data);

@@ -6,8 +6,9 @@ ghost use Rattle.minijinja_templates.specs.private.Branches.{branch_view};
 ghost use Rattle.minijinja_templates.specs.private.Parses.{Nests, Parses, context_of};
 
 use crate::rules::{Context, Rules};
-use crate::statements::{ExprForm, Kind, Statements, of_kind};
+use crate::statements::{Kind, Statements, of_kind};
 use minijinja_base::tokens::Span;
+use minijinja_stream::forms::ExprForm;
 use minijinja_stream::marks::{Ends, Mark};
 use minijinja_stream::refusal::Refusal;
 use minijinja_stream::tokens::Tokens;

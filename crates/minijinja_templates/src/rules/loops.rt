@@ -8,8 +8,9 @@ ghost use Rattle.minijinja_templates.specs.private.Parses.{Nests, Parses, contex
 
 use crate::rules::targets::any_targets;
 use crate::rules::{Context, Rules};
-use crate::statements::{ExprForm, Kind, Statements, of_kind};
+use crate::statements::{Kind, Statements, of_kind};
 use minijinja_base::tokens::Span;
+use minijinja_stream::forms::ExprForm;
 use minijinja_stream::marks::{Ends, Mark};
 use minijinja_stream::refusal::Refusal;
 use minijinja_stream::tokens::Tokens;
@@ -54,7 +55,10 @@ impl<
         tokens.expect(Mark::BlockEnd)?;
         let inner = Rules {
             statements: self.statements,
-            context: Context { in_loop: true },
+            context: Context {
+                in_loop: true,
+                in_macro: self.context.in_macro,
+            },
             depth: self.depth,
             stmt: self.stmt,
         };
@@ -81,7 +85,7 @@ impl<
         parts.target = Some(target);
         parts.expr = Some(iter);
         parts.filter = filter_expr;
-        parts.recursive = recursive;
+        parts.flag = recursive;
         parts.body = body;
         parts.else_body = else_body;
         Ok(self.statements.statement(parts, span)?)

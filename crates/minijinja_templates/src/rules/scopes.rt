@@ -9,8 +9,9 @@ ghost use Rattle.minijinja_templates.specs.private.Parses.{Nests, Parses, contex
 
 use crate::rules::targets::{any_targets, stored_name};
 use crate::rules::{Context, Rules};
-use crate::statements::{ExprForm, Kind, Statements, of_kind};
+use crate::statements::{Kind, Statements, of_kind};
 use minijinja_base::tokens::Span;
+use minijinja_stream::forms::ExprForm;
 use minijinja_stream::marks::{Ends, Mark, Part};
 use minijinja_stream::refusal::Refusal;
 use minijinja_stream::tokens::Tokens;

@@ -6,9 +6,11 @@ ghost use Rattle.minijinja_grammar.specs.Templates.{template_at};
 ghost use Rattle.minijinja_stream.specs.private.Marks.{keyword_view};
 ghost use Rattle.minijinja_templates.specs.private.Parses.{Nests, Parses, context_of};
 
+use crate::rules::modules::{extends_stmt, from_stmt, import_stmt, include_stmt};
 use crate::rules::{Context, Rules};
-use crate::statements::{ExprForm, Kind, Statements, of_kind};
+use crate::statements::{Kind, Statements, of_kind};
 use minijinja_base::tokens::Span;
+use minijinja_stream::forms::ExprForm;
 use minijinja_stream::marks::Ends;
 use minijinja_stream::refusal::{Refusal, Wanted};
 use minijinja_stream::tokens::Tokens;
@@ -27,7 +29,10 @@ pub fn template<S: Statements>(
 {
     let rules = Rules {
         statements,
-        context: Context { in_loop: false },
+        context: Context {
+            in_loop: false,
+            in_macro: false,
+        },
         depth,
         stmt: stmt::<S>,
     };
@@ -66,7 +71,7 @@ pub fn stmt<S: Statements>(
 }
 
 /// `do`, after its word.
-#[tactic(auto, using(crate::proofs::Calls::done_is, crate::proofs::Calls::not_done), unfolding(crate::specs::private::Made::statement_tree, minijinja_grammar::specs::Forms::reads, minijinja_grammar::specs::Statements::do_stmt))]
+#[tactic(auto, using(crate::proofs::Calls::do_is), unfolding(crate::specs::private::Made::statement_tree))]
 fn do_stmt<S: Statements>(
     statements: S,
     tokens: &mut S::Input,
@@ -76,11 +81,8 @@ fn do_stmt<S: Statements>(
     ensures { Parses S.Input.place S.stmt (form.do_stmt (expr_at S.functions depth) from) tokens.old
         result tokens.new }
 {
-    let expr = statements.expr(tokens, ExprForm::Full, depth)?;
+    let expr = statements.expr(tokens, ExprForm::Call, depth)?;
     let span = tokens.expand_span(from);
-    if !S::is_call(&expr) {
-        return Err(tokens.misfit(Wanted::Call));
-    }
     let mut parts = of_kind(statements.alloc(), Kind::Do);
     parts.expr = Some(expr);
     Ok(statements.statement(parts, span)?)
@@ -155,6 +157,13 @@ impl<
             Keyword::Set => self.set_stmt(tokens, from),
             Keyword::AutoEscape => self.autoescape_stmt(tokens, from),
             Keyword::Filter => self.filter_stmt(tokens, from),
+            Keyword::Block => self.block_stmt(tokens, from),
+            Keyword::Extends => extends_stmt(self.statements, tokens, self.depth, from),
+            Keyword::Include => include_stmt(self.statements, tokens, self.depth, from),
+            Keyword::Import => import_stmt(self.statements, tokens, self.depth, from),
+            Keyword::From => from_stmt(self.statements, tokens, self.depth, from),
+            Keyword::Macro => self.macro_stmt(tokens, from),
+            Keyword::Call => self.call_stmt(tokens, from),
             Keyword::Do => do_stmt(self.statements, tokens, self.depth, from),
             Keyword::Break => break_stmt(self.statements, tokens, self.context, from),
             Keyword::Continue => continue_stmt(self.statements, tokens, self.context, from),

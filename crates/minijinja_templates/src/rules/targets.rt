@@ -8,6 +8,7 @@ ghost use Rattle.minijinja_templates.specs.private.Targets.{Resumes, after_whole
 use crate::statements::{Statements, Target};
 use minijinja_base::error::Expected;
 use minijinja_base::tokens::Span;
+use minijinja_stream::forms::IdentForm;
 use minijinja_stream::marks::{Mark, Part};
 use minijinja_stream::refusal::{Refusal, Wanted};
 use minijinja_stream::tokens::Tokens;
@@ -56,25 +57,39 @@ fn assignable<S: Statements>(
         tokens.new }
 {
     let wanted = Wanted::Part(Expected::Identifier);
-    let (name, span) = statements.ident(tokens, wanted)?;
+    let (name, span) = statements.ident(tokens, IdentForm::Any, wanted)?;
     if let Some(wanted) = wanted_for(S::letters(&name)) {
         return Err(Refusal::Wrong(wanted));
     }
     Ok((name, span))
 }
 
+/// A name that is not reserved.
+#[tactic(auto, using(crate::proofs::Names::name_is))]
+pub(super) fn name<S: Statements>(
+    statements: S,
+    tokens: &mut S::Input,
+) -> Result<(S::Name, Span), Refusal>
+    ensures { Parses S.Input.place (λ t. (S.text t.0, t.1)) (one form.name_word) tokens.old result
+        tokens.new }
+{
+    let wanted = Wanted::Part(Expected::Identifier);
+    let (name, span) = statements.ident(tokens, IdentForm::Any, wanted)?;
+    if is_reserved(S::letters(&name)) {
+        return Err(Refusal::Wrong(Wanted::Target));
+    }
+    Ok((name, span))
+}
+
 /// A name by itself, which may be `in`.
-#[tactic(auto, using(crate::proofs::Names::name_is), unfolding(minijinja_grammar::specs::Forms::reads, minijinja_grammar::specs::Targets::stored_name))]
+#[tactic(auto, unfolding(minijinja_grammar::specs::Forms::reads, minijinja_grammar::specs::Targets::stored_name))]
 pub(super) fn stored_name<S: Statements>(
     statements: S,
     tokens: &mut S::Input,
 ) -> Result<S::Expr, Refusal>
     ensures { Parses S.Input.place S.tree form.stored_name tokens.old result tokens.new }
 {
-    let (name, span) = statements.ident(tokens, Wanted::Part(Expected::Identifier))?;
-    if is_reserved(S::letters(&name)) {
-        return Err(Refusal::Wrong(Wanted::Target));
-    }
+    let (name, span) = name(statements, tokens)?;
     Ok(statements.target(Target::Name(name), span)?)
 }
 
@@ -90,7 +105,11 @@ fn attributes<S: Statements>(
 {
     let mut target = target;
     while tokens.eat(Mark::Dot)? {
-        let (name, span) = statements.ident(tokens, Wanted::Part(Expected::Identifier))?;
+        let (name, span) = statements.ident(
+            tokens,
+            IdentForm::Any,
+            Wanted::Part(Expected::Identifier),
+        )?;
         target = statements.target(Target::Attribute(target, name), span)?;
     }
     Ok(target)

@@ -12,19 +12,19 @@ pub returns-clause-refused : goal.returns-clause-refused
 returns-clause-refused g c =
     begun_refused (expr_at g.V.TemplateValue.functions max_depth) (expr_node {F = g.row.V-Fault.Denot} g.V.TemplateValue.contents)
     (text_of default_syntax c.args.source.now) (tokens_of_expression default_syntax c.args.source.now) c.new-parser.result.place c.parse_standalone_expr.result
-    (c.new-parser.ensures.source ∙ ap (λ y. text_of y c.args.source.now) c.default-syntax.ensures) c.new-parser.ensures.last
+    (c.new-parser.ensures.source ∙ ap (λ y. text_of y c.args.source.now) c.default-syntax.ensures) c.new-parser.ensures.last c.new-parser.ensures.names
     (subst (λ y. Comes (tokens_of_expression y c.args.source.now) (stream_at c.new-parser.result.place)) c.default-syntax.ensures c.new-parser.ensures.stream) (c.parse_standalone_expr.ensures.again OutOfMemory None) c.parse_standalone_expr.ensures.refused
 
 pub returns-clause-only : goal.returns-clause-only
 returns-clause-only g c =
     begun_only (expr_at g.V.TemplateValue.functions max_depth) (expr_node {F = g.row.V-Fault.Denot} g.V.TemplateValue.contents)
     (text_of default_syntax c.args.source.now) (tokens_of_expression default_syntax c.args.source.now) c.new-parser.result.place c.parse_standalone_expr.result
-    (c.new-parser.ensures.source ∙ ap (λ y. text_of y c.args.source.now) c.default-syntax.ensures) c.new-parser.ensures.last
+    (c.new-parser.ensures.source ∙ ap (λ y. text_of y c.args.source.now) c.default-syntax.ensures) c.new-parser.ensures.last c.new-parser.ensures.names
     (subst (λ y. Comes (tokens_of_expression y c.args.source.now) (stream_at c.new-parser.result.place)) c.default-syntax.ensures c.new-parser.ensures.stream) (c.parse_standalone_expr.ensures.again OutOfMemory None) c.parse_standalone_expr.ensures.only
 
 pub returns-clause-first : goal.returns-clause-first
 returns-clause-first g c = λ short.
     begun_first (expr_at g.V.TemplateValue.functions max_depth) (expr_node {F = g.row.V-Fault.Denot} g.V.TemplateValue.contents)
     (text_of default_syntax c.args.source.now) (tokens_of_expression default_syntax c.args.source.now) c.new-parser.result.place c.parse_standalone_expr.result
-    (c.new-parser.ensures.source ∙ ap (λ y. text_of y c.args.source.now) c.default-syntax.ensures) c.new-parser.ensures.last
+    (c.new-parser.ensures.source ∙ ap (λ y. text_of y c.args.source.now) c.default-syntax.ensures) c.new-parser.ensures.last c.new-parser.ensures.names
     (subst (λ y. Comes (tokens_of_expression y c.args.source.now) (stream_at c.new-parser.result.place)) c.default-syntax.ensures c.new-parser.ensures.stream) (c.parse_standalone_expr.ensures.again OutOfMemory None) c.parse_standalone_expr.ensures.first

@@ -1,10 +1,10 @@
 use Rattle.std.proofs.Common.{◌≡◌, None, refl}
-use Rattle.minijinja_tree.specs.declared.ast.Spanned.{Spanned}
-use Rattle.minijinja_tree.specs.declared.ast.Var.{Var}
-use Rattle.minijinja_tree.specs.declared.ast.CallArg.TheBlock as block
-use Rattle.minijinja_tree.specs.declared.ast.Expr.{Expr}
-use Rattle.minijinja_tree.specs.declared.ast.Expr.TheVariants as expr
-use Rattle.minijinja_tree.specs.declared.ast.Expr.TheVariants.{Compare'}
+use Rattle.minijinja_expressions.specs.declared.ast.Spanned.{Spanned}
+use Rattle.minijinja_expressions.specs.declared.ast.Var.{Var}
+use Rattle.minijinja_expressions.specs.declared.ast.CallArg.TheBlock as block
+use Rattle.minijinja_expressions.specs.declared.ast.Expr.{Expr}
+use Rattle.minijinja_expressions.specs.declared.ast.Expr.TheVariants as expr
+use Rattle.minijinja_expressions.specs.declared.ast.Expr.TheVariants.{Compare'}
 use Rattle.minijinja_tree.specs.SpannedErasure.{expr_node}
 use Rattle.minijinja_grammar.specs.Grammar.{name_of_variable}
 use Rattle.minijinja_nodes.proofs.tree_nodes.TreeNodesNodes.variable_name.Goals as goal

@@ -1,4 +1,4 @@
-use Rattle.std.proofs.Common.{◌≡◌, true, ◌∷◌, ◌++◌, [], map, arith, refl, sym, ap, ◌∙◌}
+use Rattle.std.proofs.Common.{◌≡◌, true, ◌∷◌, ◌++◌, [], map, arith, refl, ap, ◌∙◌}
 use Rattle.std.proofs.lemmas.List.{map-append}
 use Rattle.minijinja_syntax.specs.Tokens.{comma}
 use Rattle.minijinja_grammar.specs.Forms.{got, reads}

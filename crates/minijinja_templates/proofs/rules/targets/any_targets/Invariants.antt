@@ -1,4 +1,4 @@
-use Rattle.std.proofs.Common.{◌≡◌, [], length, map, reverse}
+use Rattle.std.proofs.Common.{◌≡◌, length, map, reverse}
 use Rattle.minijinja_grammar.specs.Forms.{reads}
 use Rattle.minijinja_grammar.specs.Targets as form
 use Rattle.minijinja_templates.specs.private.Targets.{opened, rest_of_all}

@@ -1,11 +1,11 @@
-use Rattle.std.proofs.Common.{rules, ◌≡◌, ◌∷◌, ◌++◌, [], true, false, if◌then◌else◌, List, map, reverse, length, arith, refl, sym, ap, ◌∙◌}
+use Rattle.std.proofs.Common.{rules, ◌≡◌, ◌∷◌, ◌++◌, [], true, false, map, reverse, arith, refl, sym, ap, ◌∙◌}
 use Rattle.std.proofs.lemmas.List.{map-append, reverse-append}
 use Rattle.minijinja_syntax.specs.Tokens.{comma, paren_close}
 use Rattle.minijinja_grammar.specs.Forms.{got, read_then, reads}
 use Rattle.minijinja_grammar.specs.Grammar.{next}
 use Rattle.minijinja_stream.specs.private.Reads.{eaten}
 use Rattle.minijinja_stream.proofs.Turned.{eaten_shorter, next_shorter}
-use Rattle.minijinja_templates.specs.private.Targets.{after_whole, all_of, more, opened, with_target}
+use Rattle.minijinja_templates.specs.private.Targets.{after_whole, more, opened}
 use Rattle.minijinja_templates.proofs.OpenTargets.{eaten_no_longer, ended_step}
 use Rattle.minijinja_templates.proofs.rules.targets.end.Goals as goal
 

@@ -6,7 +6,7 @@ use Rattle.minijinja_grammar.specs.Grammar.{next}
 use Rattle.minijinja_grammar.specs.Targets.{ends_targets, named_target}
 use Rattle.minijinja_stream.specs.private.Reads.{eaten}
 use Rattle.minijinja_stream.proofs.Turned.{eaten_shorter, next_shorter, read_no_longer}
-use Rattle.minijinja_templates.specs.private.Targets.{after_whole, all_of, none_from, opened, opens_within, rest_of_all}
+use Rattle.minijinja_templates.specs.private.Targets.{after_whole, none_from, opened, opens_within, rest_of_all}
 use Rattle.minijinja_templates.proofs.OpenTargets.{at_end, at_opening, at_target, eaten_no_longer, resumes_from}
 use Rattle.minijinja_templates.proofs.rules.targets.go_on.Goals as goal
 

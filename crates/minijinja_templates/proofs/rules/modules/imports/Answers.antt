@@ -1,0 +1,32 @@
+use Rattle.std.proofs.Common.{◌≡◌, true, false, ◌∷◌, ◌++◌, [], map, arith, refl, sym, ap, ◌∙◌}
+use Rattle.std.proofs.lemmas.List.{map-append}
+use Rattle.minijinja_syntax.specs.Tokens.{comma}
+use Rattle.minijinja_grammar.specs.Forms.{comes, got, reads}
+use Rattle.minijinja_grammar.specs.Statements as form
+use Rattle.minijinja_stream.specs.private.Reads.{eaten}
+use Rattle.minijinja_stream.proofs.Turned.{eaten_shorter, read_no_longer}
+use Rattle.minijinja_templates.specs.private.Made.{name_of}
+use Rattle.minijinja_templates.proofs.Imports.{more_imports, others_is}
+use Rattle.minijinja_templates.proofs.rules.modules.imports.Goals as goal
+
+pub loop-names-smaller : goal.loop-names-smaller
+loop-names-smaller g c =
+    let p = g.S.Input.Tokens.place c.loop-names.tokens in
+    let q = g.S.Input.Tokens.place c.eat.new.self in
+    let r = g.S.Input.Tokens.place c.imported-in-loop-names.new.tokens in
+    let b : eaten comma p ≡ got true q = c.in_ok-eat.ensures ∙ ap (λ x. got x q) c.if-branch.true in
+    omega (arith, eaten_shorter comma p q b, read_no_longer form.imported q r _ c.in_ok-imported-2.ensures)
+
+pub loop-names-preserved : goal.loop-names-preserved
+loop-names-preserved g c =
+    let v = name_of g.S.Statements.tree in
+    let p = g.S.Input.Tokens.place c.loop-names.tokens in
+    let q = g.S.Input.Tokens.place c.eat.new.self in
+    let r = g.S.Input.Tokens.place c.imported-in-loop-names.new.tokens in
+    let ns = map v c.loop-names.names.items in
+    let w = v c.in_ok-imported-2.field-0 in
+    let b : eaten comma p ≡ got true q = c.in_ok-eat.ensures ∙ ap (λ x. got x q) c.if-branch.true in
+    let e : comes form.ends_names q.tokens ≡ false = sym c.begins-in-loop-names.ensures ∙ c.if-begins-2.false in
+    let h : reads form.imported q ≡ got w r = c.in_ok-imported-2.ensures in
+    let pushed : ns ++ w ∷ [] ≡ map v c.push-in-loop-names.new.self.items = rw (c.in_ok-push-2.ensures.items, map-append) refl in
+    c.loop-names.invariant ∙ others_is ns p ∙ rw (b, e, h) refl ∙ ap (λ xs. more_imports xs r) pushed
