@@ -4,7 +4,7 @@ use Rattle.std.proofs.lemmas.List.{at_drop_more}
 use Rattle.minijinja_value.specs.Values.{Functions}
 use Rattle.minijinja_tree.specs.Erasure.{expr_tree, assignments_of}
 use Rattle.minijinja_tree.specs.WellFormed.{IsTarget, IsWhole, AreAssignments}
-use Rattle.minijinja_tree.specs.declared.ast.Expr.{Expr}
+use Rattle.minijinja_expressions.specs.declared.ast.Expr.{Expr}
 use Rattle.minijinja_meaning.specs.Layout.{expr, target, assignments}
 use Rattle.minijinja_meaning.specs.Pieces.{◌▸◌}
 use Rattle.minijinja_expression_code.specs.private.Making.{Made, Adds}

@@ -1,10 +1,10 @@
 -- Bodies of statements, and the statement in its place in one.
-use Rattle.std.proofs.Common.{◌≡◌, ℕ, ◌+◌, ◌<◌, ◌≤◌, List, [], ◌∷◌, length, map, drop, get_or, refl, sym, ap, ◌∙◌, subst, rules, arith}
+use Rattle.std.proofs.Common.{◌≡◌, ℕ, ◌+◌, ◌<◌, ◌≤◌, List, [], ◌∷◌, length, drop, get_or, refl, sym, ap, ◌∙◌, subst, rules, arith}
 use Rattle.std.specs.Prelude.{Bool, true, false}
 use Rattle.std.proofs.lemmas.List.{at_drop_more, at_drop_all}
 use Rattle.minijinja_value.specs.Values.{Functions}
 use Rattle.minijinja_tree.specs.Erasure.{stmt_tree}
-use Rattle.minijinja_tree.specs.Tree.{Stmt as Tree, template, Stmts, done, also, stmts_of, are_any}
+use Rattle.minijinja_tree.specs.Tree.{Stmt as Tree, template, done, also, are_any}
 use Rattle.minijinja_tree.specs.WellFormed.{IsInner, AreInner, IsWellFormed}
 use Rattle.minijinja_tree.specs.Nodes.{node_of}
 use Rattle.minijinja_tree.specs.declared.ast.IfCond.{IfCond, size-IfCond, the_lemmas as if_lemmas}
@@ -17,7 +17,7 @@ use Rattle.minijinja_meaning.specs.Pieces.{Open}
 use Rattle.minijinja_code.specs.Hint.{all_data_bytes}
 use Rattle.minijinja_expression_code.specs.private.Making.{Made}
 use Rattle.minijinja_code.specs.private.Statements.{MayStand}
-use Rattle.minijinja_code.specs.private.Turns.{Around, Follows, FollowsStmts}
+use Rattle.minijinja_code.specs.private.Turns.{Around, Follows}
 use Rattle.minijinja_tree.proofs.Rows.{body_of}
 
 module _ {V K C : Type 0} (c : V → C) where
@@ -54,8 +54,8 @@ inner_stands l s w = w
 
 -- so may the root, outside of all loops
 pub root_stands : {C L : Type 0} (l : Bool) (s : Tree C L) → l ≡ false → IsWellFormed s → MayStand l s
-root_stands l (template ss) e w = subst (λ b. AreInner b ss) (sym e) w
-root_stands l s e w = subst (λ b. IsInner b s) (sym e) w
+root_stands l (template ss) e w = subst (λ b. AreInner b ss) (sym e) w.0
+root_stands l s e w = subst (λ b. IsInner b s) (sym e) w.0
 
 -- an if statement that a false body is, is smaller than the one that it belongs to
 pub elif_size : {V K : Type 0} (part next : IfCond V K) → IsOnly part.false_body.items next → size-IfCond V K next < size-IfCond V K part

@@ -1,19 +1,19 @@
 -- If statements while their code is being made.
-use Rattle.std.proofs.Common.{◌≡◌, ℕ, ◌+◌, ◌<◌, ◌≤◌, List, [], ◌∷◌, ◌++◌, length, refl, sym, ap, ◌∙◌, subst, arith, length-append}
-use Rattle.std.specs.Prelude.{Bool, true, false, slice_set}
+use Rattle.std.proofs.Common.{◌≡◌, ℕ, ◌+◌, ◌<◌, ◌≤◌, List, [], ◌∷◌, length, refl, sym, ap, ◌∙◌, subst, arith, length-append}
+use Rattle.std.specs.Prelude.{true, false}
 use Rattle.std.proofs.lemmas.List.{length-set}
 use Rattle.minijinja_value.specs.Values.{Functions}
 use Rattle.minijinja_tree.specs.Tree.{Expr, if_cond, Stmt, Stmts, done, also, are_any}
-use Rattle.minijinja_meaning.specs.Code.{Instr, Jump, JumpIfFalse}
+use Rattle.minijinja_meaning.specs.Code.{Jump, JumpIfFalse}
 use Rattle.minijinja_meaning.specs.Layout.{expr, stmt, stmts, either}
 use Rattle.minijinja_meaning.specs.Pieces.{Piece, Leading, Exits, nothing, one, ◌▸◌, plain, ◌▹◌, leading_to, branches, branches_out, skipping_out}
 use Rattle.minijinja_code.specs.Hint.{data_bytes, all_data_bytes}
-use Rattle.minijinja_expression_code.specs.private.Branching.{with_ends, leading_on}
-use Rattle.minijinja_code.specs.private.Conditions.{Tests}
+use Rattle.minijinja_expression_code.specs.private.Branching.{leading_on}
+use Rattle.minijinja_code.specs.private.Conditions.{JumpsPast, Tests}
 use Rattle.minijinja_expression_code.specs.private.Leading.{Tested}
 use Rattle.minijinja_expression_code.specs.private.Making.{Made, Adds, hole, reach}
 use Rattle.minijinja_code.specs.private.Turns.{Around, AreBefore, AreOthers, Follows, FollowsStmt, FollowsStmts, exits, ending}
-use Rattle.minijinja_expression_code.proofs.Adding.{adds_as, adds_nothing, adds_then}
+use Rattle.minijinja_expression_code.proofs.Adding.{adds_nothing}
 use Rattle.minijinja_expression_code.proofs.Branching.{set_at, ending_at, leads_more, Opened, choice_added}
 use Rattle.minijinja_code.proofs.Filling.{before_later, before_others, ends_length, ends_apart, filled_adds, adds_on}
 use Rattle.minijinja_code.proofs.Rounds.{follows_plain, follows_then, follows_bytes, follows_skipping}
@@ -88,30 +88,32 @@ module _ {C L F : Type 0} (f : Functions C F) where
   choosing_start t a s = record { in_loop = refl; choosing = λ v c r. r }
 
   -- a false body that is one if statement
-  pub choosing_next : {t u v : Around} {a b c room jumped held : Made C} {ends places : List ℕ} {place last k : ℕ} {whole : Stmt C L} (e : Expr C) (true_body false_body : Stmts C L) (other : Stmt C L) →
-      Choosing t a ends u b (if_cond e true_body false_body) whole → Tests f e place b held → FollowsStmts f u held v c true_body → last ≡ length c.code → Adds c room (one hole) → places ≡ ends ++ last ∷ [] → jumped ≡ set_at room place (JumpIfFalse k) → k ≡ reach (length room.code) → false_body ≡ also other done →
+  pub choosing_next : {t u v : Around} {a b c jumped held : Made C} {ends places : List ℕ} {place : ℕ} {whole : Stmt C L} (e : Expr C) (true_body false_body : Stmts C L) (other : Stmt C L) →
+      Choosing t a ends u b (if_cond e true_body false_body) whole → Tests f e place b held → FollowsStmts f u held v c true_body → JumpsPast place ends places c jumped → false_body ≡ also other done →
       Choosing t a places v jumped other whole
-  choosing_next {t} {u} {v} {a} {b} {jumped = jumped} {ends = ends} {places} {last = last} {whole = whole} e true_body false_body other g tests r el sr ep ej ek is = record {
+  choosing_next {t} {u} {v} {a} {b} {c} {jumped = jumped} {ends = ends} {places} {whole = whole} e true_body false_body other g tests r past is = record {
     in_loop = r.in_loop ∙ g.in_loop;
     choosing = λ w d s.
+        let last : ℕ = length c.code in
         let rest = subst (λ os. Follows v jumped w d (data_bytes other) (stmt f os other)) r.opened s in
         let one_more = follows_then (stmt f u.opened other) (plain nothing) rest (follows_plain w nothing (adds_nothing d)) in
-        let all = follows_branches (expr f e) (stmts f u.opened true_body) (stmts f u.opened (also other done)) tests.test_added tests.at tests.hole_added r el sr ej ek one_more in
+        let all = follows_branches (expr f e) (stmts f u.opened true_body) (stmts f u.opened (also other done)) tests.test_added tests.at tests.hole_added r refl past.room_added past.filled refl one_more in
         let part : FollowsStmt f u b w (ending_at last d) (if_cond e true_body false_body) = subst (λ ss. FollowsStmt f u b w (ending_at last d) (if_cond e true_body ss)) (sym is) all in
         let led = g.choosing w (ending_at last d) part in
-        subst (λ m. FollowsStmt f t a w m whole) (sym (leads_more ends last d) ∙ ap (λ ps. leading_on ps d) (sym ep)) led;
+        subst (λ m. FollowsStmt f t a w m whole) (sym (leads_more ends last d) ∙ ap (λ ps. leading_on ps d) (sym past.noted)) led;
   }
 
   -- any other false body
-  pub choosing_last : {t u v w : Around} {a b c room jumped held d done' : Made C} {ends places : List ℕ} {place last k : ℕ} {whole : Stmt C L} (e : Expr C) (true_body false_body : Stmts C L) →
-      Choosing t a ends u b (if_cond e true_body false_body) whole → Tests f e place b held → FollowsStmts f u held v c true_body → last ≡ length c.code → Adds c room (one hole) → places ≡ ends ++ last ∷ [] → jumped ≡ set_at room place (JumpIfFalse k) → k ≡ reach (length room.code) → are_any false_body ≡ true → FollowsStmts f v jumped w d false_body → done' ≡ leading_on places d →
+  pub choosing_last : {t u v w : Around} {a b c jumped held d done' : Made C} {ends places : List ℕ} {place : ℕ} {whole : Stmt C L} (e : Expr C) (true_body false_body : Stmts C L) →
+      Choosing t a ends u b (if_cond e true_body false_body) whole → Tests f e place b held → FollowsStmts f u held v c true_body → JumpsPast place ends places c jumped → are_any false_body ≡ true → FollowsStmts f v jumped w d false_body → done' ≡ leading_on places d →
       FollowsStmt f t a w done' whole
-  choosing_last {t} {u} {v} {w} {a} {b} {jumped = jumped} {d = d} {done'} {ends} {places} {last = last} {whole = whole} e true_body false_body g tests r el sr ep ej ek some s ed =
+  choosing_last {t} {u} {v} {w} {a} {b} {c} {jumped = jumped} {d = d} {done'} {ends} {places} {whole = whole} e true_body false_body g tests r past some s ed =
+      let last : ℕ = length c.code in
       let rest = subst (λ os. Follows v jumped w d (all_data_bytes false_body) (stmts f os false_body)) r.opened s in
-      let all = follows_branches (expr f e) (stmts f u.opened true_body) (stmts f u.opened false_body) tests.test_added tests.at tests.hole_added r el sr ej ek rest in
+      let all = follows_branches (expr f e) (stmts f u.opened true_body) (stmts f u.opened false_body) tests.test_added tests.at tests.hole_added r refl past.room_added past.filled refl rest in
       let part : FollowsStmt f u b w (ending_at last d) (if_cond e true_body false_body) = subst (λ has. Follows u b w (ending_at last d) (all_data_bytes true_body + all_data_bytes false_body) (plain (expr f e) ▹ either has (stmts f u.opened true_body) (stmts f u.opened false_body))) (sym some) all in
       let led = g.choosing w (ending_at last d) part in
-      subst (λ m. FollowsStmt f t a w m whole) (sym (leads_more ends last d) ∙ ap (λ ps. leading_on ps d) (sym ep) ∙ sym ed) led
+      subst (λ m. FollowsStmt f t a w m whole) (sym (leads_more ends last d) ∙ ap (λ ps. leading_on ps d) (sym past.noted) ∙ sym ed) led
 
   -- no false body
   pub choosing_none : {t u v : Around} {a b c jumped held done' : Made C} {ends : List ℕ} {place k : ℕ} {whole : Stmt C L} (e : Expr C) (true_body false_body : Stmts C L) →

@@ -1,10 +1,13 @@
 -- What a public call of a generator answers, by what it added.
-use Rattle.std.proofs.Common.{◌≡◌, ◌≤◌, ◌^◌, ◌++◌, Option, Some, None, Result, Ok, Err, length, subst}
+use Rattle.std.proofs.Common.{◌≡◌, ◌≤◌, ◌^◌, ◌++◌, List, Option, Some, None, Result, Ok, Err, length, subst, inl, inr}
 use Rattle.std.specs.Prelude.{IfErr, IfNone, OnOk}
 use Rattle.minijinja_syntax.specs.Errors.{kind_of}
 use Rattle.minijinja_syntax.specs.declared.error.Error.{Error}
 use Rattle.minijinja_syntax.specs.declared.error.ErrorKind.TheVariants.{TooManyInstructions}
-use Rattle.minijinja_code.specs.Generator.{OnlyWhereTooLong}
+use Rattle.minijinja_value.specs.Values.{Functions}
+use Rattle.minijinja_tree.specs.Tree.{Block}
+use Rattle.minijinja_meaning.specs.Code.{Instr}
+use Rattle.minijinja_code.specs.Generator.{HaveTooLong, OnlyWhereOneIsTooLong, OnlyWhereTooLong}
 use Rattle.minijinja_expression_code.specs.private.Making.{Made, here_of, Adds}
 use Rattle.minijinja_code.proofs.Uncapped.{added_length}
 use Rattle.minijinja_meaning.specs.Pieces.{Piece}
@@ -44,3 +47,21 @@ never_ok P (Err e) d y h = tt
 pub never_long : {X Y D : Type 0} (A P : Type 0) (r : Result X Error) (d : D) (y : Y) → IfErr r (λ e. kind_of e ≡ TooManyInstructions → A × (Err d ≡ Ok y)) → IfErr r (λ e. kind_of e ≡ TooManyInstructions → P)
 never_long A P (Ok x) d y h = tt
 never_long A P (Err e) d y h = λ k. let both = h k in absurd (wrong d y both.1)
+
+-- what holds at any rate holds of a call that went well
+pub always_ok : {X E P : Type 0} (r : Result X E) → P → OnOk r P
+always_ok (Ok x) p = p
+always_ok (Err e) p = tt
+
+-- a list that became too long is that of the statement, or of a block in it
+pub one_too_long : {X Y D C L F : Type 0} (f : Functions C F) (bs : List (Block C L)) (r : Result X Error) (o : Result Y D) (y : Y) (a b : Made C) (p : Piece C) →
+    IfErr r (λ e. kind_of e ≡ TooManyInstructions → (2 ^ 32 ≤ length b.code) × (o ≡ Ok y)) → OnOk o (Adds a b p) → IfErr r (λ e. OnlyWhereOneIsTooLong f e (a.code ++ p.code (here_of a)) bs)
+one_too_long f bs (Ok x) o y a b p h s = tt
+one_too_long f bs (Err e) o y a b p h s = λ k.
+    let both = h k in
+    let added = subst (λ q. OnOk q (Adds a b p)) both.1 s in
+    inl (subst (λ n. 2 ^ 32 ≤ n) (added_length p added) both.0)
+
+pub block_too_long : {X C L F : Type 0} (f : Functions C F) (bs : List (Block C L)) (r : Result X Error) (code : List (Instr C)) → IfErr r (λ e. kind_of e ≡ TooManyInstructions → HaveTooLong f bs) → IfErr r (λ e. OnlyWhereOneIsTooLong f e code bs)
+block_too_long f bs (Ok x) code h = tt
+block_too_long f bs (Err e) code h = λ k. inr (h k)

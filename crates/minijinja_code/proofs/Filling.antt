@@ -1,11 +1,11 @@
 -- Places that wait for a jump while code is being made.
-use Rattle.std.proofs.Common.{◌≡◌, ℕ, zero, suc, ◌+◌, ◌<◌, ◌≤◌, List, [], ◌∷◌, ◌++◌, length, map, refl, sym, ap, ◌∙◌, subst, arith, length-append, append_assoc}
+use Rattle.std.proofs.Common.{◌≡◌, ℕ, zero, suc, ◌<◌, ◌≤◌, List, [], ◌∷◌, ◌++◌, length, map, refl, sym, ap, ◌∙◌, subst, arith, length-append}
 use Rattle.std.specs.Prelude.{slice_set}
 use Rattle.std.proofs.lemmas.List.{length-set, set-append_left}
 use Rattle.minijinja_meaning.specs.Code.{Instr, Jump}
 use Rattle.minijinja_meaning.specs.Pieces.{Piece}
 use Rattle.minijinja_expression_code.specs.private.Branching.{with_ends}
-use Rattle.minijinja_expression_code.specs.private.Making.{Made, here_of, capped, reach, Adds}
+use Rattle.minijinja_expression_code.specs.private.Making.{Made, here_of, capped, Adds}
 use Rattle.minijinja_code.specs.private.Turns.{AreBefore, AreOthers}
 
 -- two places that are not one may be set in either order

@@ -1,11 +1,11 @@
 -- Loops that are left while their code is being made.
 use Rattle.std.proofs.Common.{◌≡◌, ℕ, ◌+◌, ◌<◌, ◌≤◌, List, [], ◌∷◌, ◌++◌, length, refl, sym, ap, ◌∙◌, subst, arith, length-append}
-use Rattle.std.specs.Prelude.{Bool, true, false, slice_set}
-use Rattle.minijinja_meaning.specs.Code.{Instr, Jump}
-use Rattle.minijinja_meaning.specs.Pieces.{Here, behind, Piece, Exits, Open, nothing, one, ◌▸◌, closing, leaving, leading_to}
+use Rattle.std.specs.Prelude.{Bool, true, false}
+use Rattle.minijinja_meaning.specs.Code.{Jump}
+use Rattle.minijinja_meaning.specs.Pieces.{behind, Piece, Open, nothing, one, ◌▸◌, closing, leaving}
 use Rattle.minijinja_code.specs.private.Loops.{closed}
-use Rattle.minijinja_expression_code.specs.private.Making.{Made, here_of, Adds, hole, reach}
-use Rattle.minijinja_code.specs.private.Turns.{Around, AreBefore, AreOthers, Follows, exits, ending}
+use Rattle.minijinja_expression_code.specs.private.Making.{Made, Adds, hole, reach}
+use Rattle.minijinja_code.specs.private.Turns.{Around, AreBefore, Follows, ending}
 use Rattle.minijinja_expression_code.proofs.Adding.{adds_nothing, adds_then, adds_filled}
 use Rattle.minijinja_code.proofs.Filling.{before_later, before_more, others_more, ends_length, ends_last, filled_adds, adds_on}
 use Rattle.minijinja_code.proofs.Rounds.{follows_plain}

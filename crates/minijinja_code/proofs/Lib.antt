@@ -13,3 +13,10 @@ pub mod Uncapped
 pub mod TargetRows
 pub mod LoopParts
 pub mod Assigning
+pub mod MacroParts
+pub mod ImportParts
+pub mod MacroSteps
+pub mod ListWalks
+pub mod ListRows
+pub mod ListParts
+pub mod OwnBlocks

@@ -1,17 +1,16 @@
 -- Loops while their code is being made.
-use Rattle.std.proofs.Common.{◌≡◌, ℕ, ◌+◌, ◌<◌, ◌≤◌, List, [], ◌∷◌, ◌++◌, length, map, min, refl, sym, ap, ◌∙◌, subst, arith, length-append}
+use Rattle.std.proofs.Common.{◌≡◌, ℕ, ◌+◌, List, [], ◌∷◌, ◌++◌, length, map, min, refl, sym, ap, ◌∙◌, subst, arith}
 use Rattle.std.specs.Prelude.{Bool, true, false, slice_set}
 use Rattle.minijinja_value.specs.Values.{Functions}
-use Rattle.minijinja_tree.specs.Tree.{Expr, Optional, Stmt, for_loop, Stmts, are_any}
+use Rattle.minijinja_tree.specs.Tree.{Expr, Optional, for_loop, Stmts, are_any}
 use Rattle.minijinja_meaning.specs.Code.{Instr, Jump, JumpIfFalse, Iterate, PushLoop, PopLoopFrame}
-use Rattle.minijinja_meaning.specs.Layout.{expr, target, stmt, stmts, passing, popping, looping, if_true}
+use Rattle.minijinja_meaning.specs.Layout.{expr, target, stmts, passing, popping, looping, if_true}
 use Rattle.minijinja_meaning.specs.Meaning.{loop_flags}
-use Rattle.minijinja_meaning.specs.Pieces.{Here, behind, Piece, Leading, Exits, nothing, one, ◌▸◌, plain, ◌▹◌, leading_to, turning, skipping_out}
-use Rattle.minijinja_code.specs.Hint.{data_bytes, all_data_bytes}
+use Rattle.minijinja_meaning.specs.Pieces.{Here, behind, Leading, Exits, nothing, one, ◌▸◌, plain, ◌▹◌, leading_to, turning, skipping_out}
+use Rattle.minijinja_code.specs.Hint.{all_data_bytes}
 use Rattle.minijinja_code.specs.private.Loops.{Begins, EndsBeforeElse, turned}
-use Rattle.minijinja_expression_code.specs.private.Branching.{with_ends}
 use Rattle.minijinja_expression_code.specs.private.Making.{Made, here_of, Adds, hole, reach, capped, followed}
-use Rattle.minijinja_code.specs.private.Turns.{Around, AreBefore, Follows, FollowsStmt, FollowsStmts, exits, ending}
+use Rattle.minijinja_code.specs.private.Turns.{Around, Follows, FollowsStmt, FollowsStmts, ending}
 use Rattle.minijinja_expression_code.proofs.Adding.{adds_nothing, adds_then, adds_assoc, adds_filled, adds_followed}
 use Rattle.minijinja_expression_code.proofs.Branching.{set_at}
 use Rattle.minijinja_code.proofs.Filling.{ends_append, filled_here}

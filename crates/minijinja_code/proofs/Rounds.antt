@@ -1,16 +1,16 @@
 -- What statements add within a turn, put together.
-use Rattle.std.proofs.Common.{◌≡◌, ℕ, ◌+◌, ◌<◌, ◌≤◌, List, [], ◌∷◌, length, drop, min, refl, sym, ap, ◌∙◌, subst, arith, length-append}
-use Rattle.std.specs.Prelude.{Bool, true, false, slice_set}
+use Rattle.std.proofs.Common.{◌≡◌, ℕ, ◌+◌, ◌<◌, ◌≤◌, [], ◌∷◌, length, drop, min, refl, sym, ap, ◌∙◌, subst, arith, length-append}
+use Rattle.std.specs.Prelude.{false}
 use Rattle.std.proofs.lemmas.List.{length-set}
 use Rattle.minijinja_value.specs.Values.{Functions}
 use Rattle.minijinja_tree.specs.Tree.{Stmt, Stmts, done, also}
 use Rattle.minijinja_meaning.specs.Code.{Instr, JumpIfFalse}
 use Rattle.minijinja_meaning.specs.Layout.{stmt, stmts}
 use Rattle.minijinja_meaning.specs.Pieces.{Piece, Leading, Exits, Open, nothing, one, plain, ◌▹◌, leading_to, outside, skipping_out}
-use Rattle.minijinja_code.specs.Hint.{data_bytes, all_data_bytes}
+use Rattle.minijinja_code.specs.Hint.{all_data_bytes}
 use Rattle.minijinja_expression_code.specs.private.Branching.{with_ends}
 use Rattle.minijinja_expression_code.specs.private.Making.{Made, Adds, hole, reach}
-use Rattle.minijinja_code.specs.private.Turns.{Around, AreBefore, AreOthers, Follows, FollowsStmt, FollowsStmts, exits, ending, opening, counting}
+use Rattle.minijinja_code.specs.private.Turns.{Around, AreBefore, AreOthers, Follows, FollowsStmt, FollowsStmts, ending, opening, counting}
 use Rattle.minijinja_expression_code.proofs.Adding.{adds_nothing, adds_then, adds_skipping}
 use Rattle.minijinja_expression_code.proofs.Branching.{set_at}
 use Rattle.minijinja_code.proofs.Filling.{before_later, before_others, ends_length, ends_apart, filled_adds, adds_on}

@@ -1,11 +1,11 @@
 -- The tree of a statement, by its node.
 use Rattle.std.proofs.Common.{◌≡◌, List, [], ◌∷◌, length, get_or, sym, ap, ◌∙◌, refl, arith}
 use Rattle.minijinja_tree.specs.Nodes.{node_of}
-use Rattle.minijinja_tree.specs.Erasure.{expr_tree, optional_of, args_of, assignments_of, stmt_tree}
+use Rattle.minijinja_tree.specs.Erasure.{expr_tree, optional_of, args_of, assignments_of, names_of, macro_tree, stmt_tree}
 use Rattle.minijinja_tree.specs.Tree as tree
 use Rattle.minijinja_tree.specs.declared.ast.Stmt.{Stmt}
 use Rattle.minijinja_tree.specs.declared.ast.Stmt.TheVariants as stmt
-use Rattle.minijinja_tree.specs.declared.ast.Spanned.{Spanned}
+use Rattle.minijinja_expressions.specs.declared.ast.Spanned.{Spanned}
 use Rattle.minijinja_tree.specs.declared.ast.EmitRaw.{EmitRaw}
 use Rattle.minijinja_tree.specs.declared.ast.EmitExpr.{EmitExpr}
 use Rattle.minijinja_tree.specs.declared.ast.Set.{Set}
@@ -15,9 +15,16 @@ use Rattle.minijinja_tree.specs.declared.ast.WithBlock.{WithBlock}
 use Rattle.minijinja_tree.specs.declared.ast.SetBlock.{SetBlock}
 use Rattle.minijinja_tree.specs.declared.ast.AutoEscape.{AutoEscape}
 use Rattle.minijinja_tree.specs.declared.ast.FilterBlock.{FilterBlock}
+use Rattle.minijinja_tree.specs.declared.ast.Block.{Block}
+use Rattle.minijinja_tree.specs.declared.ast.CallBlock.{CallBlock}
 use Rattle.minijinja_tree.specs.declared.ast.Do.{Do}
+use Rattle.minijinja_tree.specs.declared.ast.Extends.{Extends}
+use Rattle.minijinja_tree.specs.declared.ast.FromImport.{FromImport}
+use Rattle.minijinja_tree.specs.declared.ast.Import.{Import}
+use Rattle.minijinja_tree.specs.declared.ast.Include.{Include}
+use Rattle.minijinja_tree.specs.declared.ast.Macro.{Macro}
 use Rattle.minijinja_code.specs.private.Conditions.{IsOnly}
-use Rattle.minijinja_tree.proofs.Rows.{body_of, for_loop_is, if_cond_is, with_block_is, set_block_is, auto_escape_is, filter_block_is}
+use Rattle.minijinja_tree.proofs.Rows.{body_of, for_loop_is, if_cond_is, with_block_is, set_block_is, auto_escape_is, filter_block_is, block_is, declare_is, call_block_tree, call_block_is}
 
 first_item : {X : Type 0} (xs : List X) (x : X) → x ≡ get_or xs 0 x → length xs ≡ 1 → xs ≡ x ∷ []
 first_item [] x at h = absurd (omega (arith, h))
@@ -58,6 +65,27 @@ module _ {V F C : Type 0} (c : V → C) where
 
   pub do_arm : (s : Stmt V F) (p : Spanned (Do V F)) (n : Do V F) → s ≡ stmt.Do p → n ≡ node_of p → stmt_tree c s ≡ tree.do_call (expr_tree c (node_of n.call).expr) (args_of c (node_of n.call).args.items)
   do_arm s p n is at = ap (stmt_tree c) is ∙ ap (λ (m : Do V F). tree.do_call (expr_tree c (node_of m.call).expr) (args_of c (node_of m.call).args.items)) (sym at)
+
+  pub block_arm : (s : Stmt V F) (p : Spanned (Block V F)) (n : Block V F) → s ≡ stmt.Block p → n ≡ node_of p → stmt_tree c s ≡ tree.named_block n.name.now n.required (body_of c n.body.items)
+  block_arm s p n is at = ap (stmt_tree c) is ∙ block_is c p ∙ ap (λ (m : Block V F). tree.named_block m.name.now m.required (body_of c m.body.items)) (sym at)
+
+  pub extends_arm : (s : Stmt V F) (p : Spanned (Extends V F)) (n : Extends V F) → s ≡ stmt.Extends p → n ≡ node_of p → stmt_tree c s ≡ tree.extends (expr_tree c n.name)
+  extends_arm s p n is at = ap (stmt_tree c) is ∙ ap (λ (m : Extends V F). tree.extends (expr_tree c m.name)) (sym at)
+
+  pub include_arm : (s : Stmt V F) (p : Spanned (Include V F)) (n : Include V F) → s ≡ stmt.Include p → n ≡ node_of p → stmt_tree c s ≡ tree.include (expr_tree c n.name) n.ignore_missing
+  include_arm s p n is at = ap (stmt_tree c) is ∙ ap (λ (m : Include V F). tree.include (expr_tree c m.name) m.ignore_missing) (sym at)
+
+  pub import_arm : (s : Stmt V F) (p : Spanned (Import V F)) (n : Import V F) → s ≡ stmt.Import p → n ≡ node_of p → stmt_tree c s ≡ tree.import_all (expr_tree c n.expr) (expr_tree c n.name)
+  import_arm s p n is at = ap (stmt_tree c) is ∙ ap (λ (m : Import V F). tree.import_all (expr_tree c m.expr) (expr_tree c m.name)) (sym at)
+
+  pub from_arm : (s : Stmt V F) (p : Spanned (FromImport V F)) (n : FromImport V F) → s ≡ stmt.FromImport p → n ≡ node_of p → stmt_tree c s ≡ tree.from_import (expr_tree c n.expr) (names_of c n.names.items)
+  from_arm s p n is at = ap (stmt_tree c) is ∙ ap (λ (m : FromImport V F). tree.from_import (expr_tree c m.expr) (names_of c m.names.items)) (sym at)
+
+  pub macro_arm : (s : Stmt V F) (p : Spanned (Macro V F)) (n : Macro V F) → s ≡ stmt.Macro p → n ≡ node_of p → stmt_tree c s ≡ tree.declare (macro_tree c n)
+  macro_arm s p n is at = ap (stmt_tree c) is ∙ declare_is c p ∙ ap (λ (m : Macro V F). tree.declare (macro_tree c m)) (sym at)
+
+  pub call_block_arm : (s : Stmt V F) (p : Spanned (CallBlock V F)) (n : CallBlock V F) → s ≡ stmt.CallBlock p → n ≡ node_of p → stmt_tree c s ≡ call_block_tree c n
+  call_block_arm s p n is at = ap (stmt_tree c) is ∙ call_block_is c p ∙ ap (call_block_tree c) (sym at)
 
   -- a body that is one if statement
   pub only_is : (xs : List (Stmt V F)) (n : IfCond V F) → IsOnly xs n → body_of c xs ≡ tree.also (tree.if_cond (expr_tree c n.expr) (body_of c n.true_body.items) (body_of c n.false_body.items)) tree.done

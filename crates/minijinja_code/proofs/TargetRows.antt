@@ -6,13 +6,13 @@ use Rattle.std.proofs.lemmas.List.{reverse-append}
 use Rattle.minijinja_value.specs.Values.{Functions}
 use Rattle.minijinja_tree.specs.Erasure.{expr_tree, exprs_of}
 use Rattle.minijinja_tree.specs.Nodes.{node_of}
-use Rattle.minijinja_tree.specs.declared.ast.Expr.TheVariants as expr
-use Rattle.minijinja_tree.specs.declared.ast.List.{List as ListNode}
-use Rattle.minijinja_tree.specs.declared.ast.Spanned.{Spanned}
+use Rattle.minijinja_expressions.specs.declared.ast.Expr.TheVariants as expr
+use Rattle.minijinja_expressions.specs.declared.ast.List.{List as ListNode}
+use Rattle.minijinja_expressions.specs.declared.ast.Spanned.{Spanned}
 use Rattle.minijinja_tree.specs.Tree as tree
 use Rattle.minijinja_tree.specs.Tree.{Exprs, no_more, more, list}
 use Rattle.minijinja_tree.specs.WellFormed.{IsTarget, AreTargets, expr_count}
-use Rattle.minijinja_tree.specs.declared.ast.Expr.{Expr}
+use Rattle.minijinja_expressions.specs.declared.ast.Expr.{Expr}
 use Rattle.minijinja_meaning.specs.Code.{UnpackList}
 use Rattle.minijinja_meaning.specs.Layout.{target, targets}
 use Rattle.minijinja_meaning.specs.Pieces.{Piece, nothing, one, ◌▸◌}

@@ -4,7 +4,7 @@ use Rattle.minijinja_tree.specs.Nodes.{node_of}
 use Rattle.minijinja_tree.specs.Tree as tree
 use Rattle.minijinja_tree.specs.Tree.{stmts_of}
 use Rattle.minijinja_tree.specs.Erasure.{stmt_tree}
-use Rattle.minijinja_tree.specs.declared.ast.Spanned.{Spanned}
+use Rattle.minijinja_expressions.specs.declared.ast.Spanned.{Spanned}
 use Rattle.minijinja_tree.specs.declared.ast.Template.{Template}
 use Rattle.minijinja_tree.specs.declared.ast.Stmt.TheVariants as stmt
 use Rattle.minijinja_tree.proofs.Rows.{template_is}

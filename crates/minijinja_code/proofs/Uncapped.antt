@@ -4,13 +4,13 @@ use Rattle.std.proofs.lemmas.List.{length-map}
 use Rattle.minijinja_value.specs.Values.{Functions}
 use Rattle.minijinja_tree.specs.Tree.{Expr, Stmt}
 use Rattle.minijinja_tree.specs.WellFormed.{IsWellFormed}
-use Rattle.minijinja_meaning.specs.Code.{Instr, Jump, JumpIfFalse, JumpIfFalseOrPop, JumpIfTrueOrPop, Iterate}
+use Rattle.minijinja_meaning.specs.Code.{Instr, BuildMacro, Jump, JumpIfFalse, JumpIfFalseOrPop, JumpIfTrueOrPop, Iterate}
 use Rattle.minijinja_meaning.specs.Jumps.{target}
 use Rattle.minijinja_meaning.specs.Layout as layout
 use Rattle.minijinja_meaning.specs.Pieces.{Piece, outside}
 use Rattle.minijinja_expression_code.specs.private.Making.{Made, here_of, capped, last_target, reach, Adds}
 use Rattle.minijinja_code.specs.private.Statements.{stmt_piece}
-use Rattle.minijinja_meaning.proofs.Leads.{AllLead, Leads, expr_leads, root_leads, target_leads}
+use Rattle.minijinja_meaning.proofs.Leads.{AllLead, Leads, entry_of, expr_leads, root_leads, target_leads}
 use Rattle.minijinja_meaning.proofs.Lengths.{Exact, exact_to, expr_exact, stmt_exact, target_exact}
 use Rattle.minijinja_meaning.proofs.Runs.{stands_behind}
 
@@ -18,19 +18,20 @@ reach_within : (n : ℕ) → n ≤ last_target → reach n ≡ n
 reach_within n le = omega arith
 
 module _ {C : Type 0} where
-  -- what leads no further than the last target stands as it is
-  capped_within : (i : Instr C) → ((l : ℕ) → target i ≡ Some l → l ≤ last_target) → capped i ≡ i
-  capped_within (Jump n) h = ap Jump (reach_within n (h n refl))
-  capped_within (JumpIfFalse n) h = ap JumpIfFalse (reach_within n (h n refl))
-  capped_within (JumpIfFalseOrPop n) h = ap JumpIfFalseOrPop (reach_within n (h n refl))
-  capped_within (JumpIfTrueOrPop n) h = ap JumpIfTrueOrPop (reach_within n (h n refl))
-  capped_within (Iterate n) h = ap Iterate (reach_within n (h n refl))
-  capped_within i h = refl
+  -- what names no place further on than the last one stands as it is
+  capped_within : (i : Instr C) → ((l : ℕ) → target i ≡ Some l → l ≤ last_target) → ((l : ℕ) → entry_of i ≡ Some l → l ≤ last_target) → capped i ≡ i
+  capped_within (Jump n) h k = ap Jump (reach_within n (h n refl))
+  capped_within (JumpIfFalse n) h k = ap JumpIfFalse (reach_within n (h n refl))
+  capped_within (JumpIfFalseOrPop n) h k = ap JumpIfFalseOrPop (reach_within n (h n refl))
+  capped_within (JumpIfTrueOrPop n) h k = ap JumpIfTrueOrPop (reach_within n (h n refl))
+  capped_within (Iterate n) h k = ap Iterate (reach_within n (h n refl))
+  capped_within (BuildMacro x n flags) h k = ap (λ m. BuildMacro x m flags) (reach_within n (k n refl))
+  capped_within i h k = refl
 
   all_within : (code : List (Instr C)) (q : ℕ) (is : List (Instr C)) → length code < 2 ^ 32 → AllLead code q is → map capped is ≡ is
   all_within code q [] small h = refl
   all_within code q (i ∷ is) small h =
-      let head = capped_within i (λ l e. let m = (h.0 l e).within in omega (arith, m)) in
+      let head = capped_within i (λ l e. let m = (h.0.leads l e).within in omega (arith, m)) (λ l e. let m = h.0.enters l e in omega (arith, m)) in
       ap (λ j. j ∷ map capped is) head ∙ ap (λ js. i ∷ js) (all_within code (q + 1) is small h.1)
 
   pub added_length : {a b : Made C} (p : Piece C) → Adds a b p → length b.code ≡ length (a.code ++ p.code (here_of a))

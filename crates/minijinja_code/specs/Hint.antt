@@ -1,8 +1,14 @@
 -- How large a buffer the output of a template may want.
 use Rattle.std.specs.Prelude.{◌≡◌, ℕ, ◌+◌, ◌*◌, ◌^◌, ◌≤◌, ◌⊎◌, length}
-use Rattle.minijinja_tree.specs.Tree.{Stmt, template, data_text, output, assignment, for_loop, if_cond, with_block, set_block, auto_escape, filter_block, do_call, break_loop, continue_loop, Stmts, done, also}
+use Rattle.minijinja_tree.specs.Callees.{Callee, block, callee}
+use Rattle.minijinja_tree.specs.Tree.{Stmt, template, data_text, output, assignment, for_loop, if_cond, with_block, set_block, auto_escape, filter_block, named_block, extends, include, import_all, from_import, declare, call_block, do_call, break_loop, continue_loop, Stmts, done, also, Macro, macro}
 
--- the bytes outside of tags
+-- the macro that a call of this takes along has code, unless it is a block
+abbrev pub if_made : {C : Type 0} → Callee C → ℕ → ℕ
+if_made (block x) n = 0
+if_made _ n = n
+
+-- the bytes outside of tags that a list writes, which those in blocks are no part of
 abbrev mutual
   pub data_bytes : {C L : Type 0} → Stmt C L → ℕ
   data_bytes (template ss) = all_data_bytes ss
@@ -15,6 +21,13 @@ abbrev mutual
   data_bytes (set_block e chain body) = all_data_bytes body
   data_bytes (auto_escape e body) = all_data_bytes body
   data_bytes (filter_block chain body) = all_data_bytes body
+  data_bytes (named_block x required body) = 0
+  data_bytes (extends e) = 0
+  data_bytes (include e ignore) = 0
+  data_bytes (import_all e t) = 0
+  data_bytes (from_import e names) = 0
+  data_bytes (declare m) = macro_bytes m
+  data_bytes (call_block e args m) = if_made (callee e) (macro_bytes m)
   data_bytes (do_call e args) = 0
   data_bytes break_loop = 0
   data_bytes continue_loop = 0
@@ -22,6 +35,9 @@ abbrev mutual
   pub all_data_bytes : {C L : Type 0} → Stmts C L → ℕ
   all_data_bytes done = 0
   all_data_bytes (also s rest) = data_bytes s + all_data_bytes rest
+
+  pub macro_bytes : {C L : Type 0} → Macro C L → ℕ
+  macro_bytes (macro n x args defaults body) = all_data_bytes body
 
 -- the least power of two at or over twice so many bytes, at most 2 ^ 63
 pub record IsHint (bytes hint : ℕ) : Type 0 where

@@ -1,3 +1,4 @@
 pub mod Hint
+pub mod BlockLists
 pub mod Generator
 pub mod private

@@ -2,7 +2,9 @@
 pub mod AtGenerator
 pub mod AtTurn
 pub mod Conditions
+pub mod Lists
 pub mod Loops
+pub mod Macros
 pub mod Statements
 pub mod Targets
 pub mod Turns

@@ -2,12 +2,14 @@
 ghost use Rattle.std.specs.Prelude.{◌≡◌, ◌+◌, ◌<◌, ◌≤◌, ◌^◌, ◌++◌, [], length, min, is_none, IfOk, IfErr, OnOk, IfNone, IfSome, Ok, Err, Some, None};
 ghost use Rattle.std.specs.BTreeMap.{IsEmpty};
 ghost use Rattle.minijinja_tree.specs.Erasure.{expr_tree, stmt_tree};
+ghost use Rattle.minijinja_tree.specs.Tree.{blocks};
 ghost use Rattle.minijinja_tree.specs.WellFormed.{IsTarget, IsWhole, IsWellFormed};
 ghost use Rattle.minijinja_instructions.specs.Instructions.{code_of};
 ghost use Rattle.minijinja_meaning.specs.Correct.{DoesExpr, DoesStmt};
 ghost use Rattle.minijinja_syntax.specs.Errors.{kind_of};
 ghost use Rattle.minijinja_syntax.specs.declared.error.ErrorKind.TheVariants.{TooManyInstructions};
-ghost use Rattle.minijinja_code.specs.Generator.{IsUnplaced, OnlyWhereTooLong};
+ghost use Rattle.minijinja_code.specs.Generator.{HaveTooLong, IsUnplaced, OnlyWhereOneIsTooLong, OnlyWhereTooLong};
+ghost use Rattle.minijinja_code.specs.BlockLists.{AddsLists};
 ghost use Rattle.minijinja_code.specs.Hint.{IsHint, data_bytes};
 ghost use Rattle.minijinja_instructions.specs.InstructionLists.{IsAddError, name_of, source_of};
 ghost use Rattle.minijinja_meaning.specs.Places.{placed_stmt};
@@ -20,11 +22,15 @@ ghost use Rattle.minijinja_meaning.specs.Pieces.{start};
 
 mod blocks;
 mod conditions;
+mod lists;
 mod loops;
+mod macros;
+mod modules;
 mod stmt;
 mod targets;
 mod turn;
 
+use crate::codegen::lists::{Lists, add_lists};
 use crate::codegen::stmt::statement;
 use crate::codegen::targets::assign;
 use crate::codegen::turn::Turn;
@@ -43,9 +49,7 @@ use std::collections::BTreeMap;
 #[derive(Drop)]
 pub struct CodeGenerator<'s, V: TemplateValue = Value> {
     code: Emitter<'s, V>,
-    file: &'s str,
-    source: &'s str,
-    blocks: BTreeMap<&'s str, Instructions<'s, V>>,
+    lists: Lists<'s, V>,
     raw_template_bytes: usize,
     refusal: Option<Error<'s>>,
 }
@@ -63,9 +67,11 @@ impl<'s, V: TemplateValue> CodeGenerator<'s, V> {
     {
         CodeGenerator {
             code: Emitter::new(alloc),
-            file,
-            source,
-            blocks: BTreeMap::new(alloc),
+            lists: Lists {
+                file,
+                source,
+                blocks: BTreeMap::new(alloc),
+            },
             raw_template_bytes: 0,
             refusal: None,
         }
@@ -97,13 +103,17 @@ impl<'s, V: TemplateValue> CodeGenerator<'s, V> {
         ensures causes { IfNone (refusal_of self.old) (IfErr result IsAddError) }
         ensures unplaced { IfNone (refusal_of self.old) (IfErr result IsUnplaced) }
         ensures too_many { IfNone (refusal_of self.old) (IfErr result
-            (λ e. OnlyWhereTooLong e (generated V.contents self.old ++ stmt_code V.functions
-            (stmt_tree V.contents stmt.now) (here_so_far V.contents self.old)))) }
+            (λ e. OnlyWhereOneIsTooLong V.functions e (generated V.contents self.old
+            ++ stmt_code V.functions (stmt_tree V.contents stmt.now)
+            (here_so_far V.contents self.old)) (blocks (stmt_tree V.contents stmt.now)))) }
         ensures kept { IfErr result (λ e. refusal_of self.new ≡ Some e) }
         ensures again { IfSome (refusal_of self.old) (λ e. result ≡ Err e) }
         ensures ready { OnOk result (refusal_of self.new ≡ None) }
 
-        ensures blocks { blocks_of self.new ≡ blocks_of self.old }
+        // Each block in it has its list, by its name. What has another name is left as it was.
+        ensures blocks { OnOk result (AddsLists V.functions V.contents (text_of self.old)
+            (file_of self.old) (blocks (stmt_tree V.contents stmt.now)) (blocks_of self.old)
+            (blocks_of self.new)) }
         ensures name { file_of self.new ≡ file_of self.old }
         ensures source { text_of self.new ≡ text_of self.old }
     {
@@ -113,7 +123,8 @@ impl<'s, V: TemplateValue> CodeGenerator<'s, V> {
         match compile_stmt(&mut self.code, stmt) {
             Ok(data_bytes) => {
                 self.raw_template_bytes = self.raw_template_bytes.saturating_add(data_bytes);
-                self.ended(Ok(()))
+                self.ended(Ok(()))?;
+                self.add_lists(stmt)
             }
             Err(refused) => self.ended(Err(refused)),
         }
@@ -204,14 +215,56 @@ impl<'s, V: TemplateValue> CodeGenerator<'s, V> {
         ensures name { name_of result.0 ≡ file_of self.entry }
         ensures source { source_of result.0 ≡ text_of self.entry }
     {
-        let CodeGenerator {
-            code,
+        let CodeGenerator { code, lists, .. } = self;
+        let Lists {
             file,
             source,
             blocks,
-            ..
-        } = self;
-        (listed(code.into_list(), file, source), blocks)
+        } = lists;
+        (listed(code.into_list(), file, source, false), blocks)
+    }
+
+    /// Adds the list of each block of a statement; a refusal is kept.
+    fn add_lists(&mut self, stmt: &Stmt<'s, V>) -> Result<(), Error<'s>>
+        requires ready { refusal_of self.old ≡ None }
+        requires tree { IsWellFormed (stmt_tree V.contents stmt.now) }
+        ensures added { OnOk result (AddsLists V.functions V.contents (text_of self.old)
+            (file_of self.old) (blocks (stmt_tree V.contents stmt.now)) (blocks_of self.old)
+            (blocks_of self.new)) }
+        ensures too_many { IfErr result (λ e. kind_of e ≡ TooManyInstructions →
+            HaveTooLong V.functions (blocks (stmt_tree V.contents stmt.now))) }
+        ensures causes { IfErr result IsAddError }
+        ensures unplaced { IfErr result IsUnplaced }
+        ensures ready { OnOk result (refusal_of self.new ≡ None) }
+        ensures kept { IfErr result (λ e. refusal_of self.new ≡ Some e) }
+
+        ensures code { generated V.contents self.new ≡ generated V.contents self.old }
+        ensures here { here_so_far V.contents self.new ≡ here_so_far V.contents self.old }
+        ensures counted { counted_bytes self.new ≡ counted_bytes self.old }
+        ensures name { file_of self.new ≡ file_of self.old }
+        ensures source { text_of self.new ≡ text_of self.old }
+    {
+        let alloc = self.code.alloc();
+        match add_lists(&mut self.lists, alloc, stmt) {
+            Ok(()) => Ok(()),
+            Err(error) => {
+                self.keep(error);
+                Err(error)
+            }
+        }
+    }
+
+    /// Keeps a refusal, which comes again from then on.
+    fn keep(&mut self, refusal: Error<'s>)
+        ensures kept { refusal_of self.new ≡ Some refusal.entry }
+        ensures code { generated V.contents self.new ≡ generated V.contents self.old }
+        ensures here { here_so_far V.contents self.new ≡ here_so_far V.contents self.old }
+        ensures counted { counted_bytes self.new ≡ counted_bytes self.old }
+        ensures blocks { blocks_of self.new ≡ blocks_of self.old }
+        ensures name { file_of self.new ≡ file_of self.old }
+        ensures source { text_of self.new ≡ text_of self.old }
+    {
+        self.refusal = Some(refusal);
     }
 
     /// Ends a call that added instructions: a refusal is kept, and so is that of a list that has become too long.
@@ -238,7 +291,7 @@ impl<'s, V: TemplateValue> CodeGenerator<'s, V> {
             Ok(()) => too_many(),
             Err(OutOfMemory) => Error::from(AllocError),
         };
-        self.refusal = Some(error);
+        self.keep(error);
         Err(error)
     }
 }

@@ -3,10 +3,9 @@ use Rattle.std.proofs.Common.{◌≡◌, ℕ, ◌+◌, ◌-◌, List, [], ◌∷
 use Rattle.std.specs.Prelude.{slice_set}
 use Rattle.std.proofs.lemmas.List.{length-set, map-append}
 use Rattle.std.proofs.Math.Seq.{take-append_seam, drop-append_seam}
-use Rattle.minijinja_meaning.specs.Code.{Instr, Jump, JumpIfFalse, JumpIfFalseOrPop, JumpIfTrueOrPop, Iterate}
-use Rattle.minijinja_meaning.specs.Jumps.{target}
+use Rattle.minijinja_meaning.specs.Code.{Instr, BuildMacro, Jump, JumpIfFalse, JumpIfFalseOrPop, JumpIfTrueOrPop, Iterate}
 use Rattle.minijinja_meaning.specs.Pieces.{Here, behind, Piece, nothing, one, ◌▸◌, skipping}
-use Rattle.minijinja_expression_code.specs.private.Making.{Made, here_of, followed, hole, capped, Adds, between}
+use Rattle.minijinja_expression_code.specs.private.Making.{Made, here_of, followed, hole, place_in, capped, Adds, between}
 use Rattle.minijinja_meaning.proofs.Runs.{append_nil}
 
 -- an instruction takes the place of another
@@ -15,13 +14,14 @@ set_between [] ys x y = refl
 set_between (z ∷ xs) ys x y = ap (λ l. z ∷ l) (set_between xs ys x y)
 
 module _ {C : Type 0} where
-  -- what leads nowhere else is not capped
-  pub same_capped : (i : Instr C) → target i ≡ None → capped i ≡ i
+  -- what names no place is not capped
+  pub same_capped : (i : Instr C) → place_in i ≡ None → capped i ≡ i
   same_capped (Jump n) e = absurd (cc)
   same_capped (JumpIfFalse n) e = absurd (cc)
   same_capped (JumpIfFalseOrPop n) e = absurd (cc)
   same_capped (JumpIfTrueOrPop n) e = absurd (cc)
   same_capped (Iterate n) e = absurd (cc)
+  same_capped (BuildMacro x n flags) e = absurd (cc)
   same_capped i e = refl
 
   pub adds_nothing : (m : Made C) → Adds m m nothing

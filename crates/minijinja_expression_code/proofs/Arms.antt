@@ -6,23 +6,23 @@ use Rattle.minijinja_tree.specs.WellFormed.{IsWhole, IsWholeIfAny, AreWhole, Are
 use Rattle.minijinja_tree.specs.Nodes.{node_of}
 use Rattle.minijinja_tree.specs.Erasure.{unary_op, bin_op, expr_tree, optional_of, exprs_of, args_of, compare_tree}
 use Rattle.minijinja_tree.specs.Tree as tree
-use Rattle.minijinja_tree.specs.declared.ast.Expr.{Expr}
-use Rattle.minijinja_tree.specs.declared.ast.Expr.TheVariants as expr
-use Rattle.minijinja_tree.specs.declared.ast.Spanned.{Spanned}
-use Rattle.minijinja_tree.specs.declared.ast.Slice.{Slice}
-use Rattle.minijinja_tree.specs.declared.ast.UnaryOp.{UnaryOp}
-use Rattle.minijinja_tree.specs.declared.ast.BinOp.{BinOp}
-use Rattle.minijinja_tree.specs.declared.ast.Compare.{Compare}
-use Rattle.minijinja_tree.specs.declared.ast.IfExpr.{IfExpr}
-use Rattle.minijinja_tree.specs.declared.ast.Filter.{Filter}
-use Rattle.minijinja_tree.specs.declared.ast.Test.{Test}
-use Rattle.minijinja_tree.specs.declared.ast.GetAttr.{GetAttr}
-use Rattle.minijinja_tree.specs.declared.ast.GetItem.{GetItem}
-use Rattle.minijinja_tree.specs.declared.ast.Call.{Call}
-use Rattle.minijinja_tree.specs.declared.ast.List.{List}
-use Rattle.minijinja_tree.specs.declared.ast.Tuple.{Tuple}
-use Rattle.minijinja_tree.specs.declared.ast.Map.{Map}
-use Rattle.minijinja_tree.proofs.Nodes.{slice_is, if_expr_is, filter_is, test_is, call_is, list_is, tuple_is, map_is}
+use Rattle.minijinja_expressions.specs.declared.ast.Expr.{Expr}
+use Rattle.minijinja_expressions.specs.declared.ast.Expr.TheVariants as expr
+use Rattle.minijinja_expressions.specs.declared.ast.Spanned.{Spanned}
+use Rattle.minijinja_expressions.specs.declared.ast.Slice.{Slice}
+use Rattle.minijinja_expressions.specs.declared.ast.UnaryOp.{UnaryOp}
+use Rattle.minijinja_expressions.specs.declared.ast.BinOp.{BinOp}
+use Rattle.minijinja_expressions.specs.declared.ast.Compare.{Compare}
+use Rattle.minijinja_expressions.specs.declared.ast.IfExpr.{IfExpr}
+use Rattle.minijinja_expressions.specs.declared.ast.Filter.{Filter}
+use Rattle.minijinja_expressions.specs.declared.ast.Test.{Test}
+use Rattle.minijinja_expressions.specs.declared.ast.GetAttr.{GetAttr}
+use Rattle.minijinja_expressions.specs.declared.ast.GetItem.{GetItem}
+use Rattle.minijinja_expressions.specs.declared.ast.Call.{Call}
+use Rattle.minijinja_expressions.specs.declared.ast.List.{List}
+use Rattle.minijinja_expressions.specs.declared.ast.Tuple.{Tuple}
+use Rattle.minijinja_expressions.specs.declared.ast.Map.{Map}
+use Rattle.minijinja_expressions.proofs.SpannedNodes.{slice_is, if_expr_is, filter_is, test_is, call_is, list_is, tuple_is, map_is}
 
 module _ {V F C : Type 0} (c : V → C) where
   pub slice_arm : (e : Expr V F) (s : Spanned (Slice V F)) (n : Slice V F) → e ≡ expr.Slice s → n ≡ node_of s → expr_tree c e ≡ tree.slice (expr_tree c n.expr) (optional_of c n.start) (optional_of c n.stop) (optional_of c n.step)

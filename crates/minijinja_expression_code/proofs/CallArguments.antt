@@ -9,8 +9,8 @@ use Rattle.minijinja_tree.specs.Erasure.{expr_tree, arg_tree, args_of}
 use Rattle.minijinja_tree.specs.Folding.{constant_keywords, fold_keywords}
 use Rattle.minijinja_tree.specs.Tree.{Args, no_args, pos, pos_splat, kwarg, kwarg_splat}
 use Rattle.minijinja_tree.specs.WellFormed.{IsWhole, AreArguments, arg_count, most_arguments}
-use Rattle.minijinja_tree.specs.declared.ast.CallArg.{CallArg, Pos, Kwarg, PosSplat, KwargSplat}
-use Rattle.minijinja_tree.specs.declared.ast.Expr.{Expr}
+use Rattle.minijinja_expressions.specs.declared.ast.CallArg.{CallArg, Pos, Kwarg, PosSplat, KwargSplat}
+use Rattle.minijinja_expressions.specs.declared.ast.Expr.{Expr}
 use Rattle.minijinja_meaning.specs.Code.{Load, Do}
 use Rattle.minijinja_meaning.specs.Events.{MergeKwargs, UnpackLists}
 use Rattle.minijinja_meaning.specs.Pieces.{Here, Piece, nothing, one, ◌▸◌}

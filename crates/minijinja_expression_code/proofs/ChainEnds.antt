@@ -7,9 +7,9 @@ use Rattle.minijinja_tree.specs.Folding.{if_some, fold, fold_chain}
 use Rattle.minijinja_tree.specs.Tree.{Expr, compare}
 use Rattle.minijinja_tree.specs.Erasure.{expr_tree, compare_op, compare_tree, comparisons_of}
 use Rattle.minijinja_tree.specs.WellFormed.{IsWhole, IsChain}
-use Rattle.minijinja_tree.specs.declared.ast.Compare.{Compare, out-Compare}
-use Rattle.minijinja_tree.specs.declared.ast.CompareOp.{CompareOp as Comparison}
-use Rattle.minijinja_tree.proofs.Nodes.{compare_is}
+use Rattle.minijinja_expressions.specs.declared.ast.Compare.{Compare, out-Compare}
+use Rattle.minijinja_expressions.specs.declared.ast.CompareOp.{CompareOp as Comparison}
+use Rattle.minijinja_expressions.proofs.SpannedNodes.{compare_is}
 use Rattle.minijinja_meaning.specs.Code.{Instr, Load}
 use Rattle.minijinja_meaning.specs.Layout.{comparisons, expr}
 use Rattle.minijinja_expression_code.specs.private.Leading.{Finishes}

@@ -7,7 +7,7 @@ use Rattle.minijinja_tree.specs.Comparisons.{compares}
 use Rattle.minijinja_tree.specs.Folding.{if_some, unless_fault, fold, fold_chain}
 use Rattle.minijinja_tree.specs.Tree.{Expr, Comparisons, against}
 use Rattle.minijinja_tree.specs.WellFormed.{IsWhole}
-use Rattle.minijinja_tree.proofs.Chains.{chain-holds, chain-fails, chain-faults, chain-unknown}
+use Rattle.minijinja_expressions.proofs.Chains.{chain-holds, chain-fails, chain-faults, chain-unknown}
 use Rattle.minijinja_meaning.specs.Code.{Instr, Load}
 use Rattle.minijinja_meaning.specs.Layout.{expr}
 use Rattle.minijinja_meaning.specs.Pieces.{one}

@@ -9,7 +9,7 @@ use Rattle.minijinja_tree.specs.Folding.{if_some, fold, fold_chain}
 use Rattle.minijinja_tree.specs.Tree.{Expr, Comparisons, against, compare}
 use Rattle.minijinja_tree.specs.Erasure.{expr_tree, compare_op, comparisons_of}
 use Rattle.minijinja_tree.specs.WellFormed.{IsWhole, AreCompared}
-use Rattle.minijinja_tree.specs.declared.ast.CompareOp.{CompareOp as Comparison}
+use Rattle.minijinja_expressions.specs.declared.ast.CompareOp.{CompareOp as Comparison}
 use Rattle.minijinja_meaning.specs.Code.{Instr, Load, CompareAndPreserve}
 use Rattle.minijinja_meaning.specs.Layout.{Failing, and_then, expr, comparisons}
 use Rattle.minijinja_meaning.specs.Pieces.{Here, one, ◌▸◌}

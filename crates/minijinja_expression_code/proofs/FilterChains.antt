@@ -9,8 +9,8 @@ use Rattle.minijinja_tree.specs.Erasure.{expr_tree, optional_of, args_of}
 use Rattle.minijinja_tree.specs.Tree as tree
 use Rattle.minijinja_tree.specs.Tree.{absent, present}
 use Rattle.minijinja_tree.specs.WellFormed.{IsChainOfFilters, AreArguments, arg_count, most_arguments}
-use Rattle.minijinja_tree.specs.declared.ast.Expr.{Expr}
-use Rattle.minijinja_tree.specs.declared.ast.Filter.{Filter}
+use Rattle.minijinja_expressions.specs.declared.ast.Expr.{Expr}
+use Rattle.minijinja_expressions.specs.declared.ast.Filter.{Filter}
 use Rattle.minijinja_meaning.specs.Layout as layout
 use Rattle.minijinja_meaning.specs.Pieces.{Piece, ◌▸◌}
 use Rattle.minijinja_expression_code.specs.private.Filtering.{filter_shown}

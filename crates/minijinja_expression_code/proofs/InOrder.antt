@@ -4,7 +4,7 @@ use Rattle.std.proofs.lemmas.List.{at_drop_more, at_drop_all}
 use Rattle.minijinja_value.specs.Values.{Functions}
 use Rattle.minijinja_tree.specs.Erasure.{expr_tree, exprs_of}
 use Rattle.minijinja_tree.specs.WellFormed.{IsWhole, AreWhole, expr_count}
-use Rattle.minijinja_tree.specs.declared.ast.Expr.{Expr}
+use Rattle.minijinja_expressions.specs.declared.ast.Expr.{Expr}
 use Rattle.minijinja_meaning.specs.Layout as layout
 use Rattle.minijinja_meaning.specs.Layout.{items, each, paired}
 use Rattle.minijinja_meaning.specs.Pieces.{Piece, nothing, ◌▸◌}

@@ -17,3 +17,4 @@ pub mod OperatorCode
 pub mod Outputs
 pub mod Results
 pub mod Waiting
+pub mod CallerArguments

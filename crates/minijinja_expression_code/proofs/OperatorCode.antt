@@ -1,13 +1,13 @@
 -- Operators while their code is being made: what folds, and what stands in its place.
-use Rattle.std.proofs.Common.{◌≡◌, ℕ, ◌+◌, ◌-◌, ◌^◌, min, ◌<◌, ◌≤◌, List, [], ◌∷◌, ◌++◌, length, map, take, drop, Option, Some, None, refl, sym, ap, ◌∙◌, arith, append_assoc, length-append}
+use Rattle.std.proofs.Common.{◌≡◌, ℕ, ◌+◌, ◌-◌, ◌^◌, min, ◌<◌, ◌≤◌, List, [], ◌∷◌, ◌++◌, length, map, take, drop, Option, Some, None, refl, sym, ap, ◌∙◌, arith, append_assoc, length-append, subst}
 use Rattle.std.specs.Option.{option_map}
 use Rattle.std.specs.Prelude.{true, false, is_some, slice_set}
-use Rattle.std.proofs.lemmas.List.{take-map, map-append, take-append-le}
+use Rattle.std.proofs.lemmas.List.{take-map, take-take, map-append, take-append-le}
 use Rattle.std.proofs.Math.Seq.{take-append_seam, drop-append_seam}
 use Rattle.minijinja_value.specs.Values.{Functions}
-use Rattle.minijinja_tree.specs.BinOps.{BinOp}
+use Rattle.minijinja_tree.specs.BinOps.{BinOp, concat}
 use Rattle.minijinja_tree.specs.Folding.{fold, if_some, fold_unary, fold_binary}
-use Rattle.minijinja_tree.specs.Operators.{Working, Makes, Divides, IfTrue, IfFalse, working}
+use Rattle.minijinja_tree.specs.Operators.{Working, Makes, Divides, IfTrue, IfFalse, compute, working}
 use Rattle.minijinja_tree.specs.Tree.{Expr, UnaryOp, unary, binary}
 use Rattle.minijinja_tree.specs.WellFormed.{IsWhole}
 use Rattle.minijinja_meaning.specs.Code.{Instr, Load}
@@ -15,6 +15,7 @@ use Rattle.minijinja_meaning.specs.Layout.{expr, unary_instr, operation}
 use Rattle.minijinja_meaning.specs.Pieces.{behind, Piece, nothing, one, ◌▸◌, skipping}
 use Rattle.minijinja_expression_code.specs.private.Leading.{After, Finishes, before_right}
 use Rattle.minijinja_expression_code.specs.private.Making.{Made, here_of, hole, capped, reach, Adds, alone, between, is_lazy, jump_of, operator_of}
+use Rattle.minijinja_expression_code.specs.private.Constants.{TakesConstants, are_both, both_loaded}
 use Rattle.minijinja_expression_code.specs.private.Operating.{Sides, EndsBinary, known_between}
 use Rattle.minijinja_meaning.proofs.FoldedCode.{folded_some, folded_none, folded_code}
 use Rattle.minijinja_meaning.proofs.Runs.{append_nil}
@@ -297,6 +298,27 @@ module _ {C F : Type 0} (f : Functions C F) where
 
   pub strict_unknown : (o : BinOp) (old new : Made C) {start middle : ℕ} → is_lazy (working o) ≡ false → (middle ≤ length old.code → None ≡ known_between f (working o) start middle old.code) → Adds old new (one (operator_of (working o))) → EndsBinary f o start middle old new
   strict_unknown o old new e k t p q begun wp wq s = binary_added o p q e s (sym (k (middle_within p q s) ∙ strict_known o p q e wp wq s)) t
+
+  not_both : (w : Working) (x y : Option C) → are_both x y ≡ false → ◌≡◌ {A = Option C} None (if_some x (λ a. if_some y (λ b. fold_binary f w a b)))
+  unfolding if_some
+  not_both w None y e = refl
+  not_both w (Some a) None e = refl
+  not_both w (Some a) (Some b) e = absurd (cc)
+
+  -- two constants are joined, which were taken back
+  pub joined_given : {V : Type 0} (v : V → C) (old cut new : Made C) (l r : V) {x : C} {start middle : ℕ} → (middle ≤ length old.code → TakesConstants v start middle old (Some (l, r)) cut) → x ≡ f.concat (v l) (v r) → new ≡ record cut { code = take start cut.code ++ Load x ∷ [] } → EndsBinary f concat start middle old new
+  unfolding compute
+  joined_given v old cut new l r {x} {start} {middle} taken ex en p q begun wp wq s =
+      let t = taken (middle_within p q s) in
+      let known : Some x ≡ known_between f (working concat) start middle old.code = ap Some ex ∙ known_both (working concat) old.code start middle t.0 t.1 in
+      binary_replaced concat p q s (sym (known ∙ strict_known concat p q refl wp wq s))
+      (en ∙ ap (λ (m : Made C). record m { code = take start m.code ++ Load x ∷ [] }) t.2 ∙ ap (λ (c : List (Instr C)). record old { code = c ++ Load x ∷ [] }) (take-take start start old.code (omega arith)))
+
+  pub joined_unknown : {V : Type 0} (v : V → C) (old cut new : Made C) {start middle : ℕ} → (middle ≤ length old.code → TakesConstants v start middle old None cut) → Adds cut new (one (operator_of (working concat))) → EndsBinary f concat start middle old new
+  joined_unknown v old cut new {start} {middle} taken t p q begun wp wq s =
+      let k = taken (middle_within p q s) in
+      let none = not_both (working concat) (alone (between start middle old.code)) (alone (between middle (length old.code) old.code)) k.0 in
+      binary_added concat p q refl s (sym (none ∙ strict_known concat p q refl wp wq s)) (subst (λ m. Adds m new (one (operator_of (working concat)))) k.1 t)
 
   left_given : {o : BinOp} (p q : Expr C) (r : Option C) {start middle : ℕ} {a b : Made C} → IsWhole p → Sides f o p q start middle a b → (middle ≤ length b.code → r ≡ alone (between start middle b.code)) → fold f p ≡ r
   left_given p q r w s k = sym (k (middle_within p q s) ∙ left_alone p q w s)

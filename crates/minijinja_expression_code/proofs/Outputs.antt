@@ -5,10 +5,10 @@ use Rattle.minijinja_syntax.specs.Texts.{Text}
 use Rattle.minijinja_tree.specs.Erasure.{expr_tree, compare_tree, arg_tree, args_of}
 use Rattle.minijinja_tree.specs.Tree as tree
 use Rattle.minijinja_tree.specs.WellFormed.{IsWhole}
-use Rattle.minijinja_tree.specs.declared.ast.CallArg.TheBlock as block
-use Rattle.minijinja_tree.specs.declared.ast.Expr.{Expr}
-use Rattle.minijinja_tree.specs.declared.ast.Expr.TheVariants as expr
-use Rattle.minijinja_tree.specs.declared.ast.Expr.TheVariants.{Compare'}
+use Rattle.minijinja_expressions.specs.declared.ast.CallArg.TheBlock as block
+use Rattle.minijinja_expressions.specs.declared.ast.Expr.{Expr}
+use Rattle.minijinja_expressions.specs.declared.ast.Expr.TheVariants as expr
+use Rattle.minijinja_expressions.specs.declared.ast.Expr.TheVariants.{Compare'}
 use Rattle.minijinja_meaning.specs.Calls.{Recursion, Plain, written_loop, written_function, written}
 use Rattle.minijinja_meaning.proofs.StatementSimulation.{WrittenWhole, written_whole}
 

@@ -6,7 +6,7 @@ use Rattle.minijinja_value.specs.Values.{Functions}
 use Rattle.minijinja_tree.specs.Erasure.{expr_tree}
 use Rattle.minijinja_tree.specs.Tree.{Expr, if_expr}
 use Rattle.minijinja_tree.specs.WellFormed.{IsWhole}
-use Rattle.minijinja_tree.specs.declared.ast.Expr.{size-Expr}
+use Rattle.minijinja_expressions.specs.declared.ast.Expr.{size-Expr}
 use Rattle.minijinja_meaning.specs.Layout.{expr}
 use Rattle.minijinja_expression_code.specs.private.Making.{Made, Adds}
 use Rattle.minijinja_expression_code.specs.private.Leading.{leading, piece_of, Ready, Begins, Finishes}

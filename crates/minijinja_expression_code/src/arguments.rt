@@ -7,6 +7,7 @@ ghost use Rattle.minijinja_meaning.specs.Layout as layout;
 ghost use Rattle.minijinja_meaning.specs.Layout.{batch_count, count_one, count_batch, count_positional, count_keyword, counted, list_batch, map_batch, map_count, merged, spreading};
 ghost use Rattle.minijinja_meaning.specs.Code.{Load};
 ghost use Rattle.minijinja_meaning.specs.Pieces.{one};
+ghost use Rattle.minijinja_expression_code.specs.private.Callers.{AreCounts, arguments_end, end_count};
 ghost use Rattle.minijinja_expression_code.specs.private.Making.{made_of, count_of, operands, given, Adds, AddsIf};
 
 use crate::emit::Emitter;
@@ -84,6 +85,54 @@ pub(crate) fn arguments<'s, V: TemplateValue>(
     let pairs = keyword_pairs(code, args)?;
     let map = merge(code, pairs)?;
     spread(code, count, map)
+}
+
+/// What the arguments of a call that takes a macro along have left, with that macro as the last of those with a keyword.
+#[derive(Clone, Copy)]
+pub struct Counts {
+    positional: Count,
+    keyword: Count,
+}
+
+/// Adds the arguments of a call after so many operands, up to the macro that it takes along.
+pub(crate) fn up_to_caller<'s, V: TemplateValue>(
+    code: &mut Emitter<'s, V>,
+    args: &[CallArg<'s, V>],
+    front: usize,
+) -> Result<Counts, OutOfMemory>
+    requires whole { AreArguments (args_of V.contents args.now) }
+    requires few { arg_count (args_of V.contents args.now) ≤ most_arguments }
+    requires front { front ≤ 1 }
+    ensures counts { IfOk result (AreCounts (args_of V.contents args.now) front) }
+    ensures added { OnOk result (Adds (made_of V.contents code.old) (made_of V.contents code.new)
+        (layout.up_to_caller V.functions (args_of V.contents args.now) front)) }
+{
+    let positional = positional_arguments(code, args, front)?;
+    let keyword = keyword_pairs(code, args)?;
+    load_name(code, "caller")?;
+    Ok(Counts {
+        positional,
+        keyword: keyword.one(),
+    })
+}
+
+/// Ends the arguments after that macro, and answers how many the call has then, or nothing where their count is on top of
+/// them.
+pub(crate) fn end_arguments<'s, V: TemplateValue>(
+    code: &mut Emitter<'s, V>,
+    args: &[CallArg<'s, V>],
+    front: usize,
+    counts: Counts,
+) -> Result<Option<u16>, OutOfMemory>
+    requires few { arg_count (args_of V.contents args.now) ≤ most_arguments }
+    requires front { front ≤ 1 }
+    requires counts { AreCounts (args_of V.contents args.now) front counts }
+    ensures count { IfOk result (λ n. n ≡ end_count (args_of V.contents args.now) front) }
+    ensures added { OnOk result (Adds (made_of V.contents code.old) (made_of V.contents code.new)
+        (arguments_end (args_of V.contents args.now) front)) }
+{
+    let map = merge(code, counts.keyword)?;
+    spread(code, counts.positional, map)
 }
 
 /// Adds the code of the positional and `*` arguments after so many operands.

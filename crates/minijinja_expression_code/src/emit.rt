@@ -1,10 +1,10 @@
 //! The instructions of a unit that is being made.
 ghost use Rattle.std.specs.Prelude.{◌≡◌, ◌≤◌, ◌++◌, map, [], ◌∷◌, length, take, ◌<◌, slice_set, None, IfOk, OnOk};
 ghost use Rattle.std.specs.Option.{option_map};
-ghost use Rattle.minijinja_meaning.specs.Code.{Jump, Load};
-ghost use Rattle.minijinja_meaning.specs.Jumps.{target};
+ghost use Rattle.minijinja_meaning.specs.Code.{BuildMacro, Jump, Load};
 ghost use Rattle.minijinja_instructions.specs.Instructions.{instr_of};
-ghost use Rattle.minijinja_expression_code.specs.private.Making.{made_of, here_of, reach, hole, alone, between, loaded_by, with_last, Adds};
+ghost use Rattle.minijinja_expression_code.specs.private.Making.{made_of, here_of, place_in, reach, hole, alone, between, loaded_by, with_last, Adds};
+ghost use Rattle.minijinja_expression_code.specs.private.Constants.{TakesConstants, both_loaded, last_loaded, without_last};
 ghost use Rattle.minijinja_meaning.specs.Pieces.{start, one, id_of, noted};
 
 use crate::memory::OutOfMemory;
@@ -71,10 +71,10 @@ impl<'s, V: TemplateValue> Emitter<'s, V> {
         Ok(())
     }
 
-    /// Adds an instruction that leads nowhere else.
+    /// Adds an instruction that names no place.
     #[inline(always)]
     pub fn add(&mut self, instruction: Instruction<'s, V>) -> Result<(), OutOfMemory>
-        requires { target (instr_of V.contents instruction) ≡ None }
+        requires { place_in (instr_of V.contents instruction) ≡ None }
         ensures { OnOk result (Adds (made_of V.contents self.old) (made_of V.contents self.new)
             (one (instr_of V.contents instruction.entry))) }
     {
@@ -88,6 +88,16 @@ impl<'s, V: TemplateValue> Emitter<'s, V> {
             (one (Jump place))) }
     {
         self.list.push(Instruction::Jump(reached(place)))?;
+        Ok(())
+    }
+
+    /// Adds an instruction that makes a macro, of its name, the place where what it runs begins, and its flags.
+    pub fn make_macro(&mut self, name: &'s str, entry: usize, flags: u8) -> Result<(), OutOfMemory>
+        ensures { OnOk result (Adds (made_of V.contents self.old) (made_of V.contents self.new)
+            (one (BuildMacro name.now entry flags))) }
+    {
+        self.list
+            .push(Instruction::BuildMacro(name, reached(entry), flags))?;
         Ok(())
     }
 
@@ -136,6 +146,42 @@ impl<'s, V: TemplateValue> Emitter<'s, V> {
         self.list.truncate(place);
         self.list.push(Instruction::LoadConst(value))?;
         Ok(())
+    }
+
+    /// Takes back the constants that are loaded from one place up to another and from there on, if that is all that is done
+    /// there.
+    pub(crate) fn take_constants(&mut self, start: usize, middle: usize) -> Option<(V, V)>
+        ensures { middle ≤ length (made_of V.contents self.old).code →
+            TakesConstants V.contents start middle (made_of V.contents self.old) result
+            (made_of V.contents self.new) }
+    {
+        if !self.are_constants(start, middle) {
+            return None;
+        }
+        let right = self.pop_constant()?;
+        let left = self.pop_constant()?;
+        Some((left, right))
+    }
+
+    /// Whether constants are loaded from one place up to another and from there on, and that is all that is done there.
+    fn are_constants(&self, start: usize, middle: usize) -> bool
+        ensures { middle ≤ length (made_of V.contents self.now).code →
+            (result ≡ both_loaded start middle (made_of V.contents self.now).code) }
+    {
+        self.constant(start, middle).is_some() && self.constant(middle, self.place()).is_some()
+    }
+
+    /// Takes back the last instruction, and answers the constant that it loads, if it does that.
+    fn pop_constant(&mut self) -> Option<V>
+        ensures constant { option_map V.contents result
+            ≡ last_loaded (made_of V.contents self.old).code }
+        ensures rest { made_of V.contents self.new ≡ record (made_of V.contents self.old)
+            { code = without_last (made_of V.contents self.old).code } }
+    {
+        match self.list.pop() {
+            Some(last) => into_constant(last),
+            None => None,
+        }
     }
 
     /// Takes back what stands from a place on.
@@ -191,6 +237,16 @@ fn reached(place: usize) -> u32
 fn constant_of<'a, V: TemplateValue>(instruction: &'a Instruction<'_, V>) -> Option<&'a V>
     ensures { option_map (λ v. V.contents v.now) result
         ≡ loaded_by (instr_of V.contents instruction.now) }
+{
+    match instruction {
+        Instruction::LoadConst(value) => Some(value),
+        _ => None,
+    }
+}
+
+/// The same, of an instruction that is taken apart.
+fn into_constant<V: TemplateValue>(instruction: Instruction<'_, V>) -> Option<V>
+    ensures { option_map V.contents result ≡ loaded_by (instr_of V.contents instruction.entry) }
 {
     match instruction {
         Instruction::LoadConst(value) => Some(value),

@@ -249,7 +249,7 @@ pub(crate) fn apply_filter<'s, V: TemplateValue>(
 }
 
 /// Adds a call of a block whose output is its value.
-fn capture_block<'s, V: TemplateValue>(
+pub(crate) fn capture_block<'s, V: TemplateValue>(
     code: &mut Emitter<'s, V>,
     name: &'s str,
 ) -> Result<(), OutOfMemory>

@@ -2,8 +2,8 @@
 ghost use Rattle.std.specs.Prelude.{◌≡◌, ◌<◌, OnOk};
 ghost use Rattle.minijinja_tree.specs.Erasure.{expr_tree};
 ghost use Rattle.minijinja_tree.specs.WellFormed.{IsChainOfFilters};
-ghost use Rattle.minijinja_tree.specs.declared.ast.Expr.{size-Expr};
-ghost use Rattle.minijinja_tree.specs.declared.ast.Filter.{size-Filter};
+ghost use Rattle.minijinja_expressions.specs.declared.ast.Expr.{size-Expr};
+ghost use Rattle.minijinja_expressions.specs.declared.ast.Filter.{size-Filter};
 ghost use Rattle.minijinja_meaning.specs.Layout as layout;
 ghost use Rattle.minijinja_expression_code.specs.private.Filtering.{filter_shown};
 ghost use Rattle.minijinja_expression_code.specs.private.Making.{made_of, Adds};

@@ -3,7 +3,7 @@ ghost use Rattle.std.specs.Prelude.{◌≡◌, ◌<◌, ◌≤◌, Some, IfSome,
 ghost use Rattle.std.specs.Option.{option_map};
 ghost use Rattle.minijinja_tree.specs.Callees.{callee};
 ghost use Rattle.minijinja_tree.specs.Erasure.{expr_tree};
-ghost use Rattle.minijinja_tree.specs.declared.ast.Expr.{size-Expr};
+ghost use Rattle.minijinja_expressions.specs.declared.ast.Expr.{size-Expr};
 ghost use Rattle.minijinja_expression_code.specs.private.Leading.{called_on, leading, test_in};
 
 use minijinja_base::value::TemplateValue;

@@ -1,8 +1,9 @@
 //! From the expressions of a tree to their instructions.
 #![tactic(auto)]
 
-mod arguments;
+pub mod arguments;
 pub mod branches;
+pub mod calls;
 mod chain;
 pub mod emit;
 pub mod expr;

@@ -1,6 +1,7 @@
 //! Instructions of operators; an operator on constants folds.
 ghost use Rattle.std.specs.Prelude.{◌≡◌, ◌≤◌, None, Some, length, true, false, if◌then◌else◌, IfOk, OnOk};
 ghost use Rattle.std.specs.Option.{option_map};
+ghost use Rattle.minijinja_tree.specs.BinOps.{concat};
 ghost use Rattle.minijinja_tree.specs.Erasure.{unary_op, bin_op};
 ghost use Rattle.minijinja_tree.specs.Folding.{fold_binary};
 ghost use Rattle.minijinja_tree.specs.Operators.{working};
@@ -70,9 +71,30 @@ pub(crate) fn end_binary<V: TemplateValue>(
     if is_lazy(op) {
         return end_lazy(code, op, start, middle);
     }
+    if let BinOpKind::Concat = op {
+        return end_concat(code, start, middle);
+    }
     match fold_between(code, op, start, middle)? {
         Some(value) => code.replace(start, value),
         None => code.add(operator(op)),
+    }
+}
+
+/// The same of `~`, which joins two constants in the memory of the left one, so that a row of them takes linear time.
+fn end_concat<V: TemplateValue>(
+    code: &mut Emitter<'_, V>,
+    start: usize,
+    middle: usize,
+) -> Result<(), OutOfMemory>
+    ensures { OnOk result (EndsBinary V.functions concat start middle
+        (made_of V.contents code.old) (made_of V.contents code.new)) }
+{
+    match code.take_constants(start, middle) {
+        Some((left, right)) => {
+            let joined = left.concat(code.alloc(), &right)?;
+            code.replace(start, joined)
+        }
+        None => code.add(Instruction::StringConcat),
     }
 }
 

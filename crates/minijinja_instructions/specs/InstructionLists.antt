@@ -1,5 +1,5 @@
 -- What a list of instructions shows of itself.
-use Rattle.std.specs.Prelude.{◌≡◌, ◌⊎◌, List}
+use Rattle.std.specs.Prelude.{◌≡◌, ◌⊎◌, Bool, List}
 use Rattle.minijinja_syntax.specs.Texts.{Text}
 use Rattle.minijinja_syntax.specs.Errors.{kind_of}
 use Rattle.minijinja_syntax.specs.declared.error.Error.{Error}
@@ -15,6 +15,10 @@ name_of code = code.name.now
 
 abbrev pub source_of : {V F : Type 0} → Instructions V F → Text
 source_of code = code.source.now
+
+-- whether it is that of a block that another template has to override
+abbrev pub is_required : {V F : Type 0} → Instructions V F → Bool
+is_required code = code.is_required_block
 
 -- an instruction is refused for want of memory or of room
 abbrev pub IsAddError : Error → Type 0

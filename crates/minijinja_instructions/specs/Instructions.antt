@@ -11,7 +11,7 @@ use Rattle.minijinja_instructions.specs.declared.instructions.CaptureMode.TheVar
 use Rattle.minijinja_instructions.specs.declared.instructions.CompareOp.{CompareOp}
 use Rattle.minijinja_instructions.specs.declared.instructions.CompareOp.TheVariants as compare_op
 use Rattle.minijinja_instructions.specs.declared.instructions.Instruction.{Instruction}
-use Rattle.minijinja_instructions.specs.declared.instructions.Instruction.TheVariants.{EmitRaw, StoreLocal, Lookup, GetAttr, SetAttr, GetItem, Slice, LoadConst, BuildMap, BuildKwargs, MergeKwargs, BuildList, BuildTuple, UnpackList, UnpackLists, Add, Sub, Mul, Div, IntDiv, Rem, Pow, Neg, Eq, Ne, Gt, Gte, Lt, Lte, Not, StringConcat, In, CompareAndPreserve, ApplyFilter, PerformTest, Emit, PushLoop, PushWith, Iterate, PushDidNotIterate, PopFrame, PopLoopFrame, Jump, JumpIfFalse, JumpIfFalseOrPop, JumpIfTrueOrPop, PushAutoEscape, PopAutoEscape, BeginCapture, EndCapture, CallFunction, CallMethod, CallObject, DupTop, DiscardTop, FastSuper, FastRecurse, Swap, CallBlock}
+use Rattle.minijinja_instructions.specs.declared.instructions.Instruction.TheVariants.{EmitRaw, StoreLocal, Lookup, GetAttr, SetAttr, GetItem, Slice, LoadConst, BuildMap, BuildKwargs, MergeKwargs, BuildList, BuildTuple, UnpackList, UnpackLists, Add, Sub, Mul, Div, IntDiv, Rem, Pow, Neg, Eq, Ne, Gt, Gte, Lt, Lte, Not, StringConcat, In, CompareAndPreserve, ApplyFilter, PerformTest, Emit, PushLoop, PushWith, Iterate, PushDidNotIterate, PopFrame, PopLoopFrame, Jump, JumpIfFalse, JumpIfFalseOrPop, JumpIfTrueOrPop, PushAutoEscape, PopAutoEscape, BeginCapture, EndCapture, CallFunction, CallMethod, CallObject, DupTop, DiscardTop, FastSuper, FastRecurse, Swap, CallBlock, LoadBlocks, Include, ExportLocals, Enclose, GetClosure, BuildMacro, Return, IsUndefined}
 use Rattle.minijinja_instructions.specs.declared.instructions.Instructions.{Instructions}
 
 -- a comparison of a chain
@@ -91,6 +91,14 @@ instr_of c FastSuper = code.Do event.FastSuper [] 0
 instr_of c FastRecurse = code.Do event.FastRecurse [] 1
 instr_of c Swap = code.Swap
 instr_of c (CallBlock x) = code.Do event.CallBlock x.now 0
+instr_of c LoadBlocks = code.Do event.LoadBlocks [] 1
+instr_of c (Include ignore) = code.Do (event.Include ignore) [] 1
+instr_of c ExportLocals = code.Do event.ExportLocals [] 0
+instr_of c (Enclose x) = code.Do event.Enclose x.now 0
+instr_of c GetClosure = code.Do event.GetClosure [] 0
+instr_of c (BuildMacro x entry flags) = code.BuildMacro x.now entry flags
+instr_of c Return = code.Return
+instr_of c IsUndefined = code.IsUndefined
 
 -- the instructions of a list
 abbrev pub code_of : {V F C : Type 0} → (V → C) → Instructions V F → List (Instr C)

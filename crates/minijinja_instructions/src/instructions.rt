@@ -1,9 +1,9 @@
 //! Instructions, and lists of them.
-ghost use Rattle.std.specs.Prelude.{◌≡◌, ◌+◌, ◌≤◌, ◌<◌, ◌^◌, ◌==◌, ◌++◌, ◌∷◌, [], ◌↔◌, length, slice_get, IfOk, IfErr, OnOk, OnErr, IsErr, Option};
+ghost use Rattle.std.specs.Prelude.{◌≡◌, ◌+◌, ◌≤◌, ◌<◌, ◌^◌, ◌==◌, ◌++◌, ◌∷◌, [], ◌↔◌, length, slice_get, false, IfOk, IfErr, OnOk, OnErr, IsErr, Option};
 ghost use Rattle.std.specs.Option.{option_copied, option_copied_mut};
 ghost use Rattle.minijinja_syntax.specs.Errors.{kind_of};
 ghost use Rattle.minijinja_syntax.specs.declared.error.ErrorKind.TheVariants.{OutOfMemory, TooManyInstructions};
-ghost use Rattle.minijinja_instructions.specs.InstructionLists.{instructions_of, name_of, source_of, IsAddError};
+ghost use Rattle.minijinja_instructions.specs.InstructionLists.{instructions_of, is_required, name_of, source_of, IsAddError};
 
 use crate::lists::{LIMIT, too_many};
 use minijinja_base::error::Error;
@@ -21,6 +21,9 @@ pub const LOOP_FLAG_WITH_LOOP_VAR: u8 = 1;
 
 /// The flag of a loop that is recursive.
 pub const LOOP_FLAG_RECURSIVE: u8 = 2;
+
+/// The flag of a macro that asks for its caller.
+pub const MACRO_CALLER: u8 = 2;
 
 /// A comparison of a chain. `In` is whether the left value is in the right one.
 #[derive(Clone, Copy, Debug, PartialEq, Eq)]
@@ -167,6 +170,22 @@ pub enum Instruction<'s, V: TemplateValue = Value> {
     Swap,
     /// Writes a block.
     CallBlock(&'s str),
+    /// Pops the name of a template, whose blocks the ones here override.
+    LoadBlocks,
+    /// Pops the name of a template and writes it; says whether a missing one is ignored.
+    Include(bool),
+    /// Pushes what the innermost scope has stored.
+    ExportLocals,
+    /// Takes a variable into the closure of the macro that is being made.
+    Enclose(&'s str),
+    /// Pushes that closure.
+    GetClosure,
+    /// Replaces a closure and the names of arguments by a macro, with its name, the index where what it runs begins, and its flags.
+    BuildMacro(&'s str, u32, u8),
+    /// Ends what a macro runs.
+    Return,
+    /// Replaces a value by whether it is undefined.
+    IsUndefined,
 }
 
 /// A list of instructions, with the name and the text of the source that they come from. It has fewer than 2^32.
@@ -175,12 +194,14 @@ pub struct Instructions<'s, V: TemplateValue = Value> {
     pub(crate) instructions: Vec<Instruction<'s, V>>,
     pub(crate) name: &'s str,
     pub(crate) source: &'s str,
+    pub(crate) is_required_block: bool,
 }
 
 impl<'s, V: TemplateValue> Instructions<'s, V> {
     /// An empty list, which takes no memory yet.
     pub fn new(alloc: Global, name: &'s str, source: &'s str) -> Self
         ensures empty { instructions_of result ≡ [] }
+        ensures required { is_required result ≡ false }
         ensures name { name_of result ≡ name.now }
         ensures source { source_of result ≡ source.now }
     {
@@ -188,7 +209,15 @@ impl<'s, V: TemplateValue> Instructions<'s, V> {
             instructions: Vec::new(alloc),
             name,
             source,
+            is_required_block: false,
         }
+    }
+
+    /// Whether it is the list of a block that another template has to override.
+    pub fn is_required_block(&self) -> bool
+        ensures { result ≡ is_required self.now }
+    {
+        self.is_required_block
     }
 
     /// The name of the source.
@@ -245,6 +274,7 @@ impl<'s, V: TemplateValue> Instructions<'s, V> {
             (instructions_of self.old) + 1) }
         ensures full { 2 ^ 32 ≤ length (instructions_of self.old) + 1 → IfErr result
             (λ e. kind_of e ≡ TooManyInstructions) × IsErr result }
+        ensures required { is_required self.new ≡ is_required self.old }
         ensures name { name_of self.new ≡ name_of self.old }
         ensures source { source_of self.new ≡ source_of self.old }
     {

@@ -3,7 +3,7 @@ ghost use Rattle.std.specs.Prelude.{◌≡◌, None};
 ghost use Rattle.minijinja_syntax.specs.Errors as Errors;
 ghost use Rattle.minijinja_syntax.specs.Errors.{kind_of, span_of};
 ghost use Rattle.minijinja_syntax.specs.declared.error.ErrorKind.TheVariants.{TooManyInstructions};
-ghost use Rattle.minijinja_instructions.specs.InstructionLists.{instructions_of, name_of, source_of};
+ghost use Rattle.minijinja_instructions.specs.InstructionLists.{instructions_of, is_required, name_of, source_of};
 
 use crate::instructions::{Instruction, Instructions};
 use minijinja_base::error::{Detail, Error, ErrorKind};
@@ -32,8 +32,10 @@ pub fn listed<'s, V: TemplateValue>(
     instructions: Vec<Instruction<'s, V>>,
     name: &'s str,
     source: &'s str,
+    is_required_block: bool,
 ) -> Instructions<'s, V>
     ensures instructions { instructions_of result ≡ instructions.entry.items }
+    ensures required { is_required result ≡ is_required_block }
     ensures name { name_of result ≡ name.now }
     ensures source { source_of result ≡ source.now }
 {
@@ -41,5 +43,6 @@ pub fn listed<'s, V: TemplateValue>(
         instructions,
         name,
         source,
+        is_required_block,
     }
 }

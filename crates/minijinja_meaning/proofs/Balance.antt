@@ -5,12 +5,14 @@ use Rattle.minijinja_value.specs.Values.{Functions}
 use Rattle.minijinja_tree.specs.Operators.{Working, Makes, Divides, IfTrue, IfFalse, working}
 use Rattle.minijinja_tree.specs.Comparisons.{compares}
 use Rattle.minijinja_tree.specs.Callees.{Callee, function, method, block, object, callee}
-use Rattle.minijinja_tree.specs.Tree.{UnaryOp, logical_not, negation, Expr, variable, constant, slice, unary, binary, compare, if_expr, filter, test, attribute, item, call, list, tuple, map, Optional, absent, present, Exprs, no_more, more, Comparisons, compared, against, Args, no_args, pos, pos_splat, kwarg, kwarg_splat, Stmt, template, data_text, output, assignment, for_loop, if_cond, with_block, set_block, auto_escape, filter_block, do_call, break_loop, continue_loop, Stmts, done, also}
+use Rattle.minijinja_tree.specs.Tree.{UnaryOp, logical_not, negation, Expr, variable, constant, slice, unary, binary, compare, if_expr, filter, test, attribute, item, call, list, tuple, map, Optional, absent, present, Exprs, no_more, more, Comparisons, compared, against, Args, no_args, pos, pos_splat, kwarg, kwarg_splat, Stmt, template, data_text, output, assignment, for_loop, if_cond, with_block, set_block, auto_escape, filter_block, named_block, extends, include, import_all, from_import, declare, call_block, do_call, break_loop, continue_loop, Stmts, done, also, Macro, macro, Parameter, stored_as}
 use Rattle.minijinja_meaning.specs.Events.{CaptureMode, EndCapture, BeginCapture, Iterate, Event, Answer, Fault, Values, World, Did, Gave, Ended, Means, next, give, choose, operated, fitted, answered, ask, item_fits, event, tell, get}
 use Rattle.minijinja_meaning.specs.FilterChains.{fed}
 use Rattle.minijinja_meaning.specs.Calls.{Written, Super, Recursion, BlockOf, Plain, written}
-use Rattle.minijinja_meaning.specs.Meaning.{operate_one, operate, in_pairs, Taken, nothing_yet, keyword_map, spread, arguments, call_of, expr, base, optional, items, each, chain, positional, keyword, Signal, On, Broke, Continued, if_on, assign, assign_each, assign_all, filtered, write, Turn, with_item, turns, all_turns, keep_if, passing, do_body, looped, stmt, stmts}
-use Rattle.minijinja_meaning.specs.Brackets.{Bracket, Scope, Loop, AutoEscape, Capture, Family, is_of, opening, closing, Opens, Closes, Neither, mark, marked, brackets, IsBalanced}
+use Rattle.minijinja_meaning.specs.Meaning.{operate_one, operate, in_pairs, Taken, nothing_yet, keyword_map, spread, arguments, call_of, expr, base, optional, items, each, chain, positional, keyword, Signal, On, Broke, Continued, if_on, assign, assign_each, assign_all, filtered, write, Turn, with_item, turns, all_turns, keep_if, passing, do_body, looped, enclose, made, call_with, store_argument, store_arguments, within, look_up, store_back, stmt, stmts, macro_run}
+use Rattle.minijinja_meaning.specs.Macros.{enclosed}
+use Rattle.minijinja_syntax.specs.Texts.{Text}
+use Rattle.minijinja_meaning.specs.Brackets.{Bracket, Scope, Loop, AutoEscape, Capture, Family, ScopesAndLoops, AutoEscapes, Captures, is_of, opening, closing, Opens, Closes, Neither, mark, marked, brackets, IsBalanced}
 use Rattle.minijinja_meaning.specs.Correct.{fresh}
 
 -- what is open of each family
@@ -80,6 +82,17 @@ marked_again y b bs = closed_if (is_of y b) b bs
 marked_neither : (y : Family) (bs : Option (List Bracket)) → marked y Neither bs ≡ bs
 unfolding marked
 marked_neither y bs = refl
+
+-- a scope that begins in a capture and ends behind it
+across : (y : Family) (bs : Option (List Bracket)) → marked y (Closes Scope) (marked y (Closes Capture) (marked y (Opens Scope) (marked y (Opens Capture) bs))) ≡ bs
+unfolding marked
+across ScopesAndLoops bs = closed_again Scope bs
+across AutoEscapes bs = refl
+across Captures bs = closed_again Capture bs
+
+-- one that ends within it
+around : (y : Family) (bs : Option (List Bracket)) → marked y (Closes Capture) (marked y (Closes Scope) (marked y (Opens Scope) (marked y (Opens Capture) bs))) ≡ bs
+around y bs = ap (marked y (Closes Capture)) (marked_again y Scope (marked y (Opens Capture) bs)) ∙ marked_again y Capture bs
 
 -- each piece keeps what is open
 abbrev AllKeep : {N C F : Type 0} → List (Means N C F C) → Type 0
@@ -331,6 +344,39 @@ module _ {C F : Type 0} (N : Type 0) (f : Functions C F) where
       closes_next Capture k λ g.
       closes_then Capture (closes_ask Capture _ _ refl) (λ v. if_on_keeps g (t v))
 
+  enclose_keeps : (xs : List Text) → Keeps {N = N} {C = C} {F = F} (enclose xs)
+  enclose_keeps [] = keeps_give tt
+  enclose_keeps (x ∷ xs) = keeps_next (keeps_ask _ _ refl) (λ _. enclose_keeps xs)
+
+  made_keeps : (m : Macro C N) → Keeps {N = N} (made f m)
+  made_keeps (macro n x args defaults body) = keeps_next (enclose_keeps (enclosed (macro n x args defaults body))) (λ _. keeps_next (keeps_ask _ _ refl) (λ c. keeps_ask _ _ refl))
+
+  call_with_keeps : (e : Expr C) (args : Args C) (m : Macro C N) → Keeps {N = N} (call_with f e args m)
+  call_with_keeps e args m = call_keeps (callee e) (base_keeps e) (expr_keeps e) (λ t. keeps_arguments (positional_keeps args t) (keeps_next (keyword_keeps args nothing_yet) (λ k. keeps_next (made_keeps m) (λ v. keeps_give _))))
+
+  within_opens : (mode : CaptureMode) (e : Expr C) → Moves {N = N} {F = F} (λ y bs. marked y (Opens Scope) (marked y (Opens Capture) bs)) (within f mode e)
+  within_opens mode e =
+      moves_next (opens_ask Capture _ _ refl) λ _.
+      moves_next (opens_ask Scope _ _ refl) λ _.
+      moves_next (expr_keeps e) (λ v. keeps_ask _ _ refl)
+
+  look_up_keeps : (ns : List (Expr C × Optional C)) → Keeps {N = N} (look_up f ns)
+  look_up_keeps [] = keeps_give []
+  look_up_keeps (n ∷ ns) = keeps_next (expr_keeps n.0) (λ v. keeps_next (look_up_keeps ns) (λ vs. keeps_give _))
+
+  store_back_keeps : (ns : List (Expr C × Optional C)) (vs : List C) → Keeps {N = N} {F = F} (store_back f ns vs)
+  store_back_keeps [] vs = keeps_give tt
+  store_back_keeps (n ∷ ns) [] = keeps_give tt
+  store_back_keeps (n ∷ ns) (v ∷ vs) = keeps_next (store_back_keeps ns vs) (λ _. assign_keeps (stored_as n) v)
+
+  store_argument_keeps : (p : Parameter C) (v : C) → Keeps {N = N} {F = F} (store_argument f p v)
+  store_argument_keeps p v = keeps_next (keeps_choose (f.is_undefined v) (optional_keeps v p.default) (keeps_give v)) (λ u. assign_keeps p.target u)
+
+  store_arguments_keep : (ps : List (Parameter C)) (vs : List C) → Keeps {N = N} {F = F} (store_arguments f ps vs)
+  store_arguments_keep [] vs = keeps_give tt
+  store_arguments_keep (p ∷ ps) [] = keeps_give tt
+  store_arguments_keep (p ∷ ps) (v ∷ vs) = keeps_next (store_argument_keeps p v) (λ _. store_arguments_keep ps vs)
+
   mutual
     pub stmt_keeps : (s : Stmt C N) → Keeps {N = N} (stmt f s)
     stmt_keeps (template ss) = stmts_keep ss
@@ -357,6 +403,23 @@ module _ {C F : Type 0} (N : Type 0) (f : Functions C F) where
         closes_then AutoEscape (closes_ask AutoEscape _ _ refl) (λ _. keeps_give g)
     stmt_keeps (filter_block chain body) =
         captured_keeps _ (stmts_keep body) (λ v. keeps_next (keeps_next (expr_keeps (fed v chain)) (λ u. keeps_ask _ _ refl)) (λ _. keeps_give On))
+    stmt_keeps (named_block x required body) = keeps_next (keeps_ask _ _ refl) (λ _. keeps_give On)
+    stmt_keeps (extends e) = keeps_next (expr_keeps e) (λ v. keeps_next (keeps_ask _ _ refl) (λ _. keeps_give On))
+    stmt_keeps (include e ignore) = keeps_next (expr_keeps e) (λ v. keeps_next (keeps_ask _ _ refl) (λ _. keeps_give On))
+    stmt_keeps (import_all e target) =
+        moves_as across (moves_next (within_opens _ e) λ _.
+        moves_next (closes_ask Capture _ _ refl) λ _.
+        moves_next (keeps_ask _ _ refl) λ u.
+        moves_next (closes_ask Scope _ _ refl) λ _.
+        moves_next (assign_keeps target u) (λ _. keeps_give On))
+    stmt_keeps (from_import e ns) =
+        moves_as around (moves_next (within_opens _ e) λ _.
+        moves_next (look_up_keeps ns) λ vs.
+        moves_next (closes_ask Scope _ _ refl) λ _.
+        moves_next (store_back_keeps ns vs) λ _.
+        moves_next (closes_ask Capture _ _ refl) (λ _. keeps_give On))
+    stmt_keeps (declare (macro n x args defaults body)) = keeps_next (made_keeps (macro n x args defaults body)) (λ v. keeps_next (keeps_ask _ _ refl) (λ _. keeps_give On))
+    stmt_keeps (call_block e args m) = keeps_next (call_with_keeps e args m) (λ v. keeps_next (keeps_ask _ _ refl) (λ _. keeps_give On))
     stmt_keeps (do_call e args) = keeps_next (expr_keeps (call e args)) (λ v. keeps_give On)
     stmt_keeps break_loop = keeps_give Broke
     stmt_keeps continue_loop = keeps_give Continued
@@ -364,6 +427,10 @@ module _ {C F : Type 0} (N : Type 0) (f : Functions C F) where
     pub stmts_keep : (ss : Stmts C N) → Keeps {N = N} (stmts f ss)
     stmts_keep done = keeps_give On
     stmts_keep (also s rest) = keeps_next (stmt_keeps s) (λ g. if_on_keeps g (stmts_keep rest))
+
+module _ {C F : Type 0} (N : Type 0) (f : Functions C F) where
+  pub macro_keeps : (ps : List (Parameter C)) (body : Stmts C N) (vs : List C) → Keeps {N = N} (macro_run f ps body vs)
+  macro_keeps ps body vs = keeps_next (store_arguments_keep N f ps vs) (λ _. stmts_keep N f body)
 
 opened_balanced : {N C F X : Type 0} (d : Did (Event N C) C F X) → ((y : Family) → Opened y (Some []) d) → IsBalanced d
 opened_balanced (Gave w x) h = h

@@ -1,17 +1,18 @@
 -- The place after a piece is where its instructions end.
-use Rattle.std.proofs.Common.{◌≡◌, ℕ, zero, suc, ◌+◌, ◌≤◌, List, [], ◌∷◌, ◌++◌, length, Option, Some, None, arith, length-append}
+use Rattle.std.proofs.Common.{◌≡◌, ℕ, zero, suc, ◌+◌, ◌≤◌, List, [], ◌∷◌, ◌++◌, length, Option, Some, None, refl, ap, ◌∙◌, arith, length-append}
 use Rattle.std.specs.Prelude.{Bool, true, false}
 use Rattle.minijinja_syntax.specs.Texts.{Text}
 use Rattle.minijinja_value.specs.Values.{Functions}
 use Rattle.minijinja_tree.specs.CompareOps.{CompareOp, eq, ne, lt, lte, gt, gte, is_in, not_in}
 use Rattle.minijinja_tree.specs.Operators.{Working, Makes, Divides, IfTrue, IfFalse, working}
-use Rattle.minijinja_tree.specs.Tree.{Expr, variable, constant, slice, unary, binary, compare, if_expr, filter, test, attribute, item, call, list, tuple, map, Optional, absent, present, Exprs, no_more, more, Comparisons, compared, against, Args, no_args, pos, pos_splat, kwarg, kwarg_splat, Stmt, template, data_text, output, assignment, for_loop, if_cond, with_block, set_block, auto_escape, filter_block, do_call, break_loop, continue_loop, Stmts, done, also, are_any}
+use Rattle.minijinja_tree.specs.Tree.{Expr, variable, constant, slice, unary, binary, compare, if_expr, filter, test, attribute, item, call, list, tuple, map, Optional, absent, present, Exprs, no_more, more, Comparisons, compared, against, Args, no_args, pos, pos_splat, kwarg, kwarg_splat, Stmt, template, data_text, output, assignment, for_loop, if_cond, with_block, set_block, auto_escape, filter_block, named_block, extends, include, import_all, from_import, declare, call_block, do_call, break_loop, continue_loop, Stmts, done, also, Macro, macro, Parameter, parameters, stored_as, are_any}
 use Rattle.minijinja_meaning.specs.Calls.{Written, Super, Recursion, BlockOf, Plain, written}
 use Rattle.minijinja_tree.specs.Callees.{Callee, function, method, block, object, callee}
 use Rattle.minijinja_tree.specs.Folding.{fold, constant_keywords, fold_keywords}
-use Rattle.minijinja_meaning.specs.Code.{Instr, DupTop, JumpIfFalse, JumpIfFalseOrPop, JumpIfTrueOrPop, BuildList, BuildKwargs, Jump, Swap, DiscardTop}
-use Rattle.minijinja_meaning.specs.Pieces.{Here, behind, Piece, Leading, Exits, Open, OpenScope, OpenAutoEscape, OpenCapture, nothing, one, ◌▸◌, plain, leading_to, ◌▹◌, skipping, branches, skipping_out, branches_out, turning, closing, leaving}
-use Rattle.minijinja_meaning.specs.Layout.{folded, operation, comparison, Failing, and_then, chained, paired, batch, merged, spreading, arguments, argument_count, Count, count_keyword, apply_filter, perform_test, call_of, expr, base, optional, operand, items, each, chain, comparisons, positional, keyword, target, targets, assignments, write, counting, passing, popping, looping, if_true, either, filters, stmt, stmts}
+use Rattle.minijinja_meaning.specs.Code.{Instr, Return, DupTop, JumpIfFalse, JumpIfFalseOrPop, JumpIfTrueOrPop, BuildList, BuildKwargs, Jump, Swap, DiscardTop}
+use Rattle.minijinja_meaning.specs.Pieces.{Here, behind, outside, Piece, Leading, Exits, Open, OpenScope, OpenAutoEscape, OpenCapture, nothing, one, ◌▸◌, plain, leading_to, ◌▹◌, skipping, branches, skipping_out, branches_out, turning, closing, leaving}
+use Rattle.minijinja_meaning.specs.Layout.{folded, operation, comparison, Failing, and_then, chained, paired, batch, merged, spreading, arguments, argument_count, Count, count_keyword, apply_filter, perform_test, call_of, expr, base, optional, operand, items, each, chain, comparisons, positional, keyword, target, targets, assignments, write, counting, passing, popping, looping, if_true, either, filters, defaulting, taking, enclosing, making, entered, up_to_caller, arguments_with, argument_count_with, call_with, looking_up, storing_back, within, stmt, stmts, macro_value}
+use Rattle.minijinja_meaning.specs.Events.{CaptureMode}
 
 -- what stands after a piece begins where its instructions end
 pub record Exact {C : Type 0} (p : Piece C) : Type 0 where
@@ -145,6 +146,10 @@ module _ {C : Type 0} where
   spreading_exact zero n = nothing_exact
   spreading_exact (suc b) n = then_exact (batch_exact (λ n. BuildList (Some n)) n) (one_exact _)
 
+  pub enclosing_exact : (xs : List Text) → Exact {C = C} (enclosing xs)
+  enclosing_exact [] = nothing_exact
+  enclosing_exact (x ∷ xs) = then_exact (one_exact _) (enclosing_exact xs)
+
   pub call_exact : (c : Callee C) {base value : Piece C} {given : ℕ → Piece C} (count : ℕ → Option ℕ) → Exact base → Exact value → ((n : ℕ) → Exact (given n)) → Exact (call_of c base value given count)
   call_exact (function x) count b v g = then_exact (g 0) (one_exact _)
   call_exact (block x) count b v g = then_exact (one_exact _) (then_exact (one_exact _) (one_exact _))
@@ -256,6 +261,44 @@ module _ {C F : Type 0} (f : Functions C F) where
   filters_exact absent = nothing_exact
   filters_exact (present chain) = expr_exact chain
 
+  pub defaulting_exact : (o : Optional C) → Exact (defaulting f o)
+  defaulting_exact absent = nothing_exact
+  defaulting_exact (present e) = then_exact (one_exact _) (then_exact (one_exact _) (skipping_exact JumpIfFalse (then_exact (one_exact _) (expr_exact e))))
+
+  pub taking_exact : (ps : List (Parameter C)) → Exact (taking f ps)
+  taking_exact [] = nothing_exact
+  taking_exact (p ∷ ps) = then_exact (defaulting_exact p.default) (then_exact (target_exact p.target) (taking_exact ps))
+
+  pub making_exact : {L : Type 0} (m : Macro C L) {p : Piece C} → Exact p → (entry : ℕ) → Exact (making f m p entry)
+  making_exact (macro n x args defaults body) e entry = then_exact (skipping_exact Jump e) (then_exact (enclosing_exact _) (then_exact (one_exact _) (then_exact (one_exact _) (one_exact _))))
+
+  -- it is as long, wherever what it runs begins
+  pub making_past : {L : Type 0} (m : Macro C L) (p : Piece C) (entry : ℕ) (h : Here) → (making f m p entry).past h ≡ (making f m p 0).past h
+  making_past (macro n x args defaults body) p entry h = refl
+
+  pub making_entered : {L : Type 0} (m : Macro C L) {p : Piece C} → Exact p → Exact (entered (making f m p))
+  making_entered m {p} e = record { ends = λ h. (making_exact m e (behind 1 h).place).ends h ∙ ap (λ (a : Here). a.place) (making_past m p (behind 1 h).place h) }
+
+  pub up_to_caller_exact : (args : Args C) (n : ℕ) → Exact (up_to_caller f args n)
+  up_to_caller_exact args n = then_exact (positional_exact args n) (then_exact (keyword_exact args 0) (one_exact _))
+
+  pub arguments_with_exact : (args : Args C) (n : ℕ) {m : Piece C} → Exact m → Exact (arguments_with f args n m)
+  arguments_with_exact args n e = then_exact (up_to_caller_exact args n) (then_exact e (then_exact (merged_exact _ _) (spreading_exact _ _)))
+
+  pub call_with_exact : (e : Expr C) (args : Args C) {m : Piece C} → Exact m → Exact (call_with f e args m)
+  call_with_exact e args x = call_exact (callee e) (argument_count_with args) (base_exact e) (expr_exact e) (λ n. arguments_with_exact args n x)
+
+  pub looking_up_exact : (ns : List (Expr C × Optional C)) → Exact (looking_up f ns)
+  looking_up_exact [] = nothing_exact
+  looking_up_exact (n ∷ ns) = then_exact (expr_exact n.0) (looking_up_exact ns)
+
+  pub storing_back_exact : (ns : List (Expr C × Optional C)) → Exact (storing_back f ns)
+  storing_back_exact [] = nothing_exact
+  storing_back_exact (n ∷ ns) = then_exact (storing_back_exact ns) (target_exact (stored_as n))
+
+  pub within_exact : (mode : CaptureMode) (e : Expr C) → Exact (within f mode e)
+  within_exact mode e = then_exact (one_exact _) (then_exact (one_exact _) (then_exact (expr_exact e) (one_exact _)))
+
   mutual
     pub stmt_exact : {L : Type 0} (s : Stmt C L) (os : List Open) → LeadingExact (stmt f os s)
     stmt_exact (template ss) os = stmts_exact ss os
@@ -269,6 +312,13 @@ module _ {C F : Type 0} (f : Functions C F) where
     stmt_exact (set_block e chain body) os = and_exact (plain_exact (one_exact _)) (and_exact (stmts_exact body (OpenCapture ∷ os)) (plain_exact (then_exact (one_exact _) (then_exact (filters_exact chain) (target_exact e)))))
     stmt_exact (auto_escape e body) os = and_exact (plain_exact (then_exact (expr_exact e) (one_exact _))) (and_exact (stmts_exact body (OpenAutoEscape ∷ os)) (plain_exact (one_exact _)))
     stmt_exact (filter_block chain body) os = and_exact (plain_exact (one_exact _)) (and_exact (stmts_exact body (OpenCapture ∷ os)) (plain_exact (then_exact (one_exact _) (then_exact (expr_exact chain) (one_exact _)))))
+    stmt_exact (named_block x required body) os = plain_exact (one_exact _)
+    stmt_exact (extends e) os = plain_exact (then_exact (expr_exact e) (one_exact _))
+    stmt_exact (include e ignore) os = plain_exact (then_exact (expr_exact e) (one_exact _))
+    stmt_exact (import_all e t) os = plain_exact (then_exact (within_exact _ e) (then_exact (one_exact _) (then_exact (one_exact _) (then_exact (one_exact _) (then_exact (one_exact _) (target_exact t))))))
+    stmt_exact (from_import e ns) os = plain_exact (then_exact (within_exact _ e) (then_exact (looking_up_exact ns) (then_exact (one_exact _) (then_exact (storing_back_exact ns) (then_exact (one_exact _) (one_exact _))))))
+    stmt_exact (declare m) os = plain_exact (then_exact (macro_exact m) (one_exact _))
+    stmt_exact (call_block e args m) os = plain_exact (then_exact (call_with_exact e args (macro_exact m)) (one_exact _))
     stmt_exact (do_call e args) os = plain_exact (then_exact (expr_exact (call e args)) (one_exact _))
     stmt_exact break_loop os = leaving_exact (λ x. x.break_to) os
     stmt_exact continue_loop os = leaving_exact (λ x. x.continue_to) os
@@ -276,3 +326,6 @@ module _ {C F : Type 0} (f : Functions C F) where
     pub stmts_exact : {L : Type 0} (ss : Stmts C L) (os : List Open) → LeadingExact (stmts f os ss)
     stmts_exact done os = plain_exact nothing_exact
     stmts_exact (also s rest) os = and_exact (stmt_exact s os) (stmts_exact rest os)
+
+    pub macro_exact : {L : Type 0} (m : Macro C L) → Exact (macro_value f m)
+    macro_exact (macro n x args defaults body) = making_entered (macro n x args defaults body) (then_exact (taking_exact (parameters args defaults)) (then_exact (exact_to (stmts_exact body []) outside) (one_exact Return)))

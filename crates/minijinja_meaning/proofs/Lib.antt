@@ -1,3 +1,4 @@
+pub mod Ways
 pub mod Placed
 pub mod Seen
 pub mod Renaming
@@ -6,6 +7,7 @@ pub mod FoldedCode
 pub mod Runs
 pub mod Lengths
 pub mod Roots
+pub mod BlockBodies
 pub mod Leads
 pub mod Parts
 pub mod Arguments
@@ -14,6 +16,8 @@ pub mod Simulation
 pub mod Signals
 pub mod Turns
 pub mod Targets
+pub mod MacroSimulation
+pub mod Imports
 pub mod Loops
 pub mod Balance
 pub mod StatementSimulation
@@ -22,7 +26,8 @@ pub mod UnitSimulation
 pub mod Whole
 pub mod Unbounded
 pub mod Labels
-pub mod UnitLoops
+pub mod UnitNodes
 pub mod Samples
 pub mod Examples
 pub mod StatementExamples
+pub mod MacroExamples

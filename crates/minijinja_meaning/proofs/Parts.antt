@@ -5,7 +5,7 @@ use Rattle.minijinja_syntax.specs.Texts.{Text}
 use Rattle.minijinja_value.specs.Values.{Functions}
 use Rattle.minijinja_meaning.specs.Events.{Kind, Gave, Ended, next, give, choose, operated, tell, get, get_all}
 use Rattle.minijinja_meaning.specs.Answers.{AreFew}
-use Rattle.minijinja_meaning.specs.Code.{Instr, Load, Do, JumpIfFalseOrPop, JumpIfTrueOrPop}
+use Rattle.minijinja_meaning.specs.Code.{Instr, Load, Do, JumpIfFalse, JumpIfFalseOrPop, JumpIfTrueOrPop}
 use Rattle.minijinja_meaning.specs.Pieces.{Here, behind, Piece, nothing, one, ◌▸◌, skipping, branches}
 use Rattle.minijinja_meaning.specs.Layout.{folded}
 use Rattle.minijinja_meaning.specs.Machine.{At, after, Nothing, OneValue, AllValues, size, pushed, popped, asked, act}
@@ -28,6 +28,10 @@ module _ {C F : Type 0} (f : Functions C F) (code : List (Instr C)) (to : Stretc
   pub record Simulates {X : Type 0} (p : Piece C) (ops : List C) (P : X → Type 0) (put : X → List C) (m : Act C F X) : Type 0 where
     pub gives : (h : Here) (ls : List Bool) (w : World C) → AreFew w.answers → (p.past h).place ≤ to.end → Stands code h.place (p.code h) → Gives f code to (At h.place ops ls w) (p.past h).place ls P put (m w)
 
+  -- the same of a piece that stands here, where what is meant looks at its place
+  pub record SimulatesAt {X : Type 0} (h : Here) (p : Piece C) (ops : List C) (P : X → Type 0) (put : X → List C) (m : Act C F X) : Type 0 where
+    pub gives : (ls : List Bool) (w : World C) → AreFew w.answers → (p.past h).place ≤ to.end → Stands code h.place (p.code h) → Gives f code to (At h.place ops ls w) (p.past h).place ls P put (m w)
+
 module _ {C F : Type 0} {f : Functions C F} {code : List (Instr C)} {to : Stretch} where
   pub sim_then : {X Y : Type 0} {p q : Piece C} {ops : List C} {P : X → Type 0} {P' : Y → Type 0} {put : X → List C} {put' : Y → List C} {m : Act C F X} {n : X → Act C F Y} → Exact p → Exact q → Simulates f code to p ops P put m → ((x : X) → P x → Simulates f code to q (put x) P' put' (n x)) → Simulates f code to (p ▸ q) ops P' put' (λ w. next (m w) n)
   sim_then {p = p} {q = q} e e' s k = record {
@@ -36,6 +40,20 @@ module _ {C F : Type 0} {f : Functions C F} {code : List (Instr C)} {to : Stretc
         then_gives f code to more (s.gives h ls w few (omega arith) (front code _ _ stand)) λ x w1 ok few1.
         (k x ok).gives (p.past h) ls w1 few1 le (back code (p.code h) _ (e.ends h) stand);
   }
+
+  pub here_sim : {X : Type 0} {p : Piece C} {ops : List C} {P : X → Type 0} {put : X → List C} {m : Act C F X} {h : Here} → Simulates f code to p ops P put m → SimulatesAt f code to h p ops P put m
+  here_sim {h = h} s = record { gives = s.gives h }
+
+  pub here_then : {X Y : Type 0} {p q : Piece C} {ops : List C} {P : X → Type 0} {P' : Y → Type 0} {put : X → List C} {put' : Y → List C} {m : Act C F X} {n : X → Act C F Y} {h : Here} → Exact p → Exact q → SimulatesAt f code to h p ops P put m → ((x : X) → P x → SimulatesAt f code to (p.past h) q (put x) P' put' (n x)) → SimulatesAt f code to h (p ▸ q) ops P' put' (λ w. next (m w) n)
+  here_then {p = p} {q = q} {h = h} e e' s k = record {
+    gives = λ ls w few le stand.
+        let more = grows e' (p.past h) in
+        then_gives f code to more (s.gives ls w few (omega arith) (front code _ _ stand)) λ x w1 ok few1.
+        (k x ok).gives ls w1 few1 le (back code (p.code h) _ (e.ends h) stand);
+  }
+
+  pub here_same : {X : Type 0} {p : Piece C} {ops : List C} {P : X → Type 0} {put : X → List C} {m n : Act C F X} {h : Here} → ((w : World C) → m w ≡ n w) → SimulatesAt f code to h p ops P put m → SimulatesAt f code to h p ops P put n
+  here_same {p = p} {ops = ops} {P = P} {put = put} {h = h} e s = record { gives = λ ls w few le stand. subst (λ d. Gives f code to (At h.place ops ls w) (p.past h).place ls P put d) (e w) (s.gives ls w few le stand) }
 
   -- a piece that only puts operands in place of others, and then another
   pub sim_before : {Y : Type 0} {p q : Piece C} {ops ops' : List C} {P : Y → Type 0} {put : Y → List C} {m : Act C F Y} → Exact p → Exact q → Simulates f code to p ops Any (λ _. ops') (give {X = Unit {0}} tt) → Simulates f code to q ops' P put m → Simulates f code to (p ▸ q) ops P put m
@@ -150,6 +168,23 @@ module _ {C F : Type 0} {f : Functions C F} {code : List (Instr C)} {to : Stretc
       let more = grows e (behind 1 h) in
       from f code to (omega arith) (step_comes f code to (v ∷ ops) ls w (At (h.place + 1) ops ls w) (h.place + 1) refl (omega arith) (first code stand) (ap (λ b. cond b (At l (v ∷ ops) ls w) (At (h.place + 1) ops ls w)) is) (omega arith))
       (s.gives (behind 1 h) ls w few le (rest code stand))
+
+  if_skipped : {X : Type 0} {P : X → Type 0} {put : X → List C} {p : Piece C} {m : Act C F X} (b : Bool) (u : C) (x : X) → f.is_true u ≡ b → P x → Exact p → Simulates f code to p (put x) P put m → (h : Here) (ls : List Bool) (w : World C) → AreFew w.answers → ((skipping JumpIfFalse p).past h).place ≤ to.end → Stands code h.place ((skipping JumpIfFalse p).code h) → Gives f code to (At h.place (u ∷ put x) ls w) ((skipping JumpIfFalse p).past h).place ls P put (choose b m (give x) w)
+  unfolding choose
+  if_skipped {put = put} {p = p} true u x is ok e s h ls w few le stand =
+      let l = (p.past (behind 1 h)).place in
+      let more = grows e (behind 1 h) in
+      from f code to (omega arith) (step_comes f code to (u ∷ put x) ls w (At (h.place + 1) (put x) ls w) (h.place + 1) refl (omega arith) (first code stand) (ap (λ b. cond b (At (h.place + 1) (put x) ls w) (At l (put x) ls w)) is) (omega arith))
+      (s.gives (behind 1 h) ls w few le (rest code stand))
+  if_skipped {put = put} {p = p} false u x is ok e s h ls w few le stand =
+      let l = (p.past (behind 1 h)).place in
+      let more = grows e (behind 1 h) in
+      from f code to (omega arith) (step_comes f code to (u ∷ put x) ls w (At l (put x) ls w) l refl (omega arith) (first code stand) (ap (λ b. cond b (At (h.place + 1) (put x) ls w) (At l (put x) ls w)) is) (omega arith))
+      (here f code to x w ok few)
+
+  -- a piece that changes what stands where the value on top is true
+  pub sim_skipped : {X : Type 0} {P : X → Type 0} {put : X → List C} {p : Piece C} {m : Act C F X} (b : Bool) (u : C) (x : X) → f.is_true u ≡ b → P x → Exact p → Simulates f code to p (put x) P put m → Simulates f code to (skipping JumpIfFalse p) (u ∷ put x) P put (choose b m (give x))
+  sim_skipped b u x is ok e s = record { gives = if_skipped b u x is ok e s }
 
   -- the right side is taken only where the left one is true, or only where it is false
   pub sim_if_true : {p : Piece C} {ops : List C} {m : Act C F C} (v : C) → Exact p → Simulates f code to p ops Any (λ u. u ∷ ops) m → Simulates f code to (skipping JumpIfFalseOrPop p) (v ∷ ops) Any (λ u. u ∷ ops) (choose (f.is_true v) m (give v))

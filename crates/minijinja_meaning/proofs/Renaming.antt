@@ -5,12 +5,15 @@ use Rattle.minijinja_value.specs.Values.{Functions}
 use Rattle.minijinja_tree.specs.Operators.{Working, Makes, Divides, IfTrue, IfFalse, working}
 use Rattle.minijinja_tree.specs.Comparisons.{compares}
 use Rattle.minijinja_tree.specs.Callees.{Callee, function, method, block, object, callee}
-use Rattle.minijinja_tree.specs.Tree.{UnaryOp, logical_not, negation, Expr, variable, constant, slice, unary, binary, compare, if_expr, filter, test, attribute, item, call, list, tuple, map, Optional, absent, present, Exprs, no_more, more, Comparisons, compared, against, Args, no_args, pos, pos_splat, kwarg, kwarg_splat, Stmt, template, data_text, output, assignment, for_loop, if_cond, with_block, set_block, auto_escape, filter_block, do_call, break_loop, continue_loop, Stmts, done, also}
-use Rattle.minijinja_meaning.specs.Events.{Event, World, Means, next, give, choose, operated, ask}
+use Rattle.minijinja_tree.specs.Tree.{UnaryOp, logical_not, negation, Expr, variable, constant, slice, unary, binary, compare, if_expr, filter, test, attribute, item, call, list, tuple, map, Optional, absent, present, Exprs, no_more, more, Comparisons, compared, against, Args, no_args, pos, pos_splat, kwarg, kwarg_splat, Stmt, template, data_text, output, assignment, for_loop, if_cond, with_block, set_block, auto_escape, filter_block, named_block, extends, include, import_all, from_import, declare, call_block, do_call, break_loop, continue_loop, Stmts, done, also, Macro, macro, stored_as}
+use Rattle.minijinja_meaning.specs.Events.{CaptureMode, Event, World, Means, next, give, choose, operated, ask}
 use Rattle.minijinja_meaning.specs.Calls.{Written, Super, Recursion, BlockOf, Plain, written}
-use Rattle.minijinja_meaning.specs.Meaning.{operate_one, operate, in_pairs, Taken, nothing_yet, keyword_map, spread, arguments, call_of, expr, base, optional, items, each, chain, positional, keyword, Signal, On, Broke, Continued, if_on, assign, assign_each, assign_all, filtered, write, Turn, with_item, turns, all_turns, passing, looped, stmt, stmts}
+use Rattle.minijinja_meaning.specs.Meaning.{operate_one, operate, in_pairs, Taken, nothing_yet, keyword_map, spread, arguments, call_of, expr, base, optional, items, each, chain, positional, keyword, Signal, On, Broke, Continued, if_on, assign, assign_each, assign_all, filtered, write, Turn, with_item, turns, all_turns, passing, looped, enclose, made, call_with, within, look_up, store_back, stmt, stmts}
 use Rattle.minijinja_meaning.specs.FilterChains.{fed}
-use Rattle.minijinja_meaning.specs.Naming.{world_as, did_as, renamed, relabel, relabel_all}
+use Rattle.minijinja_meaning.specs.Naming.{world_as, did_as, renamed, relabel, relabel_all, relabel_macro}
+use Rattle.minijinja_meaning.specs.Macros.{enclosed}
+use Rattle.minijinja_meaning.proofs.Ways.{closure_same, enclosed_by, flags_by}
+use Rattle.minijinja_syntax.specs.Texts.{Text}
 use Rattle.minijinja_meaning.proofs.Seen.{next_as, ask_as, operated_as}
 
 -- the second piece does what the first one does, under other names
@@ -193,6 +196,34 @@ module _ {N M C F : Type 0} (r : N → M) (f : Functions C F) where
       rename_next r (all_turns_renamed (λ u s. rename_next r (assign_renamed target u) (λ _. rename_next r k (λ g. rename_give r _))) false tt) λ t.
       rename_next r (rename_ask r _ _) (λ _. rename_give r _)
 
+  enclose_renamed : (xs : List Text) → Renames {C = C} {F = F} r (enclose xs) (enclose xs)
+  enclose_renamed [] = rename_give r tt
+  enclose_renamed (x ∷ xs) = rename_next r (rename_ask r _ _) (λ _. enclose_renamed xs)
+
+  made_renamed : (m : Macro C N) → Renames {F = F} r (made f m) (made f (relabel_macro r m))
+  made_renamed (macro n x args defaults body) =
+      let e = closure_same r (macro n x args defaults body) in
+      rw (enclosed_by (relabel_macro r (macro n x args defaults body)) (macro n x args defaults body) e, flags_by (relabel_macro r (macro n x args defaults body)) (macro n x args defaults body) e)
+      (rename_next r (enclose_renamed (enclosed (macro n x args defaults body))) (λ _. rename_next r (rename_ask r _ _) (λ c. rename_ask r _ _)))
+
+  call_with_renamed : (e : Expr C) (args : Args C) (m : Macro C N) → Renames {F = F} r (call_with f e args m) (call_with f e args (relabel_macro r m))
+  call_with_renamed e args m = call_renamed r (callee e) (base_renamed e) (expr_renamed e) (λ t. arguments_renamed (positional_renamed args t) (rename_next r (keyword_renamed args nothing_yet) (λ k. rename_next r (made_renamed m) (λ v. rename_give r _))))
+
+  within_renamed : (mode : CaptureMode) (e : Expr C) → Renames {F = F} r (within f mode e) (within f mode e)
+  within_renamed mode e =
+      rename_next r (rename_ask r _ _) λ _.
+      rename_next r (rename_ask r _ _) λ _.
+      rename_next r (expr_renamed e) (λ v. rename_ask r _ _)
+
+  look_up_renamed : (ns : List (Expr C × Optional C)) → Renames {F = F} r (look_up f ns) (look_up f ns)
+  look_up_renamed [] = rename_give r []
+  look_up_renamed (n ∷ ns) = rename_next r (expr_renamed n.0) (λ v. rename_next r (look_up_renamed ns) (λ vs. rename_give r _))
+
+  store_back_renamed : (ns : List (Expr C × Optional C)) (vs : List C) → Renames {F = F} r (store_back f ns vs) (store_back f ns vs)
+  store_back_renamed [] vs = rename_give r tt
+  store_back_renamed (n ∷ ns) [] = rename_give r tt
+  store_back_renamed (n ∷ ns) (v ∷ vs) = rename_next r (store_back_renamed ns vs) (λ _. assign_renamed (stored_as n) v)
+
   mutual
     pub stmt_renamed : (s : Stmt C N) → Renames r (stmt f s) (stmt f (relabel r s))
     stmt_renamed (template ss) = stmts_renamed ss
@@ -225,6 +256,23 @@ module _ {N M C F : Type 0} (r : N → M) (f : Functions C F) where
         rename_next r (stmts_renamed body) λ g.
         rename_next r (rename_ask r _ _) λ v.
         on_renamed g (rename_next r (rename_next r (expr_renamed (fed v chain)) (λ u. rename_ask r _ _)) (λ _. rename_give r On))
+    stmt_renamed (named_block x required body) = rename_next r (rename_ask r _ _) (λ _. rename_give r On)
+    stmt_renamed (extends e) = rename_next r (expr_renamed e) (λ v. rename_next r (rename_ask r _ _) (λ _. rename_give r On))
+    stmt_renamed (include e ignore) = rename_next r (expr_renamed e) (λ v. rename_next r (rename_ask r _ _) (λ _. rename_give r On))
+    stmt_renamed (import_all e target) =
+        rename_next r (within_renamed _ e) λ _.
+        rename_next r (rename_ask r _ _) λ _.
+        rename_next r (rename_ask r _ _) λ u.
+        rename_next r (rename_ask r _ _) λ _.
+        rename_next r (assign_renamed target u) (λ _. rename_give r On)
+    stmt_renamed (from_import e ns) =
+        rename_next r (within_renamed _ e) λ _.
+        rename_next r (look_up_renamed ns) λ vs.
+        rename_next r (rename_ask r _ _) λ _.
+        rename_next r (store_back_renamed ns vs) λ _.
+        rename_next r (rename_ask r _ _) (λ _. rename_give r On)
+    stmt_renamed (declare (macro n x args defaults body)) = rename_next r (made_renamed (macro n x args defaults body)) (λ v. rename_next r (rename_ask r _ _) (λ _. rename_give r On))
+    stmt_renamed (call_block e args m) = rename_next r (call_with_renamed e args m) (λ v. rename_next r (rename_ask r _ _) (λ _. rename_give r On))
     stmt_renamed (do_call e args) = rename_next r (expr_renamed (call e args)) (λ v. rename_give r On)
     stmt_renamed break_loop = rename_give r Broke
     stmt_renamed continue_loop = rename_give r Continued

@@ -44,7 +44,7 @@ module _ {C F : Type 0} (f : Functions C F) (laws : Laws f) (code : List (Instr 
   operation_sim IfFalse x ops e s = sim_if_false x e (s ops)
 
   -- a call, a filter and a test find the arguments that are ready
-  call_sim : (k : Kind) (x : Text) (b n : ℕ) (vs ops : List C) → IsReady b n vs → size k ≡ OneValue → Simulates f code to (one (Call k x (counted b n))) (ready f b vs ops) Any (λ v. v ∷ ops) (get k x vs)
+  pub call_sim : (k : Kind) (x : Text) (b n : ℕ) (vs ops : List C) → IsReady b n vs → size k ≡ OneValue → Simulates f code to (one (Call k x (counted b n))) (ready f b vs ops) Any (λ v. v ∷ ops) (get k x vs)
   call_sim k x b n vs ops is one = sim_get k x vs (λ p ls w. ap (λ a. asked f bare k x p a ls w) (ready_pops f laws b n vs ops is)) one
 
   filter_sim : (x : Text) (b n : ℕ) (vs ops : List C) → IsReady b n vs → Simulates f code to (apply_filter x (counted b n)) (ready f b vs ops) Any (λ v. v ∷ ops) (get ApplyFilter x vs)
@@ -54,11 +54,11 @@ module _ {C F : Type 0} (f : Functions C F) (laws : Laws f) (code : List (Instr 
   test_sim x b n vs ops is = record { gives = λ h ls w few le stand. gets_one f code to PerformTest x vs (ready f b vs ops) ops ls w (omega arith) (first code stand) (ap (λ a. asked f bare PerformTest x h.place a ls w) (ready_pops f laws b n vs ops is)) refl few }
 
   -- the code of positional arguments takes them, after what was taken
-  abbrev Positional : Args C → Type 0
+  abbrev pub Positional : Args C → Type 0
   Positional args = (t : Taken C C) (c : Count) (ops : List C) → Matches c t → Simulates f code to (positional f args c.waiting) (laid t ops) (Matches (count_positional args c)) (λ u. laid u ops) (positional_meaning f args t)
 
   -- likewise the arguments with a keyword
-  abbrev Keyword : Args C → Type 0
+  abbrev pub Keyword : Args C → Type 0
   Keyword args = (t : Taken C (C × C)) (c : Count) (ops : List C) → Matches c t → Simulates f code to (keyword f args c.waiting) (laid_pairs t ops) (Matches (count_keyword args c)) (λ u. laid_pairs u ops) (keyword_meaning f args t)
 
   -- the arguments of a call, after so many operands
@@ -184,7 +184,7 @@ module _ {C F : Type 0} (f : Functions C F) (laws : Laws f) (code : List (Instr 
         (λ ps many. map_sim ps (expr_count ks) ops (many ∙ each_length ks)))
 
     -- what an attribute is taken of
-    base_sim : (e : Expr C) → IsWhole e → GivesValue (base f e) (base_meaning f e)
+    pub base_sim : (e : Expr C) → IsWhole e → GivesValue (base f e) (base_meaning f e)
     base_sim (attribute e x) is ops = expr_sim e is ops
     base_sim e is ops = sim_load f.none
 
@@ -210,14 +210,14 @@ module _ {C F : Type 0} (f : Functions C F) (laws : Laws f) (code : List (Instr 
     comparisons_sim compared o a b ops is = last_sim laws (comparison_exact o) (comparison_sim laws o a b ops)
     comparisons_sim (against o' e cs) o a b ops is = and_then_sim laws o a b (expr_exact f e) (comparisons_exact f cs o') (expr_sim e is.0) (λ u. comparisons_sim cs o' b u ops is.1)
 
-    positional_sim : (args : Args C) → AreArguments args → Positional args
+    pub positional_sim : (args : Args C) → AreArguments args → Positional args
     positional_sim no_args is t c ops ok = sim_nothing t ok
     positional_sim (pos e args) is t c ops ok = take_one t c ops ok (expr_exact f e) (positional_exact f args (suc c.waiting)) (expr_sim e is.0) (λ u ok'. positional_sim args is.1 u (count_one c) ops ok')
     positional_sim (pos_splat e args) is t c ops ok = take_batch t c ops ok (expr_exact f e) (positional_exact f args 0) (expr_sim e is.0) (λ u ok'. positional_sim args is.1 u (count_batch c) ops ok')
     positional_sim (kwarg x e args) is t c ops ok = positional_sim args is.1 t c ops ok
     positional_sim (kwarg_splat e args) is t c ops ok = positional_sim args is.1 t c ops ok
 
-    keyword_sim : (args : Args C) → AreArguments args → Keyword args
+    pub keyword_sim : (args : Args C) → AreArguments args → Keyword args
     keyword_sim no_args is t c ops ok = sim_nothing t ok
     keyword_sim (pos e args) is t c ops ok = keyword_sim args is.1 t c ops ok
     keyword_sim (pos_splat e args) is t c ops ok = keyword_sim args is.1 t c ops ok

@@ -4,9 +4,9 @@ use Rattle.std.specs.Prelude.{Bool, true, false, not, codes, bytes_eq}
 use Rattle.minijinja_syntax.specs.Texts.{Text}
 use Rattle.minijinja_value.specs.Values.{Functions}
 use Rattle.minijinja_meaning.specs.Laws.{Laws}
-use Rattle.minijinja_tree.specs.Tree.{Expr, call, Args, no_args, pos, Stmt, template, data_text, output, assignment, for_loop, if_cond, with_block, set_block, auto_escape, filter_block, do_call, break_loop, continue_loop, Stmts, done, also, are_any}
-use Rattle.minijinja_tree.specs.WellFormed.{IsWhole, AreArguments, IsInner, AreInner, IsWellFormed}
-use Rattle.minijinja_meaning.specs.Events.{EmitRaw, Emit, CallBlock, FastSuper, FastRecurse, PushWith, PopFrame, PushAutoEscape, PopAutoEscape, BeginCapture, Capture, Gave, Ended, give, choose}
+use Rattle.minijinja_tree.specs.Tree.{Expr, call, Args, no_args, pos, Stmt, template, data_text, output, assignment, for_loop, if_cond, with_block, set_block, auto_escape, filter_block, named_block, extends, include, import_all, from_import, declare, call_block, do_call, break_loop, continue_loop, Stmts, done, also, macro, are_any}
+use Rattle.minijinja_tree.specs.WellFormed.{IsWhole, AreArguments, IsInner, AreInner, IsRoot}
+use Rattle.minijinja_meaning.specs.Events.{EmitRaw, Emit, LoadBlocks, Include, StoreLocal, CallBlock, FastSuper, FastRecurse, PushWith, PopFrame, PushAutoEscape, PopAutoEscape, BeginCapture, Capture, Gave, Ended, next, give, choose}
 use Rattle.minijinja_meaning.specs.Answers.{AreFew}
 use Rattle.minijinja_tree.specs.Callees.{Callee, function, block, method, object, callee}
 use Rattle.minijinja_meaning.specs.Calls.{Written, Super, Recursion, BlockOf, Plain, written_super, written_loop, written_function, written_call, written}
@@ -17,13 +17,15 @@ use Rattle.minijinja_meaning.specs.Layout.{expr, assignments, passing, looping, 
 use Rattle.minijinja_meaning.specs.Machine.{At}
 use Rattle.minijinja_meaning.specs.Places.{loop_start, body_start, loop_past, placed, all_placed}
 use Rattle.minijinja_meaning.proofs.Placed.{World, Did, Act, State, Stretch}
-use Rattle.minijinja_meaning.proofs.Roots.{at_root}
+use Rattle.minijinja_meaning.proofs.Roots.{at_root_of}
 use Rattle.minijinja_meaning.proofs.Runs.{Any, Stands, front, back, first, rest, stays, Gives}
-use Rattle.minijinja_meaning.proofs.Lengths.{Exact, exact_to, grows, one_exact, then_exact, expr_exact, target_exact, assignments_exact, passing_exact, looping_exact, popping_exact, if_true_exact, either_exact, filters_exact, stmt_exact, stmts_exact}
-use Rattle.minijinja_meaning.proofs.Parts.{next_assoc, Simulates, sim_then, sim_give, sim_plain, sim_do_tell}
+use Rattle.minijinja_meaning.proofs.Lengths.{Exact, exact_to, grows, one_exact, then_exact, expr_exact, target_exact, assignments_exact, passing_exact, looping_exact, popping_exact, if_true_exact, either_exact, filters_exact, call_with_exact, macro_exact, stmt_exact, stmts_exact}
+use Rattle.minijinja_meaning.proofs.Parts.{next_assoc, Simulates, here_sim, here_then, sim_then, sim_give, sim_plain, sim_do_tell}
 use Rattle.minijinja_meaning.proofs.Simulation.{expr_sim, chain_of_filters_sim}
 use Rattle.minijinja_meaning.proofs.Signals.{GoesOn, Around, inside, Ends, ends_on, ends_of, then_ends, ends_also, ends_closed, ends_captured, ends_jump, ends_choose}
 use Rattle.minijinja_meaning.proofs.Targets.{assign_sim, assignments_sim, filters_sim}
+use Rattle.minijinja_meaning.proofs.MacroSimulation.{choose_same, macro_sim, called_with_sim}
+use Rattle.minijinja_meaning.proofs.Imports.{import_all_sim, from_import_sim}
 use Rattle.minijinja_meaning.proofs.Loops.{left_on, looping_gives, passing_sim}
 
 -- the argument of a recursion is whole
@@ -56,11 +58,6 @@ pub written_whole : {C : Type 0} (e : Expr C) → IsWhole e → WrittenWhole (wr
 written_whole (call e args) is = call_whole (callee e) args is.1
 written_whole e is = tt
 
-choose_same : {C F X : Type 0} (b : Bool) (m : Act C F X) (w : World C) → m w ≡ choose b m m w
-unfolding choose
-choose_same true m w = refl
-choose_same false m w = refl
-
 choose_not : {C F X : Type 0} (b : Bool) (m n : Act C F X) (w : World C) → choose (not b) n m w ≡ choose b m n w
 unfolding choose
 choose_not true m n w = refl
@@ -72,6 +69,10 @@ module _ {C F : Type 0} (f : Functions C F) (laws : Laws f) (code : List (Instr 
   write_sim (Recursion a) ops is e s = sim_then (expr_exact f a) (one_exact _) (expr_sim f laws code to a is ops) (λ v _. sim_give (λ _. On) (λ _ _. refl) (sim_do_tell FastRecurse [] (v ∷ []) ops refl))
   write_sim (BlockOf x) ops is e s = sim_give (λ _. On) (λ _ _. refl) (sim_do_tell CallBlock x [] ops refl)
   write_sim Plain ops is e s = sim_then e (one_exact _) (s ops) (λ v _. sim_give (λ _. On) (λ _ _. refl) (sim_do_tell Emit [] (v ∷ []) ops refl))
+
+  -- what is followed by the next statement
+  on : {p : Piece C} {ops below : List C} {m : Act C F (Unit {0})} → Simulates f code to p ops Any (λ _. below) m → Simulates f code to p ops GoesOn (λ _. below) (λ w. next (m w) (λ _. give On))
+  on s = sim_give (λ _. On) (λ _ _. refl) s
 
   -- a body, where it stands
   abbrev Does : {L : Type 0} → Stmts C L → Around C → Here → World C → Type 0
@@ -179,6 +180,18 @@ module _ {C F : Type 0} (f : Functions C F) (laws : Laws f) (code : List (Instr 
         ends_captured f code to last (omega arith) (first code closed) (stmts_end body (inside OpenCapture r) b w1 is.1 few1 (omega arith) (front code _ _ inner)) λ v w2 few2.
         then_ends f code to (omega arith) ((sim_then (expr_exact f chain) (one_exact _) (chain_of_filters_sim f laws code to chain v r.below is.0) (λ u _. sim_do_tell Emit [] (u ∷ []) r.below refl)).gives (behind 1 q) r.loops w2 few2 le (rest code closed)) λ _ w3 _ few3.
         ends_on f code to few3
+    stmt_ends (named_block x required body) r h w is few le stand = ends_of f code to ((on (sim_do_tell CallBlock x [] r.below refl)).gives h r.loops w few le stand)
+    stmt_ends (extends e) r h w is few le stand =
+        ends_of f code to ((sim_then (expr_exact f e) (one_exact _) (expr_sim f laws code to e is r.below) (λ v _. on (sim_do_tell LoadBlocks [] (v ∷ []) r.below refl))).gives h r.loops w few le stand)
+    stmt_ends (include e ignore) r h w is few le stand =
+        ends_of f code to ((sim_then (expr_exact f e) (one_exact _) (expr_sim f laws code to e is r.below) (λ v _. on (sim_do_tell (Include ignore) [] (v ∷ []) r.below refl))).gives h r.loops w few le stand)
+    stmt_ends (import_all e t) r h w is few le stand = ends_of f code to ((import_all_sim f laws code to e t is.0 is.1 r.below).gives h r.loops w few le stand)
+    stmt_ends (from_import e ns) r h w is few le stand = ends_of f code to ((from_import_sim f laws code to e ns is.0 is.1 r.below).gives h r.loops w few le stand)
+    stmt_ends (declare (macro n x args defaults body)) r h w is few le stand =
+        let m = macro n x args defaults body in
+        ends_of f code to ((here_then (macro_exact f m) (one_exact _) (macro_sim f laws code to m h r.below) (λ v _. here_sim (on (sim_do_tell StoreLocal x (v ∷ []) r.below refl)))).gives r.loops w few le stand)
+    stmt_ends (call_block e args m) r h w is few le stand =
+        ends_of f code to ((here_then (call_with_exact f e args (macro_exact f m)) (one_exact _) (called_with_sim f laws code to (callee e) e args m r.below h is.0.0 is.0.1) (λ v _. here_sim (on (sim_do_tell Emit [] (v ∷ []) r.below refl)))).gives r.loops w few le stand)
     stmt_ends (do_call e args) r h w is few le stand =
         ends_of f code to ((sim_then (expr_exact f (call e args)) (one_exact _) (expr_sim f laws code to (call e args) is r.below) (λ v _. sim_plain {put = λ _. r.below} On (λ p ls w. refl) refl)).gives h r.loops w few le stand)
     stmt_ends break_loop r h w is few le stand = record { ends = record { is_in_loop = is; at = h.place; comes = stays f code to (At h.place r.below r.loops w) h.place (omega arith); stands = stand; fits = omega arith; few = few } }
@@ -196,19 +209,19 @@ module _ {C F : Type 0} (f : Functions C F) (laws : Laws f) (code : List (Instr 
   abbrev pub alone : List C → List Bool → Around C
   alone ops ls = record { in_loop = false; exits = outside; opened = []; below = ops; loops = ls }
 
-  -- a well-formed tree by itself does what is meant
+  -- a root by itself does what is meant
   abbrev EndsAlone : {L : Type 0} → Stmt C L → Type 0
   EndsAlone s = (ops : List C) (ls : List Bool) (h : Here) (w : World C) → AreFew w.answers → ((stmt f [] s).past h).place ≤ to.end → Stands code h.place ((stmt f [] s).code outside h) → Ends f code to (At h.place ops ls w) ((stmt f [] s).past h).place (alone ops ls) (stmt_meaning f (placed f [] s h) w)
 
-  root_ends : {L : Type 0} (s : Stmt C L) → IsWellFormed s → EndsAlone s
-  root_ends = at_root EndsAlone (λ ss is ops ls h w few le stand. stmts_end ss (alone ops ls) h w is few le stand) (λ s is ops ls h w few le stand. stmt_ends s (alone ops ls) h w is few le stand)
+  root_ends : {L : Type 0} (s : Stmt C L) → IsRoot s → EndsAlone s
+  root_ends = at_root_of EndsAlone (λ ss is ops ls h w few le stand. stmts_end ss (alone ops ls) h w is few le stand) (λ s is ops ls h w few le stand. stmt_ends s (alone ops ls) h w is few le stand)
 
   -- outside of all loops no signal but on is given
-  given_alone : {s : State C F} {q : ℕ} (ops : List C) (ls : List Bool) (m : Did C F Signal) → Ends f code to s q (alone ops ls) m → Gives f code to s q ls GoesOn (λ _. ops) m
+  pub given_alone : {s : State C F} {q : ℕ} (ops : List C) (ls : List Bool) (m : Did C F Signal) → Ends f code to s q (alone ops ls) m → Gives f code to s q ls GoesOn (λ _. ops) m
   given_alone ops ls (Gave w On) e = record { comes = e.ends.0; holds = (refl, e.ends.1) }
   given_alone ops ls (Gave w Broke) e = let no = e.ends.is_in_loop in absurd (cc)
   given_alone ops ls (Gave w Continued) e = let no = e.ends.is_in_loop in absurd (cc)
   given_alone ops ls (Ended w e') e = record { comes = e.ends; holds = tt }
 
-  pub root_gives : {L : Type 0} (s : Stmt C L) → IsWellFormed s → (ops : List C) (ls : List Bool) (h : Here) (w : World C) → AreFew w.answers → ((stmt f [] s).past h).place ≤ to.end → Stands code h.place ((stmt f [] s).code outside h) → Gives f code to (At h.place ops ls w) ((stmt f [] s).past h).place ls GoesOn (λ _. ops) (stmt_meaning f (placed f [] s h) w)
+  pub root_gives : {L : Type 0} (s : Stmt C L) → IsRoot s → (ops : List C) (ls : List Bool) (h : Here) (w : World C) → AreFew w.answers → ((stmt f [] s).past h).place ≤ to.end → Stands code h.place ((stmt f [] s).code outside h) → Gives f code to (At h.place ops ls w) ((stmt f [] s).past h).place ls GoesOn (λ _. ops) (stmt_meaning f (placed f [] s h) w)
   root_gives s is ops ls h w few le stand = given_alone ops ls (stmt_meaning f (placed f [] s h) w) (root_ends s is ops ls h w few le stand)

@@ -1,20 +1,20 @@
 -- The code that was added to a list for a tree does what the tree means, and so do its units.
 use Rattle.std.proofs.Common.{◌≡◌, ◌≤◌, List, [], ◌∷◌, ◌++◌, ℕ, length, refl, sym, subst, arith, length-append}
-use Rattle.std.specs.Prelude.{Bool}
+use Rattle.std.specs.Prelude.{Bool, false}
 use Rattle.minijinja_value.specs.Values.{Functions}
 use Rattle.minijinja_meaning.specs.Laws.{Laws}
-use Rattle.minijinja_tree.specs.Tree.{Expr, Stmt}
-use Rattle.minijinja_tree.specs.WellFormed.{IsWhole, IsWellFormed}
+use Rattle.minijinja_tree.specs.Tree.{Expr, Stmt, template, Stmts}
+use Rattle.minijinja_tree.specs.WellFormed.{IsWhole, AreInner, IsRoot, IsWellFormed}
 use Rattle.minijinja_meaning.specs.Events.{Answer}
 use Rattle.minijinja_meaning.specs.Meaning.{expr as expr_meaning, stmt as stmt_meaning}
 use Rattle.minijinja_meaning.specs.Code.{Instr}
 use Rattle.minijinja_meaning.specs.Pieces.{Here, start, Piece, outside, leading_to}
-use Rattle.minijinja_meaning.specs.Layout.{expr, stmt, expr_code, stmt_code}
+use Rattle.minijinja_meaning.specs.Layout.{expr, stmt, expr_code, stmt_code, block_code}
 use Rattle.minijinja_meaning.specs.Places.{placed_stmt}
 use Rattle.minijinja_meaning.specs.Machine.{At, AtPlace}
 use Rattle.minijinja_meaning.specs.Brackets.{IsBalanced}
 use Rattle.minijinja_meaning.specs.Correct.{fresh, DoesFrom, DoesStmt, DoesExpr}
-use Rattle.minijinja_meaning.specs.Units.{DoUnits}
+use Rattle.minijinja_meaning.specs.Units.{DoUnits, DoesBlock, DoBlocks}
 use Rattle.minijinja_meaning.proofs.Placed.{Act}
 use Rattle.minijinja_meaning.proofs.Runs.{Stands, stands_behind, Gives}
 use Rattle.minijinja_meaning.proofs.Lengths.{Exact, exact_to, expr_exact, stmt_exact}
@@ -23,6 +23,7 @@ use Rattle.minijinja_meaning.proofs.Simulation.{expr_sim}
 use Rattle.minijinja_meaning.proofs.StatementSimulation.{root_gives}
 use Rattle.minijinja_meaning.proofs.UnitSimulation.{root_units_do}
 use Rattle.minijinja_meaning.proofs.Balance.{balanced_from, expr_keeps, stmt_keeps}
+use Rattle.minijinja_meaning.proofs.BlockBodies.{of_blocks}
 
 -- the code of a piece stands where it was added to a list
 pub stands_added : {C : Type 0} (before : List (Instr C)) (h : Here) (p : Piece C) → h.place ≡ length before → Stands (before ++ p.code h) h.place (p.code h)
@@ -44,18 +45,22 @@ expression_does f laws before h e at whole below ls answers few =
     (λ le. (expr_sim f laws code (up_to (length code)) e whole below).gives h ls (fresh answers) few le (stands_added before h (expr f e) at))
     (balanced_from (expr_meaning f e) answers (expr_keeps ℕ f e))
 
--- The code of a statement, added to a list, does what the statement means, and leaves nothing.
-pub statement_does : {C L F : Type 0} (f : Functions C F) → Laws f → (before : List (Instr C)) (h : Here) (s : Stmt C L) → h.place ≡ length before → IsWellFormed s → DoesStmt f (before ++ stmt_code f s h) h.place (length (before ++ stmt_code f s h)) (placed_stmt f s h)
-statement_does f laws before h s at well below ls answers few =
+-- The code of a root, added to a list, does what the root means, and leaves nothing.
+root_does : {C L F : Type 0} (f : Functions C F) → Laws f → (before : List (Instr C)) (h : Here) (s : Stmt C L) → h.place ≡ length before → IsRoot s → DoesStmt f (before ++ stmt_code f s h) h.place (length (before ++ stmt_code f s h)) (placed_stmt f s h)
+root_does f laws before h s at is below ls answers few =
     let code = before ++ stmt_code f s h in
     let p = leading_to outside (stmt f [] s) in
     piece_does f before h p below (λ g. []) ls answers (stmt_meaning f (placed_stmt f s h)) at (exact_to (stmt_exact f s []) outside)
-    (λ le. root_gives f laws code (up_to (length code)) s well below ls h (fresh answers) few le (stands_added before h p at))
+    (λ le. root_gives f laws code (up_to (length code)) s is below ls h (fresh answers) few le (stands_added before h p at))
     (balanced_from (stmt_meaning f (placed_stmt f s h)) answers (stmt_keeps ℕ f (placed_stmt f s h)))
+
+-- The code of a statement, added to a list, does what the statement means, and leaves nothing.
+pub statement_does : {C L F : Type 0} (f : Functions C F) → Laws f → (before : List (Instr C)) (h : Here) (s : Stmt C L) → h.place ≡ length before → IsWellFormed s → DoesStmt f (before ++ stmt_code f s h) h.place (length (before ++ stmt_code f s h)) (placed_stmt f s h)
+statement_does f laws before h s at well = root_does f laws before h s at well.0
 
 -- So does the code of each unit within it.
 pub statement_units_do : {C L F : Type 0} (f : Functions C F) → Laws f → (before : List (Instr C)) (h : Here) (s : Stmt C L) → h.place ≡ length before → IsWellFormed s → DoUnits f (before ++ stmt_code f s h) s h
-statement_units_do f laws before h s at well = root_units_do f laws (before ++ stmt_code f s h) s well h (stands_added before h (leading_to outside (stmt f [] s)) at)
+statement_units_do f laws before h s at well = root_units_do f laws (before ++ stmt_code f s h) s well.0 h (stands_added before h (leading_to outside (stmt f [] s)) at)
 
 -- The code of an expression by itself does what it means, over any operands and open loops, and leaves its value.
 pub standalone_does : {C F : Type 0} (f : Functions C F) → Laws f → (e : Expr C) → IsWhole e → DoesExpr f (expr_code f e start) 0 (length (expr_code f e start)) e
@@ -68,3 +73,14 @@ template_does f laws s well = statement_does f laws [] start s refl well
 -- So does the code of each unit within it.
 pub template_units_do : {C L F : Type 0} (f : Functions C F) → Laws f → (s : Stmt C L) → IsWellFormed s → DoUnits f (stmt_code f s start) s start
 template_units_do f laws s well = statement_units_do f laws [] start s refl well
+
+-- The list of a block does what its body means, and so does the code of each unit within it.
+pub block_does : {C L F : Type 0} (f : Functions C F) → Laws f → (body : Stmts C L) → AreInner false body → DoesBlock f (block_code f body) body
+block_does f laws body is = record {
+  does = root_does f laws [] start (template body) refl is;
+  units = root_units_do f laws (block_code f body) (template body) is start (stands_behind [] (block_code f body));
+}
+
+-- So do the lists of all blocks of a template.
+pub template_blocks_do : {C L F : Type 0} (f : Functions C F) → Laws f → (s : Stmt C L) → IsWellFormed s → DoBlocks f s
+template_blocks_do f laws s well = of_blocks (λ body. DoesBlock f (block_code f body) body) (block_does f laws) s well

@@ -4,15 +4,16 @@ use Rattle.minijinja_syntax.specs.Texts.{Text}
 use Rattle.minijinja_value.specs.Values.{Functions}
 use Rattle.minijinja_tree.specs.CompareOps.{CompareOp, eq, ne, lt, lte, gt, gte, is_in, not_in}
 use Rattle.minijinja_tree.specs.Operators.{Working, Makes, Divides, IfTrue, IfFalse, working, Add, Eq, Ne, Lt, Lte, Gt, Gte, In}
-use Rattle.minijinja_tree.specs.Tree.{UnaryOp, logical_not, negation, Expr, variable, constant, slice, unary, binary, compare, if_expr, filter, test, attribute, item, call, list, tuple, map, Optional, absent, present, Exprs, no_more, more, Comparisons, compared, against, Args, no_args, pos, pos_splat, kwarg, kwarg_splat, Stmt, template, data_text, output, assignment, for_loop, if_cond, with_block, set_block, auto_escape, filter_block, do_call, break_loop, continue_loop, Stmts, done, also, are_any}
+use Rattle.minijinja_tree.specs.Tree.{UnaryOp, logical_not, negation, Expr, variable, constant, slice, unary, binary, compare, if_expr, filter, test, attribute, item, call, list, tuple, map, Optional, absent, present, Exprs, no_more, more, Comparisons, compared, against, Args, no_args, pos, pos_splat, kwarg, kwarg_splat, Stmt, template, data_text, output, assignment, for_loop, if_cond, with_block, set_block, auto_escape, filter_block, named_block, extends, include, import_all, from_import, declare, call_block, do_call, break_loop, continue_loop, Stmts, done, also, Macro, macro, macro_name, Parameter, parameters, stored_as, are_any}
 use Rattle.minijinja_tree.specs.Callees.{Callee, function, method, block, object, callee}
 use Rattle.minijinja_tree.specs.Folding.{fold, constant_keywords, fold_keywords}
 use Rattle.minijinja_tree.specs.WellFormed.{expr_count}
-use Rattle.minijinja_meaning.specs.Events.{PushWith, PopFrame, PushAutoEscape, PopAutoEscape, SetAttr, EmitRaw, Emit, Lookup, StoreLocal, GetAttr, GetItem, Slice, Div, ApplyFilter, PerformTest, CallFunction, CallMethod, CallObject, MergeKwargs, UnpackLists, BeginCapture, EndCapture, CallBlock, FastSuper, FastRecurse, Capture}
+use Rattle.minijinja_meaning.specs.Events.{LoadBlocks, Include, Enclose, GetClosure, ExportLocals, Discard, PushWith, PopFrame, PushAutoEscape, PopAutoEscape, SetAttr, EmitRaw, Emit, Lookup, StoreLocal, GetAttr, GetItem, Slice, Div, ApplyFilter, PerformTest, CallFunction, CallMethod, CallObject, MergeKwargs, UnpackLists, BeginCapture, EndCapture, CallBlock, FastSuper, FastRecurse, CaptureMode, Capture}
 use Rattle.minijinja_meaning.specs.Calls.{Written, Super, Recursion, BlockOf, Plain, written}
+use Rattle.minijinja_meaning.specs.Macros.{caller, enclosed, macro_flags, argument_names}
 use Rattle.minijinja_meaning.specs.Meaning.{loop_flags}
-use Rattle.minijinja_meaning.specs.Code.{Instr, Load, Do, Call, Apply, UnpackList, PushLoop, PopLoopFrame, PushDidNotIterate, Operate, Neg, Not, CompareAndPreserve, BuildMap, BuildKwargs, BuildList, BuildTuple, DupTop, DiscardTop, Swap, Jump, JumpIfFalse, JumpIfFalseOrPop, JumpIfTrueOrPop}
-use Rattle.minijinja_meaning.specs.Pieces.{Here, behind, Piece, Leading, Exits, outside, Open, OpenScope, OpenAutoEscape, OpenCapture, nothing, one, ◌▸◌, plain, ◌▹◌, skipping, branches, skipping_out, branches_out, turning, leaving, id_of, noted}
+use Rattle.minijinja_meaning.specs.Code.{Instr, Load, Do, Call, Apply, UnpackList, PushLoop, PopLoopFrame, PushDidNotIterate, BuildMacro, Operate, Neg, Not, IsUndefined, CompareAndPreserve, BuildMap, BuildKwargs, BuildList, BuildTuple, DupTop, DiscardTop, Swap, Jump, JumpIfFalse, JumpIfFalseOrPop, JumpIfTrueOrPop, Return}
+use Rattle.minijinja_meaning.specs.Pieces.{Here, behind, start, Piece, Leading, leading_to, Exits, outside, Open, OpenScope, OpenAutoEscape, OpenCapture, nothing, one, ◌▸◌, plain, ◌▹◌, skipping, branches, skipping_out, branches_out, turning, leaving, id_of, noted}
 
 -- a constant in place of the piece that computes it
 unfoldable pub folded : {C : Type 0} → Option C → Piece C → Piece C
@@ -308,6 +309,80 @@ abbrev pub filters : {C F : Type 0} → Functions C F → Optional C → Piece C
 filters f absent = nothing
 filters f (present chain) = expr f chain
 
+-- ---- macros
+
+-- the default of an argument in the place of the value on top, where that is undefined
+abbrev pub defaulting : {C F : Type 0} → Functions C F → Optional C → Piece C
+defaulting f absent = nothing
+defaulting f (present e) = one DupTop ▸ one IsUndefined ▸ skipping JumpIfFalse (one DiscardTop ▸ expr f e)
+
+-- the values of arguments, the first of them on top
+abbrev pub taking : {C F : Type 0} → Functions C F → List (Parameter C) → Piece C
+taking f [] = nothing
+taking f (p ∷ ps) = defaulting f p.default ▸ target f p.target ▸ taking f ps
+
+-- names that a macro takes with it
+abbrev pub enclosing : {C : Type 0} → List Text → Piece C
+enclosing [] = nothing
+enclosing (x ∷ xs) = one (Do Enclose x 0) ▸ enclosing xs
+
+-- a macro is made, of the piece that it runs, which is passed by, and the place where that begins
+abbrev pub making : {C L F : Type 0} → Functions C F → Macro C L → Piece C → (entry : ℕ) → Piece C
+making f (macro n x args defaults body) runs entry =
+    skipping Jump runs ▸ enclosing (enclosed (macro n x args defaults body)) ▸ one (Do GetClosure [] 0) ▸ one (Load (argument_names f args)) ▸ one (BuildMacro x entry (macro_flags (macro n x args defaults body)))
+
+-- a piece that begins with a jump past what may be entered behind that jump, of the place where it is entered, on which no length
+-- depends
+abbrev pub entered : {C : Type 0} → (ℕ → Piece C) → Piece C
+entered p = record { past = (p 0).past; code = λ h. (p (behind 1 h).place).code h }
+
+-- ---- calls that take a macro along
+
+-- what the keyword arguments leave, with that macro as the last of them
+abbrev pub count_with_caller : {C : Type 0} → Args C → Count
+count_with_caller args = count_one (count_keyword args (record { batches = 0; waiting = 0 }))
+
+-- what all the arguments leave, where so many operands stand before them: the map of the keyword arguments is one of them
+abbrev pub count_all_with_caller : {C : Type 0} → Args C → (front : ℕ) → Count
+count_all_with_caller args front = count_one (count_positional args (record { batches = 0; waiting = front }))
+
+-- the arguments of a call up to that macro
+abbrev pub up_to_caller : {C F : Type 0} → Functions C F → Args C → (front : ℕ) → Piece C
+up_to_caller f args front = positional f args front ▸ keyword f args 0 ▸ one (Load (f.of_str caller))
+
+-- all of them, of the piece that the macro is
+abbrev pub arguments_with : {C F : Type 0} → Functions C F → Args C → (front : ℕ) → Piece C → Piece C
+arguments_with f args front m =
+    let k = count_with_caller args in
+    let c = count_all_with_caller args front in
+    up_to_caller f args front ▸ m ▸ merged k.batches k.waiting ▸ spreading c.batches c.waiting
+
+-- how many arguments the call has then, or none where their count is on top of them
+abbrev pub argument_count_with : {C : Type 0} → Args C → (front : ℕ) → Option ℕ
+argument_count_with args front = let c = count_all_with_caller args front in counted c.batches c.waiting
+
+-- a call that takes along the macro that a piece is
+abbrev pub call_with : {C F : Type 0} → Functions C F → Expr C → Args C → Piece C → Piece C
+call_with f e args m = call_of (callee e) (base f e) (expr f e) (λ n. arguments_with f args n m) (argument_count_with args)
+
+-- ---- other templates
+
+-- names that are taken from a template, as they are there
+abbrev pub looking_up : {C F : Type 0} → Functions C F → List (Expr C × Optional C) → Piece C
+looking_up f [] = nothing
+looking_up f (n ∷ ns) = expr f n.0 ▸ looking_up f ns
+
+-- their values, the last one on top
+abbrev pub storing_back : {C F : Type 0} → Functions C F → List (Expr C × Optional C) → Piece C
+storing_back f [] = nothing
+storing_back f (n ∷ ns) = storing_back f ns ▸ target f (stored_as n)
+
+-- what another template stores, in a scope of its own; what it writes is captured
+abbrev pub within : {C F : Type 0} → Functions C F → CaptureMode → Expr C → Piece C
+within f mode e = one (Do (BeginCapture mode) [] 0) ▸ one (Do PushWith [] 0) ▸ expr f e ▸ one (Do (Include false) [] 1)
+
+-- ---- statements
+
 -- a statement, where this is open within its loop
 abbrev mutual
   pub stmt : {C L F : Type 0} → Functions C F → List Open → Stmt C L → Leading Exits C
@@ -326,6 +401,15 @@ abbrev mutual
       plain (expr f e ▸ one (Do PushAutoEscape [] 1)) ▹ stmts f (OpenAutoEscape ∷ os) body ▹ plain (one (Do PopAutoEscape [] 0))
   stmt f os (filter_block chain body) =
       plain (one (Do (BeginCapture Capture) [] 0)) ▹ stmts f (OpenCapture ∷ os) body ▹ plain (one (Do EndCapture [] 0) ▸ expr f chain ▸ one (Do Emit [] 1))
+  stmt f os (named_block x required body) = plain (one (Do CallBlock x 0))
+  stmt f os (extends e) = plain (expr f e ▸ one (Do LoadBlocks [] 1))
+  stmt f os (include e ignore) = plain (expr f e ▸ one (Do (Include ignore) [] 1))
+  stmt f os (import_all e t) =
+      plain (within f Capture e ▸ one (Do EndCapture [] 0) ▸ one DiscardTop ▸ one (Do ExportLocals [] 0) ▸ one (Do PopFrame [] 0) ▸ target f t)
+  stmt f os (from_import e names) =
+      plain (within f Discard e ▸ looking_up f names ▸ one (Do PopFrame [] 0) ▸ storing_back f names ▸ one (Do EndCapture [] 0) ▸ one DiscardTop)
+  stmt f os (declare m) = plain (macro_value f m ▸ one (Do StoreLocal (macro_name m) 1))
+  stmt f os (call_block e args m) = plain (call_with f e args (macro_value f m) ▸ one (Do Emit [] 1))
   stmt f os (do_call e args) = plain (expr f (call e args) ▸ one DiscardTop)
   stmt f os break_loop = leaving (λ x. x.break_to) os
   stmt f os continue_loop = leaving (λ x. x.continue_to) os
@@ -334,6 +418,15 @@ abbrev mutual
   pub stmts : {C L F : Type 0} → Functions C F → List Open → Stmts C L → Leading Exits C
   stmts f os done = plain nothing
   stmts f os (also s rest) = stmt f os s ▹ stmts f os rest
+
+  -- a macro, as a value on top
+  pub macro_value : {C L F : Type 0} → Functions C F → Macro C L → Piece C
+  macro_value f (macro n x args defaults body) =
+      entered (making f (macro n x args defaults body) (taking f (parameters args defaults) ▸ leading_to outside (stmts f [] body) ▸ one Return))
+
+-- the instructions of a block: its body has a list of its own
+abbrev pub block_code : {C L F : Type 0} → Functions C F → Stmts C L → List (Instr C)
+block_code f body = (stmts f [] body).code outside start
 
 -- what stands after the code of an expression
 abbrev pub past_expr : {C F : Type 0} → Functions C F → Expr C → Here → Here

@@ -2,6 +2,7 @@ pub mod Laws
 pub mod Events
 pub mod Answers
 pub mod Calls
+pub mod Macros
 pub mod FilterChains
 pub mod Meaning
 pub mod Code

@@ -1,13 +1,15 @@
 -- What a tree does: its events with their operands, in order. There is no code in it, no place, no stack, no jump and no folding.
 use Rattle.std.specs.Prelude.{◌≡◌, ℕ, zero, suc, Bool, true, false, not, if◌then◌else◌, List, [], ◌∷◌, ◌++◌, length, Option, Some, None}
+use Rattle.minijinja_syntax.specs.Texts.{Text}
 use Rattle.minijinja_value.specs.Values.{Functions}
 use Rattle.minijinja_tree.specs.Operators.{Working, Makes, Divides, IfTrue, IfFalse, working, compute}
 use Rattle.minijinja_tree.specs.Comparisons.{compares}
 use Rattle.minijinja_tree.specs.Callees.{Callee, function, method, block, object, callee}
-use Rattle.minijinja_tree.specs.Tree.{UnaryOp, logical_not, negation, Expr, variable, constant, slice, unary, binary, compare, if_expr, filter, test, attribute, item, call, list, tuple, map, Optional, absent, present, Exprs, no_more, more, Comparisons, compared, against, Args, no_args, pos, pos_splat, kwarg, kwarg_splat, Stmt, template, data_text, output, assignment, for_loop, if_cond, with_block, set_block, auto_escape, filter_block, do_call, break_loop, continue_loop, Stmts, done, also}
+use Rattle.minijinja_tree.specs.Tree.{UnaryOp, logical_not, negation, Expr, variable, constant, slice, unary, binary, compare, if_expr, filter, test, attribute, item, call, list, tuple, map, Optional, absent, present, Exprs, no_more, more, Comparisons, compared, against, Args, no_args, pos, pos_splat, kwarg, kwarg_splat, Stmt, template, data_text, output, assignment, for_loop, if_cond, with_block, set_block, auto_escape, filter_block, named_block, extends, include, import_all, from_import, declare, call_block, do_call, break_loop, continue_loop, Stmts, done, also, Macro, macro, macro_name, Parameter, stored_as}
 use Rattle.minijinja_tree.specs.WellFormed.{expr_count}
-use Rattle.minijinja_meaning.specs.Events.{EmitRaw, Emit, Lookup, StoreLocal, GetAttr, SetAttr, GetItem, Slice, Div, ApplyFilter, PerformTest, CallFunction, CallMethod, CallObject, MergeKwargs, UnpackLists, PushWith, PopFrame, PushLoop, PopLoopFrame, Iterate, PushAutoEscape, PopAutoEscape, BeginCapture, EndCapture, CallBlock, FastSuper, FastRecurse, Capture, Starved, Event, World, Ended, Means, next, ◌>>=◌, ◌>>◌, give, choose, operated, ask, none_fits, item_fits, event, tell, get, get_all, take_apart}
+use Rattle.minijinja_meaning.specs.Events.{EmitRaw, Emit, LoadBlocks, Include, Lookup, StoreLocal, GetAttr, SetAttr, GetItem, Slice, Div, ApplyFilter, PerformTest, CallFunction, CallMethod, CallObject, MergeKwargs, UnpackLists, PushWith, PopFrame, PushLoop, PopLoopFrame, Iterate, PushAutoEscape, PopAutoEscape, BeginCapture, EndCapture, Enclose, GetClosure, ExportLocals, BuildMacro, CallBlock, FastSuper, FastRecurse, CaptureMode, Capture, Discard, Starved, Event, World, Ended, Means, next, ◌>>=◌, ◌>>◌, give, choose, operated, ask, none_fits, one_fits, item_fits, event, tell, get, get_all, take_apart}
 use Rattle.minijinja_meaning.specs.FilterChains.{fed}
+use Rattle.minijinja_meaning.specs.Macros.{caller, enclosed, macro_flags, argument_names}
 use Rattle.minijinja_meaning.specs.Calls.{Written, Super, Recursion, BlockOf, Plain, written}
 
 -- an operator of one side
@@ -334,6 +336,70 @@ looped f n target recursive body v = do
   tell PopLoopFrame [] []
   give t.0
 
+-- a macro takes these names with it, in order
+abbrev pub enclose : {N C F : Type 0} → List Text → Means N C F (Unit {0})
+enclose [] = give tt
+enclose (x ∷ xs) = do
+  tell Enclose x []
+  enclose xs
+
+-- a macro is made: with the names that it takes along, their closure and the names of its arguments; named by this node
+abbrev pub made : {N C F : Type 0} → Functions C F → Macro C N → Means N C F C
+made f (macro n x args defaults body) = do
+  enclose (enclosed (macro n x args defaults body))
+  closure ← get GetClosure [] []
+  ask one_fits (event (Some n) (BuildMacro (macro_flags (macro n x args defaults body))) x (closure ∷ argument_names f args ∷ []))
+
+-- the keyword arguments of a call, and the macro that it takes along as the last of them
+abbrev pub keyword_and_caller : {N C F : Type 0} → Functions C F → Args C → Macro C N → Means N C F (Taken C (C × C))
+keyword_and_caller f args m = do
+  t ← keyword f args nothing_yet
+  v ← made f m
+  give (with_one (f.of_str caller, v) t)
+
+-- a call that takes a macro along
+abbrev pub call_with : {N C F : Type 0} → Functions C F → Expr C → Args C → Macro C N → Means N C F C
+call_with f e args m =
+    call_of (callee e) (base f e) (expr f e) (λ t. arguments f (positional f args t) (keyword_and_caller f args m))
+
+-- a value goes where an argument of a macro says; where it is undefined, the default does in its place
+abbrev pub store_argument : {N C F : Type 0} → Functions C F → Parameter C → C → Means N C F (Unit {0})
+store_argument f p v = do
+  u ← choose (f.is_undefined v) (optional f v p.default) (give v)
+  assign f p.target u
+
+-- each value to its argument
+abbrev pub store_arguments : {N C F : Type 0} → Functions C F → List (Parameter C) → List C → Means N C F (Unit {0})
+store_arguments f [] vs = give tt
+store_arguments f (p ∷ ps) [] = give tt
+store_arguments f (p ∷ ps) (v ∷ vs) = do
+  store_argument f p v
+  store_arguments f ps vs
+
+-- what another template stores, in a scope of its own; what it writes is captured
+abbrev pub within : {N C F : Type 0} → Functions C F → CaptureMode → Expr C → Means N C F (Unit {0})
+within f mode e = do
+  tell (BeginCapture mode) [] []
+  tell PushWith [] []
+  v ← expr f e
+  tell (Include false) [] (v ∷ [])
+
+-- the names that are taken from a template, as they are there
+abbrev pub look_up : {N C F : Type 0} → Functions C F → List (Expr C × Optional C) → Means N C F (List C)
+look_up f [] = give []
+look_up f (n ∷ ns) = do
+  v ← expr f n.0
+  vs ← look_up f ns
+  give (v ∷ vs)
+
+-- their values are stored here, the last one first
+abbrev pub store_back : {N C F : Type 0} → Functions C F → List (Expr C × Optional C) → List C → Means N C F (Unit {0})
+store_back f [] vs = give tt
+store_back f (n ∷ ns) [] = give tt
+store_back f (n ∷ ns) (v ∷ vs) = do
+  store_back f ns vs
+  assign f (stored_as n) v
+
 -- a statement gives how it ends; what it opens is closed however it ends
 abbrev mutual
   pub stmt : {N C F : Type 0} → Functions C F → Stmt C N → Means N C F Signal
@@ -376,6 +442,40 @@ abbrev mutual
     g ← stmts f body
     v ← get EndCapture [] []
     if_on g (expr f (fed v chain) >>= (λ u. tell Emit [] (u ∷ [])) >> give On)
+  -- its body is written by who calls the block
+  stmt f (named_block x required body) = do
+    tell CallBlock x []
+    give On
+  stmt f (extends e) = do
+    v ← expr f e
+    tell LoadBlocks [] (v ∷ [])
+    give On
+  stmt f (include e ignore) = do
+    v ← expr f e
+    tell (Include ignore) [] (v ∷ [])
+    give On
+  stmt f (import_all e target) = do
+    within f Capture e
+    get EndCapture [] []
+    u ← get ExportLocals [] []
+    tell PopFrame [] []
+    assign f target u
+    give On
+  stmt f (from_import e names) = do
+    within f Discard e
+    vs ← look_up f names
+    tell PopFrame [] []
+    store_back f names vs
+    get EndCapture [] []
+    give On
+  stmt f (declare m) = do
+    v ← made f m
+    tell StoreLocal (macro_name m) (v ∷ [])
+    give On
+  stmt f (call_block e args m) = do
+    v ← call_with f e args m
+    tell Emit [] (v ∷ [])
+    give On
   stmt f (do_call e args) = do
     expr f (call e args)
     give On
@@ -388,3 +488,9 @@ abbrev mutual
   stmts f (also s rest) = do
     g ← stmt f s
     if_on g (stmts f rest)
+
+-- what a macro does that is called with a value for each argument, the last one first: it stores them, and then does its body
+abbrev pub macro_run : {N C F : Type 0} → Functions C F → List (Parameter C) → Stmts C N → List C → Means N C F Signal
+macro_run f ps body vs = do
+  store_arguments f ps vs
+  stmts f body

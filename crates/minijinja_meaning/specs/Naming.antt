@@ -1,7 +1,7 @@
 -- The same run, seen otherwise: with other names of nodes, or without the places of the instructions that asked.
 use Rattle.std.specs.Prelude.{ℕ, List, map}
 use Rattle.std.specs.Option.{option_map}
-use Rattle.minijinja_tree.specs.Tree.{Stmt, template, data_text, output, assignment, for_loop, if_cond, with_block, set_block, auto_escape, filter_block, do_call, break_loop, continue_loop, Stmts, done, also}
+use Rattle.minijinja_tree.specs.Tree.{Stmt, template, data_text, output, assignment, for_loop, if_cond, with_block, set_block, auto_escape, filter_block, named_block, extends, include, import_all, from_import, declare, call_block, do_call, break_loop, continue_loop, Stmts, done, also, Macro, macro}
 use Rattle.minijinja_meaning.specs.Events.{Event, Answer, World, Did, Gave, Ended}
 use Rattle.minijinja_meaning.specs.Machine.{State, At, Returned, Halted, Jammed, Asked}
 
@@ -33,7 +33,7 @@ renamed g e = record { kind = e.kind; text = e.text; operands = e.operands; node
 abbrev pub event_of : {C : Type 0} → Asked C → Event ℕ C
 event_of a = a.event
 
--- a tree whose loops have other names
+-- a tree whose loops and macros have other names
 abbrev mutual
   pub relabel : {C L M : Type 0} → (L → M) → Stmt C L → Stmt C M
   relabel g (template ss) = template (relabel_all g ss)
@@ -46,6 +46,13 @@ abbrev mutual
   relabel g (set_block target chain body) = set_block target chain (relabel_all g body)
   relabel g (auto_escape e body) = auto_escape e (relabel_all g body)
   relabel g (filter_block chain body) = filter_block chain (relabel_all g body)
+  relabel g (named_block x required body) = named_block x required (relabel_all g body)
+  relabel g (extends e) = extends e
+  relabel g (include e ignore) = include e ignore
+  relabel g (import_all e target) = import_all e target
+  relabel g (from_import e names) = from_import e names
+  relabel g (declare m) = declare (relabel_macro g m)
+  relabel g (call_block e args m) = call_block e args (relabel_macro g m)
   relabel g (do_call e args) = do_call e args
   relabel g break_loop = break_loop
   relabel g continue_loop = continue_loop
@@ -53,3 +60,6 @@ abbrev mutual
   pub relabel_all : {C L M : Type 0} → (L → M) → Stmts C L → Stmts C M
   relabel_all g done = done
   relabel_all g (also s rest) = also (relabel g s) (relabel_all g rest)
+
+  pub relabel_macro : {C L M : Type 0} → (L → M) → Macro C L → Macro C M
+  relabel_macro g (macro n x args defaults body) = macro (g n) x args defaults (relabel_all g body)

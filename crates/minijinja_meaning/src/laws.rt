@@ -1,32 +1,33 @@
 //! Laws of what trees mean and of their layout.
-ghost use Rattle.std.specs.Prelude.{◌≡◌, ◌↔◌, [], Some, length, map};
+ghost use Rattle.std.specs.Prelude.{◌≡◌, ◌↔◌, [], All, Some, length, map};
 ghost use Rattle.minijinja_tree.specs.Folding.{fold};
-ghost use Rattle.minijinja_tree.specs.Tree.{Expr, Stmt, Stmts};
+ghost use Rattle.minijinja_tree.specs.Tree.{Expr, Stmt, Stmts, blocks};
 ghost use Rattle.minijinja_tree.specs.WellFormed.{IsWellFormed, IsWhole};
 ghost use Rattle.minijinja_meaning.specs.Code.{Load};
 ghost use Rattle.minijinja_meaning.specs.Correct.{DoesExpr, DoesStmt};
 ghost use Rattle.minijinja_meaning.specs.Events.{Event, World, Gave};
 ghost use Rattle.minijinja_meaning.specs.Jumps.{LeadsWell};
-ghost use Rattle.minijinja_meaning.specs.Layout.{expr_code, stmt_code};
+ghost use Rattle.minijinja_meaning.specs.Layout.{block_code, expr_code, stmt_code};
 ghost use Rattle.minijinja_meaning.specs.Layout as layout;
 ghost use Rattle.minijinja_meaning.specs.Meaning.{HasNoBound, do_body, keep_if};
 ghost use Rattle.minijinja_meaning.specs.Meaning as meaning;
 ghost use Rattle.minijinja_meaning.specs.Naming.{did_as, relabel, renamed, world_as};
 ghost use Rattle.minijinja_meaning.specs.Pieces.{Here, one, start};
-ghost use Rattle.minijinja_meaning.specs.Places.{placed_stmt};
-ghost use Rattle.minijinja_meaning.specs.Units.{DoUnits, loop_of, recursive_loops, units};
+ghost use Rattle.minijinja_meaning.specs.Places.{placed_block, placed_stmt};
+ghost use Rattle.minijinja_meaning.specs.Units.{DoBlocks, DoUnits, all_enterable, all_units, enterable, node_of, units};
 
 use minijinja_base::value::TemplateValue;
 
-/// The layout of a tree does what the tree means, its loops named by their places: from any operands and open loops below and
-/// whatever is answered, with the same record, ending and answers left, balanced, and within (answers + 1) × (code length + 1)
-/// steps. So does the code of each of its units, entered by itself.
+/// The layout of a tree does what the tree means, its loops and macros named by their places: from any operands and open loops
+/// below and whatever is answered, with the same record, ending and answers left, balanced, and within (answers + 1) × (code
+/// length + 1) steps. So does the code of each of its units, entered by itself, and so does the list of each of its blocks.
 pub fn layout_does_what_is_meant<V: TemplateValue, L>()
     ensures template { (t : Stmt V.Contents L) → IsWellFormed t → DoesStmt V.functions (stmt_code
         V.functions t start) 0 (length (stmt_code V.functions t start)) (placed_stmt V.functions t
         start) }
     ensures units { (t : Stmt V.Contents L) → IsWellFormed t → DoUnits V.functions (stmt_code
         V.functions t start) t start }
+    ensures blocks { (t : Stmt V.Contents L) → IsWellFormed t → DoBlocks V.functions t }
     ensures expression { (e : Expr V.Contents) → IsWhole e → DoesExpr V.functions (expr_code
         V.functions e start) 0 (length (expr_code V.functions e start)) e }
 {}
@@ -35,11 +36,13 @@ pub fn layout_does_what_is_meant<V: TemplateValue, L>()
 pub fn layout_leads_well<V: TemplateValue, L>()
     ensures template { (t : Stmt V.Contents L) → IsWellFormed t → LeadsWell (stmt_code V.functions t
         start) }
+    ensures blocks { (t : Stmt V.Contents L) → IsWellFormed t → All (λ b. LeadsWell (block_code
+        V.functions b.body)) (blocks t) }
     ensures expression { (e : Expr V.Contents) → LeadsWell (expr_code V.functions e start) }
 {}
 
-/// The names of a tree's loops are only names: where they have others, the tree is as well formed, has the same code, places and
-/// units, and does the same under these names.
+/// The names of a tree's loops and macros are only names: where they have others, the tree is as well formed, has the same code,
+/// places and units, and does the same under these names.
 pub fn names_are_not_looked_at<V: TemplateValue, N, M>()
     ensures template { (r : N → M) (t : Stmt V.Contents N) (w : World (Event N V.Contents)
         V.Contents) → meaning.stmt V.functions (relabel r t) (world_as (renamed r) w) ≡ did_as
@@ -57,10 +60,12 @@ pub fn names_are_not_looked_at<V: TemplateValue, N, M>()
         (meaning.expr V.functions e w) }
 {}
 
-/// The units of a tree are its recursive loops, in order.
-pub fn units_are_recursive_loops<V: TemplateValue, L>()
-    ensures { (t : Stmt V.Contents L) (h : Here) → map loop_of (units V.functions [] t h)
-        ≡ recursive_loops (placed_stmt V.functions t h) }
+/// The units of a tree are its recursive loops and its macros, in order; those in a block stand in the block's own list.
+pub fn units_are_enterable<V: TemplateValue, L>()
+    ensures tree { (t : Stmt V.Contents L) (h : Here) → map node_of (units V.functions [] t h)
+        ≡ enterable (placed_stmt V.functions t h) }
+    ensures block { (body : Stmts V.Contents L) → map node_of (all_units V.functions [] body start)
+        ≡ all_enterable (placed_block V.functions body) }
 {}
 
 /// A loop is its next turn and then the loop again: what bounds its meaning, the answers left, is never met. The same holds of the

@@ -1,15 +1,16 @@
 -- If statements while their code is being made.
-use Rattle.std.specs.Prelude.{◌≡◌, ℕ, List, [], ◌∷◌, length}
+use Rattle.std.specs.Prelude.{◌≡◌, ℕ, List, [], ◌∷◌, ◌++◌, length, slice_set}
 use Rattle.minijinja_value.specs.Values.{Functions}
 use Rattle.minijinja_tree.specs.Nodes.{node_of}
 use Rattle.minijinja_tree.specs.Tree.{Expr}
 use Rattle.minijinja_tree.specs.declared.ast.IfCond.{IfCond}
-use Rattle.minijinja_tree.specs.declared.ast.Spanned.{Spanned}
+use Rattle.minijinja_expressions.specs.declared.ast.Spanned.{Spanned}
 use Rattle.minijinja_tree.specs.declared.ast.Stmt.{Stmt}
 use Rattle.minijinja_tree.specs.declared.ast.Stmt.TheVariants as stmt
+use Rattle.minijinja_meaning.specs.Code.{JumpIfFalse}
 use Rattle.minijinja_meaning.specs.Layout.{expr}
 use Rattle.minijinja_meaning.specs.Pieces.{one}
-use Rattle.minijinja_expression_code.specs.private.Making.{Made, Adds, hole}
+use Rattle.minijinja_expression_code.specs.private.Making.{Made, Adds, hole, reach}
 
 -- a test was added, and room for its jump at a place
 pub record Tests {C F : Type 0} (f : Functions C F) (e : Expr C) (place : ℕ) (old new : Made C) : Type 0 where
@@ -17,6 +18,13 @@ pub record Tests {C F : Type 0} (f : Functions C F) (e : Expr C) (place : ℕ) (
   pub test_added : Adds old tested (expr f e)
   pub at : place ≡ length tested.code
   pub hole_added : Adds tested new (one hole)
+
+-- room was added for a jump past what comes next, whose place was noted, and the test jumps to what comes next
+pub record JumpsPast {C : Type 0} (test : ℕ) (places more : List ℕ) (old new : Made C) : Type 0 where
+  pub room : Made C
+  pub room_added : Adds old room (one hole)
+  pub noted : more ≡ places ++ length old.code ∷ []
+  pub filled : new ≡ record room { code = slice_set room.code test (JumpIfFalse (reach (length room.code))) }
 
 -- the statements are one if statement
 pub record IsElif {V F : Type 0} (stmts : List (Stmt V F)) : Type 0 where

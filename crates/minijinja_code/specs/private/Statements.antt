@@ -16,3 +16,8 @@ stmts_piece f ss = leading_to outside (stmts f [] ss)
 abbrev pub MayStand : {C L : Type 0} → (in_loop : Bool) → Stmt C L → Type 0
 MayStand l (template ss) = AreInner l ss
 MayStand l s = IsInner l s
+
+-- one that may stand in a loop, or outside of all
+pub record StandsSomewhere {C L : Type 0} (s : Stmt C L) : Type 0 where
+  pub in_loop : Bool
+  pub stands : MayStand in_loop s

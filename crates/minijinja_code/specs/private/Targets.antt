@@ -6,7 +6,7 @@ use Rattle.minijinja_tree.specs.Erasure.{exprs_of}
 use Rattle.minijinja_tree.specs.Tree as tree
 use Rattle.minijinja_tree.specs.Tree.{Exprs, no_more, more, list}
 use Rattle.minijinja_tree.specs.WellFormed.{AreTargets}
-use Rattle.minijinja_tree.specs.declared.ast.Expr.{Expr}
+use Rattle.minijinja_expressions.specs.declared.ast.Expr.{Expr}
 use Rattle.minijinja_meaning.specs.Layout.{target, targets}
 use Rattle.minijinja_meaning.specs.Pieces.{Piece, ◌▸◌}
 use Rattle.minijinja_expression_code.specs.private.Making.{Made, Adds}

@@ -63,3 +63,8 @@ opening o t = record t { opened = o ∷ t.opened }
 -- with so many more bytes outside of tags
 abbrev pub counting : ℕ → Around → Around
 counting n t = record t { bytes = min 18446744073709551615 (t.bytes + n) }
+
+-- so many more bytes outside of tags were counted, and nothing else
+pub record Counted (more : ℕ) (t u : Around) : Type 0 where
+  pub same : u ≡ record t { bytes = u.bytes }
+  pub bytes : min 18446744073709551615 u.bytes ≡ min 18446744073709551615 (t.bytes + more)

@@ -1,4 +1,4 @@
-//! Instructions of statements that open something and close it behind their body.
+//! Instructions of statements that open something and close it after their body.
 ghost use Rattle.std.specs.Prelude.{[], map, OnOk};
 ghost use Rattle.minijinja_tree.specs.Erasure.{expr_tree, optional_of, assignments_of, stmt_tree};
 ghost use Rattle.minijinja_tree.specs.Tree as tree;

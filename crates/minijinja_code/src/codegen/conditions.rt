@@ -5,7 +5,7 @@ ghost use Rattle.minijinja_tree.specs.Tree as tree;
 ghost use Rattle.minijinja_tree.specs.Tree.{stmts_of};
 ghost use Rattle.minijinja_tree.specs.WellFormed.{IsWhole, AreInner};
 ghost use Rattle.minijinja_code.specs.private.AtTurn.{around_of};
-ghost use Rattle.minijinja_code.specs.private.Conditions.{IsElif, IsOnly, Tests};
+ghost use Rattle.minijinja_code.specs.private.Conditions.{IsElif, IsOnly, JumpsPast, Tests};
 ghost use Rattle.minijinja_expression_code.specs.private.Making.{made_of};
 ghost use Rattle.minijinja_code.specs.private.Turns.{FollowsStmt};
 
@@ -41,25 +41,22 @@ pub(super) fn condition<'s, V: TemplateValue>(
 {
     let mut ends = Vec::new(code.alloc());
     let mut part = choice;
-    while has_elif(part) {
+    loop {
         let test = begin(code, &part.expr)?;
         statements(code, turn, &part.true_body)?;
-        ends.push(code.reserve()?)?;
-        code.fill(test, Instruction::JumpIfFalse(code.target()));
+        if part.false_body.is_empty() {
+            code.fill(test, Instruction::JumpIfFalse(code.target()));
+            lead_on(code, &ends);
+            return Ok(());
+        }
+        jump_past(code, &mut ends, test)?;
+        if !has_elif(part) {
+            statements(code, turn, &part.false_body)?;
+            lead_on(code, &ends);
+            return Ok(());
+        }
         part = elif(part);
     }
-    let test = begin(code, &part.expr)?;
-    statements(code, turn, &part.true_body)?;
-    if part.false_body.is_empty() {
-        code.fill(test, Instruction::JumpIfFalse(code.target()));
-        lead_on(code, &ends);
-        return Ok(());
-    }
-    ends.push(code.reserve()?)?;
-    code.fill(test, Instruction::JumpIfFalse(code.target()));
-    statements(code, turn, &part.false_body)?;
-    lead_on(code, &ends);
-    Ok(())
 }
 
 /// Adds a test and room for its jump, and answers the place of the jump.
@@ -73,6 +70,20 @@ fn begin<'s, V: TemplateValue>(
 {
     expression(code, test)?;
     code.reserve()
+}
+
+/// Leaves room for a jump past what comes next, to which the test leads where it is false.
+fn jump_past<V: TemplateValue>(
+    code: &mut Emitter<'_, V>,
+    ends: &mut Vec<usize>,
+    test: usize,
+) -> Result<(), OutOfMemory>
+    ensures { OnOk result (JumpsPast test ends.old.items ends.new.items
+        (made_of V.contents code.old) (made_of V.contents code.new)) }
+{
+    ends.push(code.reserve()?)?;
+    code.fill(test, Instruction::JumpIfFalse(code.target()));
+    Ok(())
 }
 
 /// Whether a false body is one if statement and no more.

@@ -19,9 +19,12 @@ ghost use Rattle.minijinja_code.specs.private.Turns.{Follows, FollowsStmt, Follo
 use super::blocks::{auto_escape, filter_block, set_block, with_block};
 use super::conditions::condition;
 use super::loops::{break_loop, continue_loop, for_loop};
+use super::macros::macro_value;
+use super::modules::{extends, from_import, import_all, include};
 use super::targets::assign;
 use super::turn::Turn;
 use minijinja_base::value::TemplateValue;
+use minijinja_expression_code::calls::{begin_call, end_call};
 use minijinja_expression_code::emit::Emitter;
 use minijinja_expression_code::expr::{call, expression};
 use minijinja_expression_code::memory::OutOfMemory;
@@ -72,6 +75,24 @@ pub(super) fn statement<'s, V: TemplateValue>(
         Stmt::SetBlock(block) => set_block(code, turn, block.node()),
         Stmt::AutoEscape(block) => auto_escape(code, turn, block.node()),
         Stmt::FilterBlock(block) => filter_block(code, turn, block.node()),
+        Stmt::Block(block) => code.add(Instruction::CallBlock(block.node().name)),
+        Stmt::Extends(parent) => extends(code, parent.node()),
+        Stmt::Include(included) => include(code, included.node()),
+        Stmt::Import(import) => import_all(code, import.node()),
+        Stmt::FromImport(import) => from_import(code, import.node()),
+        Stmt::Macro(declared) => {
+            macro_value(code, turn, declared.node())?;
+            code.add(Instruction::StoreLocal(declared.node().name))
+        }
+        Stmt::CallBlock(block) => {
+            let block = block.node();
+            let Some(counts) = begin_call(code, block.call.node())? else {
+                return code.add(Instruction::Emit);
+            };
+            macro_value(code, turn, block.macro_decl.node())?;
+            end_call(code, block.call.node(), counts)?;
+            code.add(Instruction::Emit)
+        }
         Stmt::Do(called) => do_call(code, called.node()),
         Stmt::Break(_) => break_loop(code, turn),
         Stmt::Continue(_) => continue_loop(code, turn),

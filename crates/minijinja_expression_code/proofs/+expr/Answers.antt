@@ -2,7 +2,7 @@ use Rattle.std.proofs.Common.{rules, arith, ◌≡◌, ◌<◌, ◌≤◌, [], �
 use Rattle.std.specs.Prelude.{reverse, IfOk}
 use Rattle.minijinja_tree.specs.Erasure.{bin_op, expr_tree, exprs_of, args_of, optional_of}
 use Rattle.minijinja_tree.specs.WellFormed.{IsWhole, AreArguments, arg_count, most_arguments}
-use Rattle.minijinja_tree.specs.declared.ast.Expr.{size-Expr, the_lemmas}
+use Rattle.minijinja_expressions.specs.declared.ast.Expr.{size-Expr, the_lemmas}
 use Rattle.minijinja_meaning.specs.Layout.{argument_count, Count, map_count}
 use Rattle.minijinja_meaning.specs.Pieces.{one}
 use Rattle.minijinja_expression_code.specs.private.Leading.{test_in}
@@ -12,14 +12,14 @@ use Rattle.minijinja_expression_code.proofs.Arms.{slice_arm, unary_arm, binary_a
 use Rattle.minijinja_expression_code.proofs.Finishing.{finishes_as, slice_finishes, binary_finishes, filter_finishes, filter_arguments, filter_applied, test_finishes, test_performed, function_finishes, method_finishes, object_finishes, list_loaded, list_finishes, tuple_loaded, tuple_finishes, map_loaded, map_finishes, leading_whole, test_whole}
 use Rattle.minijinja_expression_code.proofs.InOrder.{count_length, leads_whole, leads_on, leads_end, whole_here, whole_after, items_next, items_end, pairs, pairs_next, pairs_end}
 use Rattle.minijinja_expression_code.proofs.Waiting.{Rest, rest_more, rest_less, rest_whole, rest_size, rest_leaf}
-use Rattle.minijinja_tree.specs.declared.ast.Compare.{out-Compare}
+use Rattle.minijinja_expressions.specs.declared.ast.Compare.{out-Compare}
 use Rattle.minijinja_expression_code.specs.private.Comparing.{places_of}
 use Rattle.minijinja_expression_code.proofs.ChainTurns.{turning_first, turn, turn_held, turn_holds, turn_stops}
 use Rattle.minijinja_expression_code.proofs.ChainEnds.{whole_parts, compare_fails, compare_holds, compare_closes}
 use Rattle.minijinja_expression_code.proofs.+expr.Goals.{chain::compare-in-Some-true, chain::compare-in-None, arguments::positional_arguments-in-Pos+in_ok-expression-in-Pos, arguments::positional_arguments-in-PosSplat+in_ok-close_list-in-PosSplat+in_ok-expression-in-PosSplat, arguments::keyword_pairs-in-Kwarg+in_ok-load_name-in-Kwarg+in_ok-expression-in-Kwarg, arguments::keyword_pairs-in-KwargSplat+in_ok-close_map-in-KwargSplat+in_ok-expression-in-KwargSplat, branches::otherwise-in-Some+in_ok-expression-in-Some, branches::otherwise-in-None+in_ok-load_undefined-in-None}
-use Rattle.minijinja_tree.specs.declared.ast.CallArg.{size-CallArg}
+use Rattle.minijinja_expressions.specs.declared.ast.CallArg.{size-CallArg}
 use Rattle.minijinja_expression_code.proofs.CallArguments.{positional_bound, keyword_bound, map_count_few, keywords_loaded, keywords_merged, counted_all, adds_given, element_size, args_length, taken_none, taken_all, positional_walk, pos_whole, pos_splat_whole, taken_pos, taken_pos_splat, passed_keyword, keyword_walk, kwarg_whole, kwarg_splat_whole, taken_kwarg, taken_kwarg_splat, passed_positional}
-use Rattle.minijinja_tree.specs.declared.ast.IfExpr.{size-IfExpr, the_lemmas as if_lemmas}
+use Rattle.minijinja_expressions.specs.declared.ast.IfExpr.{size-IfExpr, the_lemmas as if_lemmas}
 use Rattle.minijinja_tree.specs.Tree.{if_expr, absent, present}
 use Rattle.minijinja_expression_code.proofs.Branching.{opened, chosen_next, chosen_last}
 use Rattle.minijinja_expression_code.proofs.Results.{ok_gives}

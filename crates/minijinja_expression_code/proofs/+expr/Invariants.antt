@@ -2,16 +2,16 @@ use Rattle.std.proofs.Common.{◌≤◌, drop, length}
 use Rattle.std.specs.Prelude.{reverse}
 use Rattle.minijinja_tree.specs.Erasure.{expr_tree, exprs_of, optional_of}
 use Rattle.minijinja_tree.specs.WellFormed.{IsWhole, AreWhole, IsWholeIfAny}
-use Rattle.minijinja_tree.specs.declared.ast.Expr.{size-Expr}
+use Rattle.minijinja_expressions.specs.declared.ast.Expr.{size-Expr}
 use Rattle.minijinja_meaning.specs.Layout.{expr, items, count_positional, positional, count_keyword, keyword}
 use Rattle.minijinja_expression_code.specs.private.Making.{Made, made_of, Adds, count_of}
 use Rattle.minijinja_expression_code.proofs.InOrder.{Leads, pairs}
 use Rattle.minijinja_expression_code.proofs.Waiting.{Rest}
-use Rattle.minijinja_tree.specs.declared.ast.Compare.{out-Compare}
+use Rattle.minijinja_expressions.specs.declared.ast.Compare.{out-Compare}
 use Rattle.minijinja_expression_code.specs.private.Comparing.{places_of}
 use Rattle.minijinja_expression_code.proofs.ChainTurns.{Turning}
 use Rattle.minijinja_expression_code.proofs.CallArguments.{Taken}
-use Rattle.minijinja_tree.specs.declared.ast.IfExpr.{size-IfExpr}
+use Rattle.minijinja_expressions.specs.declared.ast.IfExpr.{size-IfExpr}
 use Rattle.minijinja_expression_code.proofs.Branching.{GoesOn}
 use Rattle.minijinja_expression_code.proofs.+expr.Given as goal
 

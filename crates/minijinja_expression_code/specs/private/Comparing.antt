@@ -6,7 +6,7 @@ use Rattle.minijinja_tree.specs.Comparisons.{compares}
 use Rattle.minijinja_tree.specs.Folding.{if_some, unless_fault}
 use Rattle.minijinja_tree.specs.Tree.{Comparisons, compared, against}
 use Rattle.minijinja_tree.specs.Erasure.{comparisons_of}
-use Rattle.minijinja_tree.specs.declared.ast.CompareOp.{CompareOp as Comparison}
+use Rattle.minijinja_expressions.specs.declared.ast.CompareOp.{CompareOp as Comparison}
 use Rattle.minijinja_meaning.specs.Code.{Instr, Load, Jump, JumpIfFalseOrPop, Swap, DiscardTop}
 use Rattle.minijinja_meaning.specs.Pieces.{behind, Piece, nothing, one, ◌▸◌, plain, skipping}
 use Rattle.minijinja_meaning.specs.Layout.{Failing, expr, comparisons}

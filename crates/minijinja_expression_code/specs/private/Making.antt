@@ -4,7 +4,8 @@ use Rattle.minijinja_syntax.specs.Texts.{Text}
 use Rattle.minijinja_value.specs.Values.{Functions}
 use Rattle.minijinja_tree.specs.Operators.{Working, Makes, Divides, IfTrue, IfFalse}
 use Rattle.minijinja_meaning.specs.Events.{Div}
-use Rattle.minijinja_meaning.specs.Code.{Instr, Do, Load, Operate, Swap, Jump, JumpIfFalse, JumpIfFalseOrPop, JumpIfTrueOrPop, Iterate}
+use Rattle.minijinja_meaning.specs.Code.{Instr, Do, Load, Operate, Swap, BuildMacro, Jump, JumpIfFalse, JumpIfFalseOrPop, JumpIfTrueOrPop, Iterate}
+use Rattle.minijinja_meaning.specs.Jumps.{target}
 use Rattle.minijinja_instructions.specs.Instructions.{instr_of}
 use Rattle.minijinja_tree.specs.Folding.{constant_keywords, fold_keywords}
 use Rattle.minijinja_tree.specs.Tree.{Args}
@@ -37,28 +38,34 @@ here_of m = record { place = length m.code; filters = m.filters; tests = m.tests
 abbrev pub followed : {C : Type 0} → Made C → List (Instr C) → Made C
 followed m is = record m { code = m.code ++ is }
 
--- the last place that an instruction may lead to
+-- the last place that an instruction may name
 abbrev pub last_target : ℕ
 last_target = 4294967295
 
--- a place, as far as an instruction may lead
+-- a place, as far as an instruction may name one
 abbrev pub reach : ℕ → ℕ
 reach = min last_target
 
--- an instruction as it stands in a list, where it leads no further than that
+-- the place that an instruction names, if it names one
+abbrev pub place_in : {C : Type 0} → Instr C → Option ℕ
+place_in (BuildMacro x n flags) = Some n
+place_in i = target i
+
+-- an instruction as it stands in a list, where it names no place further on than that
 abbrev pub capped : {C : Type 0} → Instr C → Instr C
 capped (Jump n) = Jump (reach n)
 capped (JumpIfFalse n) = JumpIfFalse (reach n)
 capped (JumpIfFalseOrPop n) = JumpIfFalseOrPop (reach n)
 capped (JumpIfTrueOrPop n) = JumpIfTrueOrPop (reach n)
 capped (Iterate n) = Iterate (reach n)
+capped (BuildMacro x n flags) = BuildMacro x (reach n) flags
 capped i = i
 
 -- an instruction that stands where another will
 abbrev pub hole : {C : Type 0} → Instr C
 hole = Swap
 
--- A piece was added. Jumps in a list of 2 ^ 32 instructions or more are capped; no such list is given away.
+-- A piece was added. Places in a list of 2 ^ 32 instructions or more are capped; no such list is given away.
 pub record Adds {C : Type 0} (old new : Made C) (p : Piece C) : Type 0 where
   pub code : new.code ≡ old.code ++ map capped (p.code (here_of old))
   pub past : here_of new ≡ p.past (here_of old)

@@ -1,32 +1,38 @@
 use Rattle.std.proofs.Common.{rules, arith, ◌≡◌, [], ◌<◌, ◌+◌, ◌∷◌, map, length, drop, sym, ap, subst, ◌∙◌, refl}
-use Rattle.minijinja_tree.specs.Erasure.{expr_tree, optional_of, assignments_of, stmt_tree}
+use Rattle.minijinja_tree.specs.Erasure.{args_of, expr_tree, optional_of, assignments_of, macro_tree, stmt_tree}
 use Rattle.minijinja_tree.specs.Tree as tree
-use Rattle.minijinja_tree.specs.WellFormed.{AreInner}
+use Rattle.minijinja_tree.specs.WellFormed.{AreInner, IsMacro, IsWhole}
 use Rattle.minijinja_tree.specs.declared.ast.Stmt.{the_lemmas}
+use Rattle.minijinja_tree.specs.Callees.{callee}
 use Rattle.minijinja_tree.specs.declared.ast.AutoEscape.{the_lemmas as escape_lemmas}
+use Rattle.minijinja_expressions.specs.declared.ast.Call.{Call}
+use Rattle.minijinja_tree.specs.declared.ast.CallBlock.{the_lemmas as call_lemmas}
 use Rattle.minijinja_tree.specs.declared.ast.FilterBlock.{the_lemmas as filter_lemmas}
 use Rattle.minijinja_tree.specs.declared.ast.ForLoop.{the_lemmas as for_lemmas}
 use Rattle.minijinja_tree.specs.declared.ast.IfCond.{the_lemmas as if_lemmas}
+use Rattle.minijinja_tree.specs.declared.ast.Macro.{Macro, the_lemmas as macro_lemmas}
 use Rattle.minijinja_tree.specs.declared.ast.SetBlock.{the_lemmas as set_lemmas}
 use Rattle.minijinja_tree.specs.declared.ast.WithBlock.{the_lemmas as with_lemmas}
-use Rattle.minijinja_tree.proofs.Rows.{body_of}
+use Rattle.minijinja_tree.proofs.Rows.{body_of, macro_in}
 use Rattle.minijinja_meaning.specs.Code.{Do}
 use Rattle.minijinja_meaning.specs.Events as event
 use Rattle.minijinja_meaning.specs.Layout as layout
 use Rattle.minijinja_meaning.specs.Pieces.{one, ◌▸◌, OpenScope, OpenAutoEscape, OpenCapture}
 use Rattle.minijinja_code.specs.private.AtTurn.{around_of, open_of}
 use Rattle.minijinja_expression_code.specs.private.Branching.{leading_on}
+use Rattle.minijinja_expression_code.specs.private.Callers.{BeginsCall, behind_caller}
 use Rattle.minijinja_code.specs.private.Loops.{Begins, turned}
 use Rattle.minijinja_expression_code.specs.private.Making.{made_of}
 use Rattle.minijinja_code.specs.private.Statements.{MayStand}
 use Rattle.minijinja_code.specs.private.Turns.{Around, FollowsStmts}
-use Rattle.minijinja_expression_code.proofs.Adding.{adds_then}
+use Rattle.minijinja_expression_code.proofs.Adding.{adds_as, adds_then}
 use Rattle.minijinja_code.proofs.Bodies.{inner_as, inner_in, inner_here, body_as, body_next, body_end, none_any, some_any, elif_size, inner_stands}
 use Rattle.minijinja_code.proofs.ConditionSteps.{Choosing, none_bytes, choosing_start, choosing_next, choosing_last, choosing_none}
 use Rattle.minijinja_code.proofs.LoopSteps.{loop_follows, loop_else_follows}
 use Rattle.minijinja_expression_code.proofs.Results.{ok_gives}
+use Rattle.minijinja_code.proofs.MacroSteps.{block_call_follows, call_block_follows, counted_inside, declare_follows, macro_added, macro_bytes_as, take_as}
 use Rattle.minijinja_code.proofs.Rounds.{follows_plain, follows_within, follows_closed, stmt_as, onward_start, onward_next, onward_end}
-use Rattle.minijinja_code.proofs.StatementArms.{data_arm, output_arm, set_arm, for_arm, if_arm, with_arm, set_block_arm, escape_arm, filter_block_arm, do_arm, only_is}
+use Rattle.minijinja_code.proofs.StatementArms.{data_arm, output_arm, set_arm, for_arm, if_arm, with_arm, set_block_arm, escape_arm, filter_block_arm, block_arm, extends_arm, include_arm, import_arm, from_arm, macro_arm, call_block_arm, do_arm, only_is}
 use Rattle.minijinja_code.proofs.Templates.{tree_is}
 use Rattle.minijinja_code.proofs.codegen.+stmt.Goals as goal
 
@@ -286,8 +292,8 @@ loops::for_loop-returns g t c =
     c.in_ok-items.ensures begins (body_as f v inner.opened c.deref.ensures.value c.in_ok-statements.ensures) back on some c.in_ok-came.ensures
     (body_as f v (around_of c.go_on.new.self).opened c.deref-2.ensures.value c.in_ok-statements-2.ensures) c.fill.ensures c.target.ensures
 
-pub conditions::condition-loop-code-init : goal.conditions::condition-loop-code-init
-conditions::condition-loop-code-init g t c =
+pub conditions::condition-loop-ends-init : goal.conditions::condition-loop-ends-init
+conditions::condition-loop-ends-init g t c =
     let v = g.V.TemplateValue.contents in
     let f = g.V.TemplateValue.functions in
     let n = c.args.choice.now in
@@ -303,22 +309,28 @@ conditions::condition-loop-code-init g t c =
     }
 
 pub conditions::condition-elif-part-requires : goal.conditions::condition-elif-part-requires
-conditions::condition-elif-part-requires g t c = c.has_elif.ensures c.loop-code-test.true
+conditions::condition-elif-part-requires g t c = c.has_elif.ensures c.if-not-has_elif.false
 
 pub conditions::condition-statements-requires : goal.conditions::condition-statements-requires
 conditions::condition-statements-requires g t c =
     let v = g.V.TemplateValue.contents in
-    let small = c.loop-code.invariant.smaller in
-    λ κs live. (search (rules, if_lemmas, small), (search rules, (search rules, inner_as v _ c.deref.ensures.value c.loop-code.invariant.first)))
+    let small = c.loop-ends.invariant.smaller in
+    λ κs live. (search (rules, if_lemmas, small), (search rules, (search rules, inner_as v _ c.deref.ensures.value c.loop-ends.invariant.first)))
 
-pub conditions::condition-loop-code-smaller : goal.conditions::condition-loop-code-smaller
-conditions::condition-loop-code-smaller g t c = elif_size c.loop-code.part.now c.elif-part.result.now c.elif-part.ensures
+pub conditions::condition-statements-requires-then-not-has_elif : goal.conditions::condition-statements-requires-then-not-has_elif
+conditions::condition-statements-requires-then-not-has_elif g t c =
+    let v = g.V.TemplateValue.contents in
+    let small = c.loop-ends.invariant.smaller in
+    λ κs live. (search (rules, if_lemmas, small), (search rules, (search rules, inner_in v _ _ c.deref-then-not-has_elif.result.now c.in_ok-statements.ensures.in_loop (inner_as v _ c.deref-then-not-has_elif.ensures.value c.loop-ends.invariant.second))))
 
-pub conditions::condition-loop-code-preserved : goal.conditions::condition-loop-code-preserved
-conditions::condition-loop-code-preserved g t c =
+pub conditions::condition-loop-ends-smaller : goal.conditions::condition-loop-ends-smaller
+conditions::condition-loop-ends-smaller g t c = elif_size c.loop-ends.part.now c.elif-part.result.now c.elif-part.ensures
+
+pub conditions::condition-loop-ends-preserved : goal.conditions::condition-loop-ends-preserved
+conditions::condition-loop-ends-preserved g t c =
     let v = g.V.TemplateValue.contents in
     let f = g.V.TemplateValue.functions in
-    let l = c.loop-code in
+    let l = c.loop-ends in
     let part = l.part.now in
     let next = c.elif-part.result.now in
     let false_body = body_of v next.false_body.items in
@@ -328,46 +340,142 @@ conditions::condition-loop-code-preserved g t c =
     let inner = subst (AreInner (around_of l.turn).in_loop) is l.invariant.second in
     let under = elif_size part next c.elif-part.ensures in
     record {
-      choosing = choosing_next f (expr_tree v part.expr) (body_of v part.true_body.items) (body_of v part.false_body.items) other l.invariant.choosing c.in_ok-test.ensures r c.in_ok-reserve.ensures.place c.in_ok-reserve.ensures.added c.in_ok-push.ensures.items c.fill.ensures c.target.ensures is;
+      choosing = choosing_next f (expr_tree v part.expr) (body_of v part.true_body.items) (body_of v part.false_body.items) other l.invariant.choosing c.in_ok-test.ensures r c.in_ok-jump_past.ensures is;
       test = inner.0.0;
       first = inner_in v _ _ next.true_body.items r.in_loop inner.0.1;
       second = inner_in v _ _ next.false_body.items r.in_loop inner.0.2;
       smaller = omega (arith, under, l.invariant.smaller);
     }
 
-pub conditions::condition-statements-requires-2 : goal.conditions::condition-statements-requires-2
-conditions::condition-statements-requires-2 g t c =
-    let v = g.V.TemplateValue.contents in
-    let small = c.loop-code.invariant.smaller in
-    λ κs live. (search (rules, if_lemmas, small), (search rules, (search rules, inner_as v _ c.deref-2.ensures.value c.loop-code.invariant.first)))
-
-pub conditions::condition-statements-requires-3 : goal.conditions::condition-statements-requires-3
-conditions::condition-statements-requires-3 g t c =
-    let v = g.V.TemplateValue.contents in
-    let small = c.loop-code.invariant.smaller in
-    λ κs live. (search (rules, if_lemmas, small), (search rules, (search rules, inner_in v _ _ c.deref-3.result.now c.in_ok-statements-2.ensures.in_loop (inner_as v _ c.deref-3.ensures.value c.loop-code.invariant.second))))
-
 pub conditions::condition-returns-then-is_empty : goal.conditions::condition-returns-then-is_empty
 conditions::condition-returns-then-is_empty g t c =
     let v = g.V.TemplateValue.contents in
     let f = g.V.TemplateValue.functions in
-    let l = c.loop-code in
+    let l = c.loop-ends in
     let part = l.part.now in
-    let r = body_as f v (around_of l.turn).opened c.deref-2.ensures.value c.in_ok-statements-2.ensures in
+    let r = body_as f v (around_of l.turn).opened c.deref.ensures.value c.in_ok-statements.ensures in
     let zero : length part.false_body.items ≡ 0 = grind (arith, c.is_empty.ensures, c.if-is_empty.true, part.false_body.ok.0) in
-    choosing_none f (expr_tree v part.expr) (body_of v part.true_body.items) (body_of v part.false_body.items) l.invariant.choosing c.in_ok-test-2.ensures r
-    c.fill-then-is_empty.ensures c.target-then-is_empty.ensures (none_any v part.false_body.items zero)
-    (c.lead_on.ensures ∙ ap (λ ps. leading_on ps (made_of v c.fill-then-is_empty.new.self)) c.deref-then-is_empty.ensures.value)
+    choosing_none f (expr_tree v part.expr) (body_of v part.true_body.items) (body_of v part.false_body.items) l.invariant.choosing c.in_ok-test.ensures r
+    c.fill.ensures c.target.ensures (none_any v part.false_body.items zero)
+    (c.lead_on.ensures ∙ ap (λ ps. leading_on ps (made_of v c.fill.new.self)) c.deref-then-is_empty.ensures.value)
 
-pub conditions::condition-returns : goal.conditions::condition-returns
-conditions::condition-returns g t c =
+pub conditions::condition-returns-then-not-has_elif : goal.conditions::condition-returns-then-not-has_elif
+conditions::condition-returns-then-not-has_elif g t c =
     let v = g.V.TemplateValue.contents in
     let f = g.V.TemplateValue.functions in
-    let l = c.loop-code in
+    let l = c.loop-ends in
     let part = l.part.now in
-    let r = body_as f v (around_of l.turn).opened c.deref-2.ensures.value c.in_ok-statements-2.ensures in
-    let other = body_as f v (around_of c.statements-2.new.turn).opened c.deref-3.ensures.value c.in_ok-statements-3.ensures in
+    let r = body_as f v (around_of l.turn).opened c.deref.ensures.value c.in_ok-statements.ensures in
+    let other = body_as f v (around_of c.statements.new.turn).opened c.deref-then-not-has_elif.ensures.value c.in_ok-statements-2.ensures in
     let some = some_any v part.false_body.items (λ zero. absurd (grind (arith, c.is_empty.ensures, c.if-is_empty.false, part.false_body.ok.0, zero))) in
-    choosing_last f (expr_tree v part.expr) (body_of v part.true_body.items) (body_of v part.false_body.items) l.invariant.choosing c.in_ok-test-2.ensures r
-    c.in_ok-reserve-2.ensures.place c.in_ok-reserve-2.ensures.added c.in_ok-push-2.ensures.items c.fill-2.ensures c.target-2.ensures some other
-    (c.lead_on-2.ensures ∙ ap (λ ps. leading_on ps (made_of v c.statements-3.new.code)) c.deref-4.ensures.value)
+    choosing_last f (expr_tree v part.expr) (body_of v part.true_body.items) (body_of v part.false_body.items) l.invariant.choosing c.in_ok-test.ensures r
+    c.in_ok-jump_past.ensures some other
+    (c.lead_on-then-not-has_elif.ensures ∙ ap (λ ps. leading_on ps (made_of v c.statements-then-not-has_elif.new.code)) c.deref-then-not-has_elif-2.ensures.value)
+
+pub stmt::statement-returns-in-Block : goal.stmt::statement-returns-in-Block
+stmt::statement-returns-in-Block g t c =
+    let v = g.V.TemplateValue.contents in
+    let f = g.V.TemplateValue.functions in
+    ok_gives c.add.result (λ s. stmt_as f (stmt_tree v c.args.stmt.now) (block_arm v c.args.stmt.now c.in-Block.block c.node-in-Block.result.now c.in-Block.is c.node-in-Block.ensures) (follows_plain (around_of c.args.turn.now) _ s)) c.add.ensures
+
+pub stmt::statement-returns-in-Extends : goal.stmt::statement-returns-in-Extends
+stmt::statement-returns-in-Extends g t c =
+    let v = g.V.TemplateValue.contents in
+    let f = g.V.TemplateValue.functions in
+    ok_gives c.extends.result (λ s. stmt_as f (stmt_tree v c.args.stmt.now) (extends_arm v c.args.stmt.now c.in-Extends.parent c.node-in-Extends.result.now c.in-Extends.is c.node-in-Extends.ensures) (follows_plain (around_of c.args.turn.now) _ s)) c.extends.ensures
+
+pub stmt::statement-returns-in-Include : goal.stmt::statement-returns-in-Include
+stmt::statement-returns-in-Include g t c =
+    let v = g.V.TemplateValue.contents in
+    let f = g.V.TemplateValue.functions in
+    ok_gives c.include.result (λ s. stmt_as f (stmt_tree v c.args.stmt.now) (include_arm v c.args.stmt.now c.in-Include.included c.node-in-Include.result.now c.in-Include.is c.node-in-Include.ensures) (follows_plain (around_of c.args.turn.now) _ s)) c.include.ensures
+
+pub stmt::statement-returns-in-Import : goal.stmt::statement-returns-in-Import
+stmt::statement-returns-in-Import g t c =
+    let v = g.V.TemplateValue.contents in
+    let f = g.V.TemplateValue.functions in
+    ok_gives c.import_all.result (λ s. stmt_as f (stmt_tree v c.args.stmt.now) (import_arm v c.args.stmt.now c.in-Import.import c.node-in-Import.result.now c.in-Import.is c.node-in-Import.ensures) (follows_plain (around_of c.args.turn.now) _ s)) c.import_all.ensures
+
+pub stmt::statement-returns-in-FromImport : goal.stmt::statement-returns-in-FromImport
+stmt::statement-returns-in-FromImport g t c =
+    let v = g.V.TemplateValue.contents in
+    let f = g.V.TemplateValue.functions in
+    ok_gives c.from_import.result (λ s. stmt_as f (stmt_tree v c.args.stmt.now) (from_arm v c.args.stmt.now c.in-FromImport.import c.node-in-FromImport.result.now c.in-FromImport.is c.node-in-FromImport.ensures) (follows_plain (around_of c.args.turn.now) _ s)) c.from_import.ensures
+
+pub stmt::statement-macro_value-requires : goal.stmt::statement-macro_value-requires
+stmt::statement-macro_value-requires g t c =
+    let v = g.V.TemplateValue.contents in
+    let w = subst (MayStand (around_of c.args.turn.now).in_loop) (macro_arm v c.args.stmt.now c.in-Macro.declared c.node-in-Macro.result.now c.in-Macro.is c.node-in-Macro.ensures) c.requires in
+    λ κs live. (search (rules, the_lemmas), (search rules, (search rules, w)))
+
+pub stmt::statement-returns-in_ok-macro_value-in-Macro : goal.stmt::statement-returns-in_ok-macro_value-in-Macro
+stmt::statement-returns-in_ok-macro_value-in-Macro g t c =
+    let v = g.V.TemplateValue.contents in
+    let f = g.V.TemplateValue.functions in
+    ok_gives c.add-in-Macro.result (λ s. stmt_as f (stmt_tree v c.args.stmt.now) (macro_arm v c.args.stmt.now c.in-Macro.declared c.node-in-Macro.result.now c.in-Macro.is c.node-in-Macro.ensures)
+    (declare_follows f (macro_tree v c.node-in-Macro.result.now) c.in_ok-macro_value-in-Macro.ensures.added c.in_ok-macro_value-in-Macro.ensures.counted
+    (adds_as (ap (λ (m : Macro g.row.V.Denot g.row.V-Fault.Denot). one (Do event.StoreLocal m.name.now 1)) (c.node-in-Macro-2.ensures ∙ sym c.node-in-Macro.ensures)) s))) c.add-in-Macro.ensures
+
+pub macros::macro_value-statements-requires : goal.macros::macro_value-statements-requires
+macros::macro_value-statements-requires g t c =
+    let v = g.V.TemplateValue.contents in
+    λ κs live. (search (rules, macro_lemmas), (search rules, (search rules, inner_in v _ _ c.deref-3.result.now (ap (λ (a : Around). a.in_loop) c.outside-inner.ensures) (inner_as v _ c.deref-3.ensures.value c.requires.3))))
+
+pub macros::macro_value-returns-clause-counted : goal.macros::macro_value-returns-clause-counted
+macros::macro_value-returns-clause-counted g t c =
+    let last = around_of c.statements.new.turn in
+    let counted = macro_bytes_as g.V.TemplateValue.contents last.bytes (around_of c.outside-inner.result).bytes c.deref-3.ensures.value c.in_ok-statements.ensures.bytes in
+    ok_gives c.build.result (λ s. counted_inside {t = around_of c.args.turn.now} last c.outside-inner.ensures counted c.data_bytes.ensures c.count.ensures) c.build.ensures
+
+pub macros::macro_value-returns-clause-added : goal.macros::macro_value-returns-clause-added
+macros::macro_value-returns-clause-added g t c =
+    let v = g.V.TemplateValue.contents in
+    let f = g.V.TemplateValue.functions in
+    let n = c.args.declared.now in
+    let body = body_as f v (around_of c.outside-inner.result).opened c.deref-3.ensures.value c.in_ok-statements.ensures in
+    ok_gives c.build.result (λ s. macro_added f tt n.name.now (map (expr_tree v) n.args.items) (map (expr_tree v) n.defaults.items) (body_of v n.body.items)
+    c.in_ok-jump.ensures.added c.in_ok-jump.ensures.place c.place-entry.ensures (take_as f v c.deref.ensures.value c.deref-2.ensures.value c.in_ok-take.ensures) c.outside-inner.ensures body c.in_ok-add.ensures c.fill.ensures c.target.ensures s) c.build.ensures
+
+pub stmt::statement-begin_call-requires : goal.stmt::statement-begin_call-requires
+stmt::statement-begin_call-requires g t c =
+    let v = g.V.TemplateValue.contents in
+    let w = subst (MayStand (around_of c.args.turn.now).in_loop) (call_block_arm v c.args.stmt.now c.in-CallBlock.block c.node-block.result.now c.in-CallBlock.is c.node-block.ensures) c.requires in
+    subst (λ (k : Call g.row.V.Denot g.row.V-Fault.Denot). IsWhole (tree.call (expr_tree v k.expr) (args_of v k.args.items))) (sym c.node-in-CallBlock.ensures) w.0
+
+pub stmt::statement-end_call-requires-clause-whole : goal.stmt::statement-end_call-requires-clause-whole
+stmt::statement-end_call-requires-clause-whole g t c =
+    let v = g.V.TemplateValue.contents in
+    let w = subst (MayStand (around_of c.args.turn.now).in_loop) (call_block_arm v c.args.stmt.now c.in-CallBlock.block c.node-block.result.now c.in-CallBlock.is c.node-block.ensures) c.requires in
+    subst (λ (k : Call g.row.V.Denot g.row.V-Fault.Denot). IsWhole (tree.call (expr_tree v k.expr) (args_of v k.args.items))) (sym c.node-in-CallBlock-3.ensures) w.0
+
+pub stmt::statement-macro_value-requires-in-CallBlock : goal.stmt::statement-macro_value-requires-in-CallBlock
+stmt::statement-macro_value-requires-in-CallBlock g t c =
+    let v = g.V.TemplateValue.contents in
+    let w = subst (MayStand (around_of c.args.turn.now).in_loop) (call_block_arm v c.args.stmt.now c.in-CallBlock.block c.node-block.result.now c.in-CallBlock.is c.node-block.ensures) c.requires in
+    λ κs live. (search (rules, the_lemmas, call_lemmas), (search rules, (search rules, subst (λ (m : Macro g.row.V.Denot g.row.V-Fault.Denot). IsMacro (macro_tree v m)) (sym c.node-in-CallBlock-2.ensures) w.1)))
+
+pub stmt::statement-returns-in_default : goal.stmt::statement-returns-in_default
+stmt::statement-returns-in_default g t c =
+    let v = g.V.TemplateValue.contents in
+    let f = g.V.TemplateValue.functions in
+    let k = c.node-in-CallBlock.result.now in
+    let n = c.node-block.result.now in
+    let is = call_block_arm v c.args.stmt.now c.in-CallBlock.block n c.in-CallBlock.is c.node-block.ensures
+    ∙ ap (λ (q : Call g.row.V.Denot g.row.V-Fault.Denot). tree.call_block (expr_tree v q.expr) (args_of v q.args.items) (macro_tree v (macro_in n))) (sym c.node-in-CallBlock.ensures) in
+    let whole = subst (λ o. BeginsCall f (expr_tree v k.expr) (args_of v k.args.items) o (made_of v c.args.code.now) (made_of v c.begin_call.new.code)) c.in_default.is c.in_ok-counts-in-CallBlock.ensures in
+    ok_gives c.add-in_default.result (λ s. stmt_as f (stmt_tree v c.args.stmt.now) is (block_call_follows f (expr_tree v k.expr) (args_of v k.args.items) (around_of c.args.turn.now) (macro_tree v (macro_in n)) whole s)) c.add-in_default.ensures
+
+pub stmt::statement-returns-in_ok-end_call-in-CallBlock : goal.stmt::statement-returns-in_ok-end_call-in-CallBlock
+stmt::statement-returns-in_ok-end_call-in-CallBlock g t c =
+    let v = g.V.TemplateValue.contents in
+    let f = g.V.TemplateValue.functions in
+    let k = c.node-in-CallBlock.result.now in
+    let n = c.node-block.result.now in
+    let m = c.node-in-CallBlock-2.result.now in
+    let is = call_block_arm v c.args.stmt.now c.in-CallBlock.block n c.in-CallBlock.is c.node-block.ensures
+    ∙ ap (λ (q : Call g.row.V.Denot g.row.V-Fault.Denot). tree.call_block (expr_tree v q.expr) (args_of v q.args.items) (macro_tree v (macro_in n))) (sym c.node-in-CallBlock.ensures)
+    ∙ ap (λ (q : Macro g.row.V.Denot g.row.V-Fault.Denot). tree.call_block (expr_tree v k.expr) (args_of v k.args.items) (macro_tree v q)) (sym c.node-in-CallBlock-2.ensures) in
+    let begun = subst (λ o. BeginsCall f (expr_tree v k.expr) (args_of v k.args.items) o (made_of v c.args.code.now) (made_of v c.begin_call.new.code)) c.in-Some.is c.in_ok-counts-in-CallBlock.ensures in
+    let same = c.node-in-CallBlock-3.ensures ∙ sym c.node-in-CallBlock.ensures in
+    let ended = adds_as (ap (λ (q : Call g.row.V.Denot g.row.V-Fault.Denot). behind_caller (callee (expr_tree v q.expr)) (args_of v q.args.items)) same) c.in_ok-end_call-in-CallBlock.ensures in
+    ok_gives c.add-in-CallBlock.result (λ s. stmt_as f (stmt_tree v c.args.stmt.now) is (call_block_follows f (expr_tree v k.expr) (args_of v k.args.items) (macro_tree v m) begun.takes begun.added c.in_ok-macro_value-in-CallBlock.ensures.added c.in_ok-macro_value-in-CallBlock.ensures.counted ended s)) c.add-in-CallBlock.ensures

@@ -18,8 +18,8 @@ invariant-stmt::statements-loop-stmt g l =
       onward : Onward g.V.TemplateValue.functions (around_of l.fn.turn) (made_of c l.fn.code) (around_of l.turn) (made_of c l.code) rest (stmts_of (map (stmt_tree c) l.stmts));
     }
 
-abbrev pub invariant-conditions::condition-loop-code : goal.invariant-conditions::condition-loop-code
-invariant-conditions::condition-loop-code g l =
+abbrev pub invariant-conditions::condition-loop-ends : goal.invariant-conditions::condition-loop-ends
+invariant-conditions::condition-loop-ends g l =
     let c = g.V.TemplateValue.contents in
     let true_body = stmts_of (map (stmt_tree c) l.part.true_body.items) in
     let false_body = stmts_of (map (stmt_tree c) l.part.false_body.items) in
@@ -33,5 +33,5 @@ invariant-conditions::condition-loop-code g l =
       smaller : size-IfCond g.row.V.Denot g.row.V-Fault.Denot l.part ≤ size-IfCond g.row.V.Denot g.row.V-Fault.Denot l.fn.choice;
     }
 
-abbrev pub decreases-conditions::condition-loop-code : goal.decreases-conditions::condition-loop-code
-decreases-conditions::condition-loop-code g l = size-IfCond g.row.V.Denot g.row.V-Fault.Denot l.part
+abbrev pub decreases-conditions::condition-loop-ends : goal.decreases-conditions::condition-loop-ends
+decreases-conditions::condition-loop-ends g l = size-IfCond g.row.V.Denot g.row.V-Fault.Denot l.part

@@ -1,7 +1,7 @@
 use Rattle.std.proofs.Common.{refl, sym, subst, ◌∙◌}
 use Rattle.minijinja_tree.specs.Nodes.{node_of}
 use Rattle.minijinja_tree.specs.WellFormed.{IsChainOfFilters}
-use Rattle.minijinja_tree.proofs.Nodes.{compare_is}
+use Rattle.minijinja_expressions.proofs.SpannedNodes.{compare_is}
 use Rattle.minijinja_expression_code.proofs.Arms.{compare_arm, filter_arm}
 use Rattle.minijinja_expression_code.proofs.filters.filter_of.Goals as goal
 

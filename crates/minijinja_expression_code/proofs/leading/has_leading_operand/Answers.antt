@@ -1,7 +1,7 @@
 use Rattle.std.proofs.Common.{sym, ap, ◌∙◌, refl}
 use Rattle.std.specs.Prelude.{is_some}
 use Rattle.minijinja_tree.specs.Nodes.{node_of}
-use Rattle.minijinja_tree.proofs.Nodes.{compare_is}
+use Rattle.minijinja_expressions.proofs.SpannedNodes.{compare_is}
 use Rattle.minijinja_expression_code.specs.private.Leading.{leading}
 use Rattle.minijinja_expression_code.proofs.Arms.{compare_arm}
 use Rattle.minijinja_expression_code.proofs.leading.has_leading_operand.Goals as goal

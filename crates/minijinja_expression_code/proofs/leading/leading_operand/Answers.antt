@@ -1,5 +1,5 @@
 use Rattle.std.proofs.Common.{ap, ◌∙◌}
-use Rattle.minijinja_tree.proofs.Nodes.{compare_is}
+use Rattle.minijinja_expressions.proofs.SpannedNodes.{compare_is}
 use Rattle.minijinja_expression_code.specs.private.Leading.{leading}
 use Rattle.minijinja_expression_code.proofs.Arms.{compare_arm}
 use Rattle.minijinja_expression_code.proofs.leading.leading_operand.Goals as goal

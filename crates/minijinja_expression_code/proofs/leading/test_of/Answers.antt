@@ -1,6 +1,6 @@
 use Rattle.std.proofs.Common.{sym, ap, ◌∙◌, refl}
 use Rattle.minijinja_tree.specs.Nodes.{node_of}
-use Rattle.minijinja_tree.proofs.Nodes.{compare_is}
+use Rattle.minijinja_expressions.proofs.SpannedNodes.{compare_is}
 use Rattle.minijinja_expression_code.specs.private.Leading.{test_in}
 use Rattle.minijinja_expression_code.proofs.Arms.{compare_arm}
 use Rattle.minijinja_expression_code.proofs.leading.test_of.Goals as goal

@@ -1,8 +1,9 @@
-use Rattle.std.proofs.Common.{sym, ap, ◌∙◌}
+use Rattle.std.proofs.Common.{OnOk, sym, ap, subst, ◌∙◌}
 use Rattle.std.specs.Option.{option_map}
 use Rattle.minijinja_tree.specs.Erasure.{bin_op}
 use Rattle.minijinja_meaning.specs.Pieces.{one}
 use Rattle.minijinja_expression_code.specs.private.Making.{made_of}
+use Rattle.minijinja_expression_code.specs.private.Operating.{EndsBinary}
 use Rattle.minijinja_expression_code.proofs.Adding.{adds_as}
 use Rattle.minijinja_expression_code.proofs.OperatorCode.{strict_given, strict_unknown}
 use Rattle.minijinja_expression_code.proofs.Results.{ok_gives}
@@ -19,3 +20,8 @@ returns-in-None g c =
     let v = g.V.TemplateValue.contents in
     let made = made_of v c.args.code.now in
     ok_gives c.add.result (λ s. strict_unknown g.V.TemplateValue.functions (bin_op c.args.op) made (made_of v c.add.new.self) (sym c.is_lazy.ensures ∙ c.if-is_lazy.false) (λ within. ap (option_map v) (sym c.in-None.is) ∙ c.in_ok-value.ensures within) (adds_as (ap (λ i. one i) c.operator.ensures.is) s)) c.add.ensures
+
+pub returns-in-Concat : goal.returns-in-Concat
+returns-in-Concat g c =
+    let v = g.V.TemplateValue.contents in
+    subst (λ o. OnOk c.end_concat.result (EndsBinary g.V.TemplateValue.functions (bin_op o) c.args.start c.args.middle (made_of v c.args.code.now) (made_of v c.end_concat.new.code))) (sym c.in-Concat.is) c.end_concat.ensures

@@ -1,5 +1,10 @@
-use Rattle.minijinja_meaning.proofs.Leads.{layout_leads_well, expression_leads_well}
+use Rattle.minijinja_meaning.proofs.BlockBodies.{of_blocks}
+use Rattle.minijinja_meaning.specs.Jumps.{LeadsWell}
+use Rattle.minijinja_meaning.specs.Layout.{block_code}
+use Rattle.minijinja_meaning.proofs.Leads.{layout_leads_well, block_leads_well, expression_leads_well}
 use Rattle.minijinja_meaning.proofs.laws.layout_leads_well.Goals as goal
 
 pub returns : goal.returns
-returns g c = record { template = layout_leads_well g.V.TemplateValue.functions; expression = expression_leads_well g.V.TemplateValue.functions }
+returns g c =
+    let f = g.V.TemplateValue.functions in
+    record { template = layout_leads_well f; blocks = of_blocks (λ ss. LeadsWell (block_code f ss)) (block_leads_well f); expression = expression_leads_well f }

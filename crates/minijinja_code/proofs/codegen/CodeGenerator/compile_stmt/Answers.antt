@@ -1,5 +1,7 @@
-use Rattle.std.proofs.Common.{◌∙◌, ◌<◌, ◌^◌, List, Result, Ok, length, refl, sym, subst}
+use Rattle.std.proofs.Common.{◌∙◌, ◌<◌, ◌^◌, ◌++◌, List, Result, Ok, Err, length, refl, sym, subst}
+use Rattle.minijinja_syntax.specs.declared.error.Error.{Error}
 use Rattle.minijinja_tree.specs.Erasure.{stmt_tree}
+use Rattle.minijinja_tree.specs.Tree.{blocks}
 use Rattle.minijinja_meaning.specs.Code.{Instr}
 use Rattle.minijinja_meaning.specs.Correct.{DoesStmt}
 use Rattle.minijinja_meaning.specs.Laws.{Laws}
@@ -7,73 +9,86 @@ use Rattle.minijinja_meaning.specs.Places.{placed_stmt}
 use Rattle.minijinja_meaning.specs.Units.{DoUnits}
 use Rattle.minijinja_meaning.proofs.Whole.{statement_does, statement_units_do}
 use Rattle.minijinja_expression_code.specs.private.Making.{made_of, here_of}
+use Rattle.minijinja_code.specs.Generator.{OnlyWhereOneIsTooLong}
 use Rattle.minijinja_code.specs.private.Statements.{stmt_piece}
 use Rattle.minijinja_expression_code.specs.declared.memory.OutOfMemory.{OutOfMemory}
-use Rattle.minijinja_code.proofs.Ending.{if_none, too_long, never_ok, never_long}
+use Rattle.minijinja_code.proofs.Ending.{always_ok, block_too_long, if_none, one_too_long, never_ok, never_long}
+use Rattle.minijinja_code.proofs.OwnBlocks.{passed_on}
 use Rattle.minijinja_code.proofs.Uncapped.{stmt_uncapped}
-use Rattle.minijinja_expression_code.proofs.Results.{ok_gives}
 use Rattle.minijinja_code.proofs.codegen.CodeGenerator.compile_stmt.Goals as goal
 
-pub returns-in-Ok-clause-added : goal.returns-in-Ok-clause-added
-returns-in-Ok-clause-added g c =
+pub returns-in_ok-ended-in-Ok-clause-added : goal.returns-in_ok-ended-in-Ok-clause-added
+returns-in_ok-ended-in-Ok-clause-added g c =
     let v = g.V.TemplateValue.contents in
     let f = g.V.TemplateValue.functions in
     let m = made_of v c.args.self.now.code in
     let e = stmt_tree v c.args.stmt.now in
-    let r = c.ended.result in
+    let r = c.add_lists.result in
     let s = c.in-Ok.ensures.added in
-    ok_gives r (λ small. c.ended.ensures.code ∙ stmt_uncapped f e c.requires s small) c.ended.ensures.few
+    let small = c.in_ok-ended-in-Ok.ensures.few in
+    always_ok r (c.add_lists.ensures.code ∙ c.ended.ensures.code ∙ stmt_uncapped f e c.requires s small)
 
-pub returns-in-Ok-clause-past : goal.returns-in-Ok-clause-past
-returns-in-Ok-clause-past g c =
+pub returns-in_ok-ended-in-Ok-clause-past : goal.returns-in_ok-ended-in-Ok-clause-past
+returns-in_ok-ended-in-Ok-clause-past g c =
     let v = g.V.TemplateValue.contents in
     let f = g.V.TemplateValue.functions in
     let m = made_of v c.args.self.now.code in
     let e = stmt_tree v c.args.stmt.now in
-    let r = c.ended.result in
+    let r = c.add_lists.result in
     let s = c.in-Ok.ensures.added in
-    ok_gives r (λ small. c.ended.ensures.here ∙ s.past) c.ended.ensures.few
+    always_ok r (c.add_lists.ensures.here ∙ c.ended.ensures.here ∙ s.past)
 
-pub returns-in-Ok-clause-few : goal.returns-in-Ok-clause-few
-returns-in-Ok-clause-few g c =
-    ok_gives c.ended.result (subst (λ is. length is < 2 ^ 32) (sym c.ended.ensures.code)) c.ended.ensures.few
+pub returns-in_ok-ended-in-Ok-clause-few : goal.returns-in_ok-ended-in-Ok-clause-few
+returns-in_ok-ended-in-Ok-clause-few g c =
+    always_ok c.add_lists.result (subst (λ is. length is < 2 ^ 32) (sym (c.add_lists.ensures.code ∙ c.ended.ensures.code)) c.in_ok-ended-in-Ok.ensures.few)
 
-pub returns-in-Ok-clause-does : goal.returns-in-Ok-clause-does
-returns-in-Ok-clause-does g c =
+pub returns-in_ok-ended-in-Ok-clause-does : goal.returns-in_ok-ended-in-Ok-clause-does
+returns-in_ok-ended-in-Ok-clause-does g c =
     let v = g.V.TemplateValue.contents in
     let f = g.V.TemplateValue.functions in
     let m = made_of v c.args.self.now.code in
     let e = stmt_tree v c.args.stmt.now in
-    let r = c.ended.result in
-    let s = c.in-Ok.ensures.added in
-    let laws : Laws f = record { truth = g.met.V.TemplateValue.is_true_of_bool; count = g.met.V.TemplateValue.as_count_of_u64; one_more = g.met.V.TemplateValue.add_one } in
-    ok_gives r (λ small.
-    subst (λ (code : List (Instr g.V.TemplateValue.Contents)). DoesStmt f code (length m.code) (length code) (placed_stmt f e (here_of m))) (sym (c.ended.ensures.code ∙ stmt_uncapped f e c.requires s small))
-    (statement_does f laws m.code (here_of m) e refl c.requires)) c.ended.ensures.few
-
-pub returns-in-Ok-clause-units : goal.returns-in-Ok-clause-units
-returns-in-Ok-clause-units g c =
-    let v = g.V.TemplateValue.contents in
-    let f = g.V.TemplateValue.functions in
-    let m = made_of v c.args.self.now.code in
-    let e = stmt_tree v c.args.stmt.now in
-    let r = c.ended.result in
+    let r = c.add_lists.result in
     let s = c.in-Ok.ensures.added in
     let laws : Laws f = record { truth = g.met.V.TemplateValue.is_true_of_bool; count = g.met.V.TemplateValue.as_count_of_u64; one_more = g.met.V.TemplateValue.add_one } in
-    ok_gives r (λ small.
-    subst (λ (code : List (Instr g.V.TemplateValue.Contents)). DoUnits f code e (here_of m)) (sym (c.ended.ensures.code ∙ stmt_uncapped f e c.requires s small))
-    (statement_units_do f laws m.code (here_of m) e refl c.requires)) c.ended.ensures.few
+    let small = c.in_ok-ended-in-Ok.ensures.few in
+    always_ok r (subst (λ (code : List (Instr g.V.TemplateValue.Contents)). DoesStmt f code (length m.code) (length code) (placed_stmt f e (here_of m))) (sym (c.add_lists.ensures.code ∙ c.ended.ensures.code ∙ stmt_uncapped f e c.requires s small))
+    (statement_does f laws m.code (here_of m) e refl c.requires))
 
-pub returns-in-Ok-clause-too_many : goal.returns-in-Ok-clause-too_many
-returns-in-Ok-clause-too_many g c =
+pub returns-in_ok-ended-in-Ok-clause-units : goal.returns-in_ok-ended-in-Ok-clause-units
+returns-in_ok-ended-in-Ok-clause-units g c =
     let v = g.V.TemplateValue.contents in
     let f = g.V.TemplateValue.functions in
     let m = made_of v c.args.self.now.code in
     let e = stmt_tree v c.args.stmt.now in
-    let r = c.ended.result in
+    let r = c.add_lists.result in
+    let s = c.in-Ok.ensures.added in
+    let laws : Laws f = record { truth = g.met.V.TemplateValue.is_true_of_bool; count = g.met.V.TemplateValue.as_count_of_u64; one_more = g.met.V.TemplateValue.add_one } in
+    let small = c.in_ok-ended-in-Ok.ensures.few in
+    always_ok r (subst (λ (code : List (Instr g.V.TemplateValue.Contents)). DoUnits f code e (here_of m)) (sym (c.add_lists.ensures.code ∙ c.ended.ensures.code ∙ stmt_uncapped f e c.requires s small))
+    (statement_units_do f laws m.code (here_of m) e refl c.requires))
+
+pub returns-in_ok-ended-in-Ok-clause-too_many : goal.returns-in_ok-ended-in-Ok-clause-too_many
+returns-in_ok-ended-in-Ok-clause-too_many g c =
+    let v = g.V.TemplateValue.contents in
+    let f = g.V.TemplateValue.functions in
+    let m = made_of v c.args.self.now.code in
+    let e = stmt_tree v c.args.stmt.now in
+    let r = c.add_lists.result in
+    let s = c.in-Ok.ensures.added in
+    if_none c.args.self.now.refusal (block_too_long f (blocks e) r _ c.add_lists.ensures.too_many)
+
+pub returns-in_err-ended-in-Ok-clause-too_many : goal.returns-in_err-ended-in-Ok-clause-too_many
+returns-in_err-ended-in-Ok-clause-too_many g c =
+    let v = g.V.TemplateValue.contents in
+    let f = g.V.TemplateValue.functions in
+    let m = made_of v c.args.self.now.code in
+    let e = stmt_tree v c.args.stmt.now in
     let s = c.in-Ok.ensures.added in
     let o : Result (Unit {0}) OutOfMemory = Ok tt in
-    if_none c.args.self.now.refusal (too_long r o tt m (made_of v c.compile_stmt.new.code) (stmt_piece f e) c.ended.ensures.too_many s)
+    let refused : Result (Unit {0}) Error = Err c.in_err-ended-in-Ok.field-0.0 in
+    let long = one_too_long f (blocks e) refused o tt m (made_of v c.compile_stmt.new.code) (stmt_piece f e) c.in_err-ended-in-Ok.ensures.too_many s in
+    if_none c.args.self.now.refusal (passed_on (λ x. OnlyWhereOneIsTooLong f x (m.code ++ (stmt_piece f e).code (here_of m)) (blocks e)) c.from_residual.result c.in_err-ended-in-Ok.field-0.0 c.from_residual.ensures.1 long)
 
 pub returns-in-Err-clause-added : goal.returns-in-Err-clause-added
 returns-in-Err-clause-added g c = never_ok _ c.ended-in-Err.result c.in-Err.refused tt c.ended-in-Err.ensures.outcome

@@ -1,4 +1,4 @@
-use Rattle.std.proofs.Common.{ap, ◌∙◌}
+use Rattle.std.proofs.Common.{ap}
 use Rattle.minijinja_meaning.specs.Code.{Jump}
 use Rattle.minijinja_meaning.specs.Pieces.{one}
 use Rattle.minijinja_code.specs.private.AtTurn.{around_of}

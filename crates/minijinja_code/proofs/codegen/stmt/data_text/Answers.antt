@@ -1,4 +1,4 @@
-use Rattle.std.proofs.Common.{refl, length}
+use Rattle.std.proofs.Common.{length}
 use Rattle.minijinja_meaning.specs.Code as instr
 use Rattle.minijinja_meaning.specs.Events as event
 use Rattle.minijinja_meaning.specs.Pieces.{one}

@@ -1,7 +1,7 @@
 use Rattle.std.proofs.Common.{◌≡◌, length, arith, refl, subst, ◌∙◌}
 use Rattle.minijinja_tree.specs.Nodes.{node_of}
 use Rattle.minijinja_tree.specs.WellFormed.{IsTarget}
-use Rattle.minijinja_tree.proofs.Nodes.{compare_is}
+use Rattle.minijinja_expressions.proofs.SpannedNodes.{compare_is}
 use Rattle.minijinja_expression_code.proofs.Arms.{compare_arm}
 use Rattle.minijinja_code.proofs.TargetRows.{list_begun}
 use Rattle.minijinja_code.proofs.codegen.targets.begin.Goals as goal

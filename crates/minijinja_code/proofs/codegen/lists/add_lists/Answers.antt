@@ -1,0 +1,106 @@
+use Rattle.std.proofs.Common.{rules, ◌≡◌, ◌∙◌, ◌++◌, ◌∷◌, [], ap, refl, subst}
+use Rattle.std.specs.Prelude.{false}
+use Rattle.std.proofs.lemmas.List.{nil_from_length}
+use Rattle.std.proofs.lemmas.Option.{MatchOption-at_none}
+use Rattle.minijinja_tree.specs.Erasure.{stmt_tree}
+use Rattle.minijinja_tree.specs.Tree.{blocks, also}
+use Rattle.minijinja_tree.proofs.Rows.{body_of}
+use Rattle.minijinja_syntax.specs.Errors.{kind_of}
+use Rattle.minijinja_syntax.specs.declared.error.ErrorKind.TheVariants.{TooManyInstructions}
+use Rattle.minijinja_code.specs.BlockLists.{AddsLists}
+use Rattle.minijinja_code.specs.Generator.{HaveTooLong}
+use Rattle.minijinja_code.specs.private.Lists.{bodies_of, file_in, lists_of, own_block, rows_of, text_in}
+use Rattle.minijinja_code.proofs.Bodies.{root_stands}
+use Rattle.minijinja_code.proofs.ListRows.{row_taken, row_passed}
+use Rattle.minijinja_code.proofs.ListWalks.{Walking, steps_fall, walk_end, walk_may, walk_on, walk_passes, walk_start, walk_too_long}
+use Rattle.minijinja_code.proofs.OwnBlocks.{passed_on}
+use Rattle.minijinja_code.proofs.codegen.lists.add_lists.Goals as goal
+
+pub add_list_of-requires : goal.add_list_of-requires
+add_list_of-requires g c = record { in_loop = false; stands = root_stands false (stmt_tree g.V.TemplateValue.contents c.args.stmt.now) refl c.requires }
+
+pub loop-row-init : goal.loop-row-init
+loop-row-init g c =
+    let v = g.V.TemplateValue.contents in
+    let s = stmt_tree v c.args.stmt.now in
+    let new = c.push_bodies.new.rows.items in
+    let rows : rows_of v new ≡ bodies_of s ++ [] = subst (λ xs. rows_of v new ≡ bodies_of s ++ rows_of v xs) c.new-rows.ensures.items c.in_ok-push_bodies.ensures in
+    record {
+      walking = walk_start g.V.TemplateValue.functions v (text_in c.args.lists.now) (file_in c.args.lists.now) s false (lists_of c.args.lists.now) (lists_of c.add_list_of.new.lists) (rows_of v new) (root_stands false s refl c.requires) rows c.in_ok-add_list_of.ensures.added;
+      name = c.add_list_of.ensures.name;
+      source = c.add_list_of.ensures.source;
+    }
+
+pub add_list_of-requires-in-Some-split_first : goal.add_list_of-requires-in-Some-split_first
+add_list_of-requires-in-Some-split_first g c =
+    let v = g.V.TemplateValue.contents in
+    let l = c.loop-row in
+    let taken = row_taken v c.pop.new.self.items l.rows.items c.in-Some.row c.in-Some-split_first.stmt.now c.in-Some-split_first.rest.now c.in-Some.ensures.items c.in-Some-split_first.ensures.cases.0 in
+    walk_may g.V.TemplateValue.functions v (text_in c.args.lists.now) (file_in c.args.lists.now) (blocks (stmt_tree v c.args.stmt.now)) c.requires.1 (lists_of c.args.lists.now)
+    (rows_of v l.rows.items) (rows_of v c.pop.new.self.items) (stmt_tree v c.in-Some-split_first.stmt.now) (body_of v c.in-Some-split_first.rest.now) taken l.invariant.walking
+
+pub loop-row-preserved-in-Continue-branch-5 : goal.loop-row-preserved-in-Continue-branch-5
+loop-row-preserved-in-Continue-branch-5 g c =
+    let v = g.V.TemplateValue.contents in
+    let f = g.V.TemplateValue.functions in
+    let l = c.loop-row in
+    let left = rows_of v c.pop.new.self.items in
+    let s = stmt_tree v c.in-Some-split_first.stmt.now in
+    let rest = body_of v c.in-Some-split_first.rest.now in
+    let new = rows_of v c.push_bodies-in-Some-split_first.new.rows.items in
+    let added = c.in_ok-add_list_of-2.ensures.added in
+    let taken : rows_of v l.rows.items ≡ also s rest ∷ left = row_taken v c.pop.new.self.items l.rows.items c.in-Some.row c.in-Some-split_first.stmt.now c.in-Some-split_first.rest.now c.in-Some.ensures.items c.in-Some-split_first.ensures.cases.0 in
+    let more : new ≡ bodies_of s ++ rest ∷ left = c.in_ok-push_bodies-2.ensures ∙ ap (λ rows. bodies_of s ++ rows) c.in_ok-push_row.ensures in
+    record {
+      walking = walk_on f v (text_in c.args.lists.now) (file_in c.args.lists.now) (blocks (stmt_tree v c.args.stmt.now)) c.requires.1 (lists_of c.args.lists.now) {now = lists_of l.lists} {next = lists_of c.add_list_of-in-Some-split_first.new.lists}
+          (rows_of v l.rows.items) left new s rest taken more l.invariant.walking
+          (subst (λ t. AddsLists f v t (file_in c.args.lists.now) (own_block s) (lists_of l.lists) (lists_of c.add_list_of-in-Some-split_first.new.lists)) l.invariant.source
+          (subst (λ n. AddsLists f v (text_in l.lists) n (own_block s) (lists_of l.lists) (lists_of c.add_list_of-in-Some-split_first.new.lists)) l.invariant.name added));
+      name = c.add_list_of-in-Some-split_first.ensures.name ∙ l.invariant.name;
+      source = c.add_list_of-in-Some-split_first.ensures.source ∙ l.invariant.source;
+    }
+
+pub loop-row-smaller-in-Continue-branch-5 : goal.loop-row-smaller-in-Continue-branch-5
+loop-row-smaller-in-Continue-branch-5 g c =
+    let v = g.V.TemplateValue.contents in
+    let l = c.loop-row in
+    let left = rows_of v c.pop.new.self.items in
+    let s = stmt_tree v c.in-Some-split_first.stmt.now in
+    let rest = body_of v c.in-Some-split_first.rest.now in
+    let new = rows_of v c.push_bodies-in-Some-split_first.new.rows.items in
+    let taken : rows_of v l.rows.items ≡ also s rest ∷ left = row_taken v c.pop.new.self.items l.rows.items c.in-Some.row c.in-Some-split_first.stmt.now c.in-Some-split_first.rest.now c.in-Some.ensures.items c.in-Some-split_first.ensures.cases.0 in
+    let more : new ≡ bodies_of s ++ rest ∷ left = c.in_ok-push_bodies-2.ensures ∙ ap (λ rows. bodies_of s ++ rows) c.in_ok-push_row.ensures in
+    steps_fall (rows_of v l.rows.items) left new s rest taken more
+
+pub loop-row-preserved : goal.loop-row-preserved
+loop-row-preserved g c =
+    let v = g.V.TemplateValue.contents in
+    let l = c.loop-row in
+    let passed = row_passed v c.pop.new.self.items l.rows.items c.in-Some.row c.in-Some.ensures.items (nil_from_length c.in-Some.row.now (MatchOption-at_none _ _ c.in_default-split_first.is c.split_first.ensures.cases)) in
+    record {
+      walking = walk_passes g.V.TemplateValue.functions v (text_in c.args.lists.now) (file_in c.args.lists.now) (blocks (stmt_tree v c.args.stmt.now)) c.requires.1 (lists_of c.args.lists.now)
+          (rows_of v l.rows.items) (rows_of v c.pop.new.self.items) passed l.invariant.walking;
+      name = l.invariant.name;
+      source = l.invariant.source;
+    }
+
+pub returns-clause-added : goal.returns-clause-added
+returns-clause-added g c =
+    let v = g.V.TemplateValue.contents in
+    let f = g.V.TemplateValue.functions in
+    let whole = blocks (stmt_tree v c.args.stmt.now) in
+    let l = c.loop-row in
+    let none : l.rows.items ≡ [] = search rules in
+    let w = subst (λ rows. Walking f v (text_in c.args.lists.now) (file_in c.args.lists.now) whole (lists_of c.args.lists.now) (rows_of v rows) (lists_of l.lists)) none l.invariant.walking in
+    walk_end f v (text_in c.args.lists.now) (file_in c.args.lists.now) whole c.requires.1 (lists_of c.args.lists.now) w
+
+pub returns-in_err-add_list_of-2-clause-too_many : goal.returns-in_err-add_list_of-2-clause-too_many
+returns-in_err-add_list_of-2-clause-too_many g c =
+    let v = g.V.TemplateValue.contents in
+    let f = g.V.TemplateValue.functions in
+    let whole = blocks (stmt_tree v c.args.stmt.now) in
+    let l = c.loop-row in
+    let taken = row_taken v c.pop.new.self.items l.rows.items c.in-Some.row c.in-Some-split_first.stmt.now c.in-Some-split_first.rest.now c.in-Some.ensures.items c.in-Some-split_first.ensures.cases.0 in
+    passed_on (λ e. kind_of e ≡ TooManyInstructions → HaveTooLong f whole) c.from_residual-in_err-add_list_of-2.result c.in_err-add_list_of-2.field-0.0 c.from_residual-in_err-add_list_of-2.ensures.1
+    (λ k. walk_too_long f v (text_in c.args.lists.now) (file_in c.args.lists.now) whole c.requires.1 (lists_of c.args.lists.now)
+    (rows_of v l.rows.items) (rows_of v c.pop.new.self.items) (stmt_tree v c.in-Some-split_first.stmt.now) (body_of v c.in-Some-split_first.rest.now) taken l.invariant.walking (c.in_err-add_list_of-2.ensures.too_many k))

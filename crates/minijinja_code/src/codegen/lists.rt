@@ -1,0 +1,184 @@
+//! The lists of blocks.
+ghost use Rattle.std.specs.Prelude.{◌≡◌, ◌≤◌, ◌^◌, ◌∷◌, [], ◌++◌, false, length, map, IfErr, IfOk, OnOk};
+ghost use Rattle.minijinja_syntax.specs.Errors.{kind_of};
+ghost use Rattle.minijinja_syntax.specs.declared.error.ErrorKind.TheVariants.{TooManyInstructions};
+ghost use Rattle.minijinja_tree.specs.Erasure.{stmt_tree};
+ghost use Rattle.minijinja_tree.specs.Tree.{blocks, stmts_of};
+ghost use Rattle.minijinja_tree.specs.WellFormed.{AreInner, IsWellFormed};
+ghost use Rattle.minijinja_instructions.specs.InstructionLists.{IsAddError};
+ghost use Rattle.minijinja_instructions.specs.Instructions.{instr_of};
+ghost use Rattle.minijinja_code.specs.BlockLists.{AddsLists};
+ghost use Rattle.minijinja_code.specs.Generator.{HaveTooLong, IsUnplaced};
+ghost use Rattle.minijinja_code.specs.private.Lists.{block_tree, bodies_of, file_in, lists_of, own_block, rows_of, text_in};
+ghost use Rattle.minijinja_code.specs.private.Statements.{StandsSomewhere};
+ghost use Rattle.minijinja_expression_code.specs.private.Making.{capped};
+ghost use Rattle.minijinja_meaning.specs.Layout as layout;
+
+use super::stmt::statements;
+use super::turn::Turn;
+use minijinja_base::error::Error;
+use minijinja_base::value::TemplateValue;
+use minijinja_expression_code::emit::Emitter;
+use minijinja_expression_code::memory::OutOfMemory;
+use minijinja_instructions::instructions::{Instruction, Instructions};
+use minijinja_instructions::lists::{LIMIT, listed, too_many};
+use minijinja_tree::ast::{Block, Stmt};
+use std::alloc::{AllocError, Global};
+use std::collections::BTreeMap;
+
+/// The lists of the blocks of a source with this name and text, by the names of the blocks.
+#[derive(Drop)]
+pub(super) struct Lists<'s, V: TemplateValue> {
+    pub(super) file: &'s str,
+    pub(super) source: &'s str,
+    pub(super) blocks: BTreeMap<&'s str, Instructions<'s, V>>,
+}
+
+/// Adds the list of each block of a statement. The bodies are gone through in a loop, so that one in another takes no more
+/// stack than one by itself.
+pub(super) fn add_lists<'s, V: TemplateValue>(
+    lists: &mut Lists<'s, V>,
+    alloc: Global,
+    stmt: &Stmt<'s, V>,
+) -> Result<(), Error<'s>>
+    requires { IsWellFormed (stmt_tree V.contents stmt.now) }
+    ensures added { OnOk result (AddsLists V.functions V.contents (text_in lists.old)
+        (file_in lists.old) (blocks (stmt_tree V.contents stmt.now)) (lists_of lists.old)
+        (lists_of lists.new)) }
+    ensures causes { IfErr result IsAddError }
+    ensures unplaced { IfErr result IsUnplaced }
+    ensures too_many { IfErr result (λ e. kind_of e ≡ TooManyInstructions → HaveTooLong V.functions
+        (blocks (stmt_tree V.contents stmt.now))) }
+    ensures name { file_in lists.new ≡ file_in lists.old }
+    ensures source { text_in lists.new ≡ text_in lists.old }
+{
+    let mut rows = Vec::new(alloc);
+    add_list_of(lists, alloc, stmt)?;
+    push_bodies(&mut rows, stmt)?;
+    while let Some(row) = rows.pop() {
+        if let Some((stmt, rest)) = row.split_first() {
+            push_row(&mut rows, rest)?;
+            add_list_of(lists, alloc, stmt)?;
+            push_bodies(&mut rows, stmt)?;
+        }
+    }
+    Ok(())
+}
+
+/// Adds the bodies of a statement to rows that wait, the first one last.
+fn push_bodies<'a, 's, V: TemplateValue>(
+    rows: &mut Vec<&'a [Stmt<'s, V>]>,
+    stmt: &'a Stmt<'s, V>,
+) -> Result<(), AllocError>
+    ensures { OnOk result (rows_of V.contents rows.new.items
+        ≡ bodies_of (stmt_tree V.contents stmt.now) ++ rows_of V.contents rows.old.items) }
+{
+    match stmt {
+        Stmt::Template(template) => push_row(rows, &template.node().children),
+        Stmt::ForLoop(each) => {
+            push_row(rows, &each.node().else_body)?;
+            push_row(rows, &each.node().body)
+        }
+        Stmt::IfCond(choice) => {
+            push_row(rows, &choice.node().false_body)?;
+            push_row(rows, &choice.node().true_body)
+        }
+        Stmt::WithBlock(block) => push_row(rows, &block.node().body),
+        Stmt::SetBlock(block) => push_row(rows, &block.node().body),
+        Stmt::AutoEscape(block) => push_row(rows, &block.node().body),
+        Stmt::FilterBlock(block) => push_row(rows, &block.node().body),
+        Stmt::Block(block) => push_row(rows, &block.node().body),
+        Stmt::Macro(declared) => push_row(rows, &declared.node().body),
+        Stmt::CallBlock(block) => push_row(rows, &block.node().macro_decl.node().body),
+        Stmt::EmitExpr(_) => Ok(()),
+        Stmt::EmitRaw(_) => Ok(()),
+        Stmt::Set(_) => Ok(()),
+        Stmt::Import(_) => Ok(()),
+        Stmt::FromImport(_) => Ok(()),
+        Stmt::Extends(_) => Ok(()),
+        Stmt::Include(_) => Ok(()),
+        Stmt::Continue(_) => Ok(()),
+        Stmt::Break(_) => Ok(()),
+        Stmt::Do(_) => Ok(()),
+    }
+}
+
+/// Adds a row of statements that waits.
+fn push_row<'a, 's, V: TemplateValue>(
+    rows: &mut Vec<&'a [Stmt<'s, V>]>,
+    row: &'a [Stmt<'s, V>],
+) -> Result<(), AllocError>
+    ensures { OnOk result (rows_of V.contents rows.new.items
+        ≡ stmts_of (map (stmt_tree V.contents) row.now) ∷ rows_of V.contents rows.old.items) }
+{
+    rows.push(row)?;
+    Ok(())
+}
+
+/// Adds the list of a statement that is a block.
+fn add_list_of<'s, V: TemplateValue>(
+    lists: &mut Lists<'s, V>,
+    alloc: Global,
+    stmt: &Stmt<'s, V>,
+) -> Result<(), Error<'s>>
+    requires { StandsSomewhere (stmt_tree V.contents stmt.now) }
+    ensures added { OnOk result (AddsLists V.functions V.contents (text_in lists.old)
+        (file_in lists.old) (own_block (stmt_tree V.contents stmt.now)) (lists_of lists.old)
+        (lists_of lists.new)) }
+    ensures causes { IfErr result IsAddError }
+    ensures unplaced { IfErr result IsUnplaced }
+    ensures too_many { IfErr result (λ e. kind_of e ≡ TooManyInstructions → HaveTooLong V.functions
+        (own_block (stmt_tree V.contents stmt.now))) }
+    ensures name { file_in lists.new ≡ file_in lists.old }
+    ensures source { text_in lists.new ≡ text_in lists.old }
+{
+    match stmt {
+        Stmt::Block(block) => add_list(lists, alloc, block.node()),
+        _ => Ok(()),
+    }
+}
+
+/// Adds the list of a block. Refused are memory, and a list that would have 2^32 instructions or more.
+fn add_list<'s, V: TemplateValue>(
+    lists: &mut Lists<'s, V>,
+    alloc: Global,
+    block: &Block<'s, V>,
+) -> Result<(), Error<'s>>
+    requires { AreInner false (block_tree V.contents block.now).body }
+    ensures added { OnOk result (AddsLists V.functions V.contents (text_in lists.old)
+        (file_in lists.old) (block_tree V.contents block.now ∷ []) (lists_of lists.old)
+        (lists_of lists.new)) }
+    ensures causes { IfErr result IsAddError }
+    ensures unplaced { IfErr result IsUnplaced }
+    ensures too_many { IfErr result (λ e. kind_of e ≡ TooManyInstructions → 2 ^ 32 ≤ length
+        (layout.block_code V.functions (block_tree V.contents block.now).body)) }
+    ensures name { file_in lists.new ≡ file_in lists.old }
+    ensures source { text_in lists.new ≡ text_in lists.old }
+{
+    let instructions = match body_code(alloc, &block.body) {
+        Ok(instructions) => instructions,
+        Err(OutOfMemory) => return Err(Error::from(AllocError)),
+    };
+    if instructions.len() >= LIMIT {
+        return Err(too_many());
+    }
+    let list = listed(instructions, lists.file, lists.source, block.required);
+    lists.blocks.insert(block.name, list)?;
+    Ok(())
+}
+
+/// The instructions of a body by itself.
+fn body_code<'s, V: TemplateValue>(
+    alloc: Global,
+    body: &[Stmt<'s, V>],
+) -> Result<Vec<Instruction<'s, V>>, OutOfMemory>
+    requires { AreInner false (stmts_of (map (stmt_tree V.contents) body.now)) }
+    ensures { IfOk result (λ code. map (instr_of V.contents) code.items ≡ map capped
+        (layout.block_code V.functions (stmts_of (map (stmt_tree V.contents) body.now)))) }
+{
+    let mut code = Emitter::new(alloc);
+    code.make_room(body.len().saturating_mul(2))?;
+    let mut turn = Turn::outside(alloc);
+    statements(&mut code, &mut turn, body)?;
+    Ok(code.into_list())
+}
