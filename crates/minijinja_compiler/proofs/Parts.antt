@@ -1,5 +1,5 @@
 -- What the layers say, put together.
-use Rattle.std.proofs.Common.{◌≡◌, ◌≢◌, ℕ, ◌+◌, ◌*◌, ◌^◌, ◌<◌, ◌≤◌, min, List, [], ◌++◌, length, sym, ap, ◌∙◌, subst, arith, inl, inr, ⊎_elim, Option, Some, None, IfNone, Result, Ok, Err, IfErr, IsErrAnd}
+use Rattle.std.proofs.Common.{◌≡◌, ◌≢◌, ℕ, ◌+◌, ◌*◌, ◌^◌, ◌<◌, ◌≤◌, min, List, [], ◌++◌, length, sym, ap, ◌∙◌, subst, arith, ◌⊎◌, inl, inr, ⊎_elim, Option, Some, None, IfNone, Result, Ok, Err, IfErr, IsErrAnd}
 use Rattle.std.proofs.lemmas.Bool.{cases_lt}
 use Rattle.minijinja_syntax.specs.Errors.{kind_of}
 use Rattle.minijinja_syntax.specs.declared.error.Error.{Error}
@@ -81,3 +81,8 @@ unkept (Some k) none h = cc
 pub too_long_list : {C : Type 0} (before : List (Instr C)) (here : Here) (p : Here → List (Instr C)) (e : Error) → before ≡ [] → here ≡ start →
     OnlyWhereTooLong e (before ++ p here) → kind_of e ≡ TooManyInstructions → 2 ^ 32 ≤ length (p start)
 too_long_list before here p e empty at long k = subst (λ (h : Here). 2 ^ 32 ≤ length (p h)) at (subst (λ (is : List (Instr _)). 2 ^ 32 ≤ length (is ++ p here)) empty (long k))
+
+-- where a list that was empty has no room, or that of a block has none, one of these is too long
+pub too_long_lists : {C : Type 0} (before : List (Instr C)) (here : Here) (p : Here → List (Instr C)) (e : Error) (of_blocks : Type 0) → before ≡ [] → here ≡ start →
+    (kind_of e ≡ TooManyInstructions → (2 ^ 32 ≤ length (before ++ p here)) ⊎ of_blocks) → kind_of e ≡ TooManyInstructions → (2 ^ 32 ≤ length (p start)) ⊎ of_blocks
+too_long_lists before here p e of_blocks empty at long k = subst (λ (h : Here). (2 ^ 32 ≤ length (p h)) ⊎ of_blocks) at (subst (λ (is : List (Instr _)). (2 ^ 32 ≤ length (is ++ p here)) ⊎ of_blocks) empty (long k))

@@ -1,6 +1,7 @@
 -- The main theorem: what is compiled is the one tree of the text, and its code does what the tree means.
-use Rattle.std.specs.Prelude.{◌≡◌, ◌≢◌, ◌<◌, ◌≤◌, ◌^◌, ◌⊎◌, ⊤, length, codes, MatchResult, Result}
-use Rattle.std.specs.BTreeMap.{IsEmpty}
+use Rattle.std.specs.Prelude.{◌≡◌, ◌≢◌, ◌<◌, ◌≤◌, ◌^◌, ◌⊎◌, ⊤, List, length, All, Any, codes, MatchResult, Result}
+use Rattle.std.specs.Borrow.{Bor}
+use Rattle.std.specs.BTreeMap.{BTreeMap, keys}
 use Rattle.minijinja_syntax.specs.Texts.{Text}
 use Rattle.minijinja_value.specs.Values.{Functions}
 use Rattle.minijinja_syntax.specs.Syntax.{Syntax, default_syntax}
@@ -9,6 +10,7 @@ use Rattle.minijinja_syntax.specs.declared.error.Error.{Error}
 use Rattle.minijinja_syntax.specs.declared.error.ErrorKind.TheVariants.{OutOfMemory, SourceTooLong, TooManyInstructions}
 use Rattle.minijinja_lexer.specs.Stream.{IsNamed}
 use Rattle.minijinja_tree.specs.SpannedTrees.{Expr, Stmt, bare_expr, bare_stmt}
+use Rattle.minijinja_tree.specs.Tree.{Block, blocks}
 use Rattle.minijinja_parser.specs.Causes.{IsRefusal}
 use Rattle.minijinja_parser.specs.Derived.{IsDerived, IsExprDerived}
 use Rattle.minijinja_instructions.specs.Instructions.{code_of}
@@ -19,14 +21,22 @@ use Rattle.minijinja_meaning.specs.Units.{DoUnits}
 use Rattle.minijinja_meaning.specs.Correct.{DoesExpr, DoesStmt}
 use Rattle.minijinja_meaning.specs.Jumps.{LeadsWell}
 use Rattle.minijinja_code.specs.Hint.{IsHint, data_bytes}
+use Rattle.minijinja_code.specs.BlockLists.{HaveLists}
+use Rattle.minijinja_code.specs.Generator.{HaveTooLong}
 use Rattle.minijinja_instructions.specs.InstructionLists.{name_of, source_of}
 use Rattle.minijinja_instructions.specs.declared.instructions.Instructions.{Instructions}
 use Rattle.minijinja_compiler.specs.declared.compile.Compiled.{Compiled}
 
+-- each of these blocks has its list, and no other list is there
+pub record AreBlockLists {V E C F L : Type 0} (f : Functions C F) (contents : V → C) (source filename : Text) (bs : List (Block C L)) (lists : BTreeMap (Bor Text) (Instructions V E)) : Type 0 where
+  pub each : HaveLists f contents source filename bs lists
+  pub only : All (λ k. Any (λ b. b.name ≡ k.now) bs) (keys lists)
+
 -- There is one tree that the grammar derives of the text. The code is its layout, whatever the spans of its nodes. Entered at
 -- the template, with any operands and open loops below and whatever is answered from outside, it does what the tree means, and is
--- over at its end; and entered at a recursive loop, it does what the loop means. It has fewer than 2^32 instructions; where they
--- lead lies within the list, and before them only where a loop asks for its next item.
+-- over at its end; and entered at a recursive loop, or at what a macro runs, it does what that means. It has fewer than 2^32
+-- instructions; where they lead lies within the list, and before them only where a loop asks for its next item. Each block has a list
+-- of which the same holds.
 pub record IsCompiled {V E C F : Type 0} (f : Functions C F) (contents : V → C) (syntax : Syntax) (source filename : Text) (c : Compiled V E) : Type 0 where
   pub tree : Stmt C
   pub derived : IsDerived f syntax source tree
@@ -37,7 +47,7 @@ pub record IsCompiled {V E C F : Type 0} (f : Functions C F) (contents : V → C
   pub few : length (code_of contents c.instructions) < 2 ^ 32
   pub leads : LeadsWell (code_of contents c.instructions)
   pub hint : IsHint (data_bytes (bare_stmt tree)) c.buffer_size_hint
-  pub no_blocks : IsEmpty c.blocks
+  pub lists : AreBlockLists f contents source filename (blocks (bare_stmt tree)) c.blocks
   pub name : name_of c.instructions ≡ filename
   pub text : source_of c.instructions ≡ source
 
@@ -53,11 +63,11 @@ pub record IsCompiledExpr {V E C F : Type 0} (f : Functions C F) (contents : V �
   pub name : name_of c ≡ codes "<expression>"
   pub text : source_of c ≡ source
 
--- a tree of the text has too much code
+-- a tree of the text has too much code, in its own list or in that of a block
 pub record HasTooLongCode {C F : Type 0} (f : Functions C F) (syntax : Syntax) (source : Text) : Type 0 where
   pub tree : Stmt C
   pub derived : IsDerived f syntax source tree
-  pub long : 2 ^ 32 ≤ length (stmt_code f (bare_stmt tree) start)
+  pub long : (2 ^ 32 ≤ length (stmt_code f (bare_stmt tree) start)) ⊎ HaveTooLong f (blocks (bare_stmt tree))
 
 -- the tree of an expression has too much code
 pub record HasTooLongExprCode {C F : Type 0} (f : Functions C F) (source : Text) : Type 0 where

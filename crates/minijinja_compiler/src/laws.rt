@@ -5,6 +5,7 @@ pub use minijinja_lexer::laws::{
     some_expression,
 };
 pub use minijinja_meaning::laws::{
-    folded_is_constant, layout_does_what_is_meant, layout_leads_well, names_are_not_looked_at,
+    folded_is_constant, layout_does_what_is_meant, layout_leads_well, loops_have_no_bound,
+    names_are_not_looked_at, units_are_enterable,
 };
 pub use minijinja_value::laws::{equality_is_an_equivalence, keys_are_distinct};

@@ -13,4 +13,4 @@ pub use minijinja_base::{error, syntax, tokens, value};
 pub use minijinja_code::{codegen, instructions};
 pub use minijinja_lexer::lexer;
 pub use minijinja_parser::parser;
-pub use minijinja_tree::ast;
+pub use minijinja_tree::{ast, meta};

@@ -6,6 +6,7 @@ mod compile;
 mod errors;
 mod hostile;
 mod lexer;
+mod meta;
 mod parser;
 mod syntax;
 mod tree;

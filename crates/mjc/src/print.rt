@@ -172,6 +172,16 @@ impl fmt::Display for Printed<'_, '_> {
             Instruction::FastRecurse => write!(f, "FastRecurse"),
             Instruction::Swap => write!(f, "Swap"),
             Instruction::CallBlock(name) => write!(f, "CallBlock({})", Quoted(name)),
+            Instruction::LoadBlocks => write!(f, "LoadBlocks"),
+            Instruction::Include(ignores_missing) => write!(f, "Include({ignores_missing})"),
+            Instruction::ExportLocals => write!(f, "ExportLocals"),
+            Instruction::Enclose(name) => write!(f, "Enclose({})", Quoted(name)),
+            Instruction::GetClosure => write!(f, "GetClosure"),
+            Instruction::BuildMacro(name, entry, flags) => {
+                write!(f, "BuildMacro({}, {entry}, {flags})", Quoted(name))
+            }
+            Instruction::Return => write!(f, "Return"),
+            Instruction::IsUndefined => write!(f, "IsUndefined"),
         }
     }
 }

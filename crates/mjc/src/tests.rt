@@ -1,7 +1,12 @@
 //! Runs of the program in memory: what is printed is proved by no clause, nor which of several faults comes first.
 //!
 //! The rows of a subject stand in one text, since a test is proved too, with each text that it names spelled out.
+mod blocks;
+mod calls;
 mod expr;
+mod imports;
+mod macros;
+mod shipped;
 mod statements;
 mod tokens;
 mod words;

@@ -81,6 +81,48 @@ a␊{{ b␊ c }} => SyntaxError (in page:3)
     hold::<Templates>(&rt, rt.alloc(), rows)
 }
 
+/// A list: what it is of, the mark of a block that has to be overridden, and its length.
+fn push_list(
+    words: &mut String,
+    name: &str,
+    code: &Instructions<'_, Value>,
+) -> Result<(), AllocError> {
+    let mark = if code.is_required_block() {
+        " required"
+    } else {
+        ""
+    };
+    write!(words, "{name}{mark} {}", code.len())
+}
+
+/// Templates: their own list, and those of their blocks in order of name.
+enum Lists {}
+
+impl Subject for Lists {
+    fn words(alloc: Global, text: &str) -> Result<String, Fail> {
+        let compiled = compile::<Value>(alloc, text, "page", &SyntaxConfig::default())?;
+        let mut words = String::new(alloc);
+        push_list(&mut words, "template", &compiled.instructions)?;
+        for (name, code) in &compiled.blocks {
+            words.push_str(", ")?;
+            push_list(&mut words, name, code)?;
+        }
+        Ok(words)
+    }
+}
+
+#[test]
+fn blocks_have_lists_and_marks(rt: HostRuntime) -> Result<(), Fail> {
+    let rows = r#"
+{% block a %}x{% endblock %} => template 1, a 1
+{% block a required %} {% endblock %} => template 1, a required 1
+{% block a scoped required %}{% endblock a %}{% block b %}{% endblock %} => template 2, a required 0, b 0
+{% block z %}{% block y required %}{% endblock %}{{ x }}{% endblock %}{{ x }} => template 3, y required 0, z 3
+x => template 1
+"#;
+    hold::<Lists>(&rt, rt.alloc(), rows)
+}
+
 /// The name and the length of an expression's code, which has its source.
 fn length_of(
     alloc: Global,
@@ -165,11 +207,11 @@ fn is_of_memory(error: Error<'_>) -> bool {
 fn says_that_memory_is_refused(rt: HostRuntime) {
     match compile::<Value>(
         rt.alloc(),
-        "x{{ f(a, *b)|g }}",
+        "{% macro m(a, b=c) %}{{ d }}{% endmacro %}{% block e %}x{% endblock %}{{ f(a, *b)|g }}",
         "page",
         &SyntaxConfig::default(),
     ) {
-        Ok(compiled) => assert!(rt; compiled.instructions.len() == 8),
+        Ok(compiled) => assert!(rt; compiled.instructions.len() == 25),
         Err(error) => assert!(rt; is_of_memory(error)),
     }
     match compile_expression::<Value>(rt.alloc(), "f(a, *b)|g") {

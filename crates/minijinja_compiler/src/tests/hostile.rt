@@ -156,3 +156,37 @@ fn rows_of_parts_of_statements_are_compiled(rt: HostRuntime) -> Result<(), Fail>
 "#;
     hold::<Rows>(&rt, rt.alloc(), rows)
 }
+
+/// The same within macros, whose closures are looked for too, and of what only they and imports have.
+#[test]
+fn rows_of_parts_in_macros_are_compiled(rt: HostRuntime) -> Result<(), Fail> {
+    let rows = r#"
+{%macro f(a | 50000 * ,a | )%}{%endmacro%} => 50007
+{%macro f(a=b | 50000 * ,a=b | )%}{%endmacro%} => 300013
+{%macro f()%}{{␠a | 50000 * +a | ␠}}{%endmacro%} => 100009
+{%macro f()%}{{␠a | 50000 * .b | ␠}}{%endmacro%} => 50009
+{%macro f()%}{{␠a | 50000 * ␠if␠b␠else␠c | ␠}}{%endmacro%} => 200011
+{%macro f()%}{%if a%} | 50000 * {%elif a%} | {%endif%}{%endmacro%} => 150009
+{%macro f()%}{%set␠ | 50000 * ( | a | 50000 * ,) | =b%}{%endmacro%} => 50009
+{%call f(a | 50000 * .b | )%}{%endcall%} => 50010
+{%from a import b | 50000 * ,b | %} => 100009
+10000 * {%macro f()%}{{a}}{%endmacro%} => 90000
+100000 * {%include a%} => 200000
+100000 * {%import a as b%} => 900000
+"#;
+    hold::<Rows>(&rt, rt.alloc(), rows)
+}
+
+/// The upstream program stops at the same depths.
+#[test]
+fn macros_nest_up_to_150_deep(rt: HostRuntime) -> Result<(), Fail> {
+    let rows = r#"
+150 * {%macro f()%} | x | 150 * {%endmacro%} => 901
+151 * {%macro f()%} | x | 151 * {%endmacro%} => refused
+148 * {%macro f(a=b)%} | x | 148 * {%endmacro%} => 1925
+149 * {%macro f(a=b)%} | x | 149 * {%endmacro%} => refused
+148 * {%call f()%} | x | 148 * {%endcall%} => 1480
+149 * {%call f()%} | x | 149 * {%endcall%} => refused
+"#;
+    hold::<Rows>(&rt, rt.alloc(), rows)
+}

@@ -179,7 +179,7 @@ fn apply(
         "//" => left.int_div(alloc, right),
         "%" => left.rem(alloc, right),
         "**" => left.pow(alloc, right),
-        "~" => Ok(left.concat(alloc, right)?),
+        "~" => Ok(left.try_clone()?.concat(alloc, right)?),
         "in" => Ok(Value::of_bool(right.contains(alloc, left)?)),
         "neg" => right.neg(alloc),
         _ => Ok(Value::of_bool(left.equals(right))),

@@ -270,7 +270,7 @@ code, --keep-newline, - < {% with a = 1 %}␊{%- endwith -%}␊ => template␊0 
 }
 
 /// Templates that are refused as syntax errors, whatever place is named.
-enum RefusedSomewhere {}
+pub enum RefusedSomewhere {}
 
 impl Subject for RefusedSomewhere {
     fn words(alloc: Global, text: &str) -> Result<String, Fail> {

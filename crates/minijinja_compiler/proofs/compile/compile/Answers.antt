@@ -1,6 +1,7 @@
-use Rattle.std.proofs.Common.{◌≡◌, ◌<◌, ◌≤◌, ◌^◌, ◌∙◌, length, sym, ap, subst}
+use Rattle.std.proofs.Common.{◌≡◌, ◌<◌, ◌≤◌, ◌^◌, ◌++◌, ◌∙◌, ◌⊎◌, length, sym, ap, subst}
 use Rattle.std.proofs.lemmas.Result.{err_from_is_err_and}
 use Rattle.minijinja_tree.specs.Erasure.{stmt_tree}
+use Rattle.minijinja_tree.specs.Tree.{blocks}
 use Rattle.minijinja_tree.specs.SpannedTrees.{bare_stmt}
 use Rattle.minijinja_tree.specs.SpannedErasure.{stmt_node}
 use Rattle.minijinja_tree.proofs.Bare.{stmt_is}
@@ -13,8 +14,10 @@ use Rattle.minijinja_meaning.specs.Correct.{DoesStmt}
 use Rattle.minijinja_meaning.specs.Places.{placed_stmt}
 use Rattle.minijinja_meaning.specs.Units.{DoUnits}
 use Rattle.minijinja_code.specs.private.AtGenerator.{generated, here_so_far}
+use Rattle.minijinja_code.specs.Generator.{HaveTooLong, OnlyWhereOneIsTooLong}
 use Rattle.minijinja_code.specs.Hint.{IsHint, data_bytes}
-use Rattle.minijinja_compiler.proofs.Parts.{whole_code, whole_does, limit_of_parser, never_refusal, never_another, too_long_list, unkept, hint_of_all}
+use Rattle.minijinja_compiler.proofs.BlockNames.{compiled_lists}
+use Rattle.minijinja_compiler.proofs.Parts.{whole_code, whole_does, limit_of_parser, never_refusal, never_another, too_long_lists, unkept, hint_of_all}
 use Rattle.minijinja_compiler.proofs.compile.compile.Goals as goal
 
 pub returns-clause-compiled : goal.returns-clause-compiled
@@ -44,7 +47,8 @@ returns-clause-compiled g c =
       few = subst (λ is. length is < 2 ^ 32) (sym finished) done.few;
       leads = subst LeadsWell (sym (whole_code before after code (here_so_far v made) (stmt_code f tree) empty c.new-generator.ensures.here done.added finished)) (layout_leads_well f tree c.in_ok-template.ensures.well_formed);
       hint = subst (λ t. IsHint (data_bytes t) c.buffer_size_hint-buffer_size_hint.result) (sym bare) (hint_of_all (data_bytes tree) _ _ c.buffer_size_hint-buffer_size_hint.result c.new-generator.ensures.bytes done.counted c.buffer_size_hint-buffer_size_hint.ensures);
-      no_blocks = rw (c.finish-instructions.ensures.blocks, done.blocks) c.new-generator.ensures.blocks;
+      lists = compiled_lists f v _ _ _ _ (blocks (bare_stmt (stmt_node v c.in_ok-template.template))) (blocks tree) _ _ _ c.new-generator.ensures.blocks done.blocks
+          c.finish-instructions.ensures.blocks c.new-generator.ensures.source c.new-generator.ensures.name (ap (λ t. blocks t) bare);
       name = c.finish-instructions.ensures.name ∙ done.name ∙ c.new-generator.ensures.name;
       text = c.finish-instructions.ensures.source ∙ done.source ∙ c.new-generator.ensures.source;
     }
@@ -75,11 +79,12 @@ returns-in_err-compile_stmt-clause-too_many_only g c =
     let tree = stmt_tree v c.in_ok-template.template in
     let bare : bare_stmt (stmt_node v c.in_ok-template.template) ≡ tree = stmt_is v c.in_ok-template.template in
     let made = c.new-generator.result in
+    let e = c.in_err-compile_stmt.field-0.0 in
     let p = err_from_is_err_and c.from_residual-in_err-compile_stmt.result c.from_residual-in_err-compile_stmt.ensures.1 in
     rw (p.1, p.2) (λ k. record {
       tree = stmt_node v c.in_ok-template.template;
       derived = c.in_ok-template.ensures.found;
-      long = subst (λ t. 2 ^ 32 ≤ length (stmt_code f t start)) (sym bare)
-          (too_long_list (generated v made) (here_so_far v made) (stmt_code f tree) c.in_err-compile_stmt.field-0.0 c.new-generator.ensures.empty c.new-generator.ensures.here
-          (unkept _ c.new-generator.ensures.refusal c.in_err-compile_stmt.ensures.too_many) k);
+      long = subst (λ t. (2 ^ 32 ≤ length (stmt_code f t start)) ⊎ HaveTooLong f (blocks t)) (sym bare)
+          (too_long_lists (generated v made) (here_so_far v made) (stmt_code f tree) e (HaveTooLong f (blocks tree)) c.new-generator.ensures.empty c.new-generator.ensures.here
+          (unkept {A = OnlyWhereOneIsTooLong f e (generated v made ++ stmt_code f tree (here_so_far v made)) (blocks tree)} _ c.new-generator.ensures.refusal c.in_err-compile_stmt.ensures.too_many) k);
     })

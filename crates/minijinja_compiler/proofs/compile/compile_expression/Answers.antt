@@ -1,15 +1,16 @@
-use Rattle.std.proofs.Common.{◌≡◌, ◌<◌, ◌≤◌, ◌^◌, ◌∙◌, length, sym, ap, subst}
+use Rattle.std.proofs.Common.{◌≡◌, ◌<◌, ◌≤◌, ◌^◌, ◌++◌, ◌∙◌, length, sym, ap, subst}
 use Rattle.std.proofs.lemmas.Result.{err_from_is_err_and}
 use Rattle.minijinja_tree.specs.Erasure.{expr_tree}
 use Rattle.minijinja_tree.specs.SpannedTrees.{bare_expr}
 use Rattle.minijinja_tree.specs.SpannedErasure.{expr_node}
-use Rattle.minijinja_tree.proofs.Bare.{expr_is}
+use Rattle.minijinja_expressions.proofs.Bare.{expr_is}
 use Rattle.minijinja_meaning.specs.Jumps.{LeadsWell}
 use Rattle.minijinja_meaning.specs.Pieces.{start}
 use Rattle.minijinja_meaning.proofs.Leads.{expression_leads_well}
 use Rattle.minijinja_instructions.specs.Instructions.{code_of}
 use Rattle.minijinja_meaning.specs.Layout.{expr_code}
 use Rattle.minijinja_meaning.specs.Correct.{DoesExpr}
+use Rattle.minijinja_code.specs.Generator.{OnlyWhereTooLong}
 use Rattle.minijinja_code.specs.private.AtGenerator.{generated, here_so_far}
 use Rattle.minijinja_compiler.proofs.Parts.{whole_code, whole_does, limit_of_parser, never_refusal, never_another, too_long_list, unkept}
 use Rattle.minijinja_compiler.proofs.compile.compile_expression.Goals as goal
@@ -66,11 +67,12 @@ returns-in_err-compile_expr-clause-too_many_only g c =
     let tree = expr_tree v c.in_ok-expr.expr in
     let bare : bare_expr (expr_node v c.in_ok-expr.expr) ≡ tree = expr_is v c.in_ok-expr.expr in
     let made = c.new-generator.result in
+    let e = c.in_err-compile_expr.field-0.0 in
     let p = err_from_is_err_and c.from_residual-in_err-compile_expr.result c.from_residual-in_err-compile_expr.ensures.1 in
     rw (p.1, p.2) (λ k. record {
       tree = expr_node v c.in_ok-expr.expr;
       derived = c.in_ok-expr.ensures.found;
       long = subst (λ t. 2 ^ 32 ≤ length (expr_code f t start)) (sym bare)
-          (too_long_list (generated v made) (here_so_far v made) (expr_code f tree) c.in_err-compile_expr.field-0.0 c.new-generator.ensures.empty c.new-generator.ensures.here
-          (unkept _ c.new-generator.ensures.refusal c.in_err-compile_expr.ensures.too_many) k);
+          (too_long_list (generated v made) (here_so_far v made) (expr_code f tree) e c.new-generator.ensures.empty c.new-generator.ensures.here
+          (unkept {A = OnlyWhereTooLong e (generated v made ++ expr_code f tree (here_so_far v made))} _ c.new-generator.ensures.refusal c.in_err-compile_expr.ensures.too_many) k);
     })

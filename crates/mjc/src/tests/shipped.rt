@@ -1,0 +1,21 @@
+//! The templates that stand under `templates/` at the top of the repository, and what they compile to. The gate looks up that
+//! these are the same texts (`.ci/templates`), since a test reads no file.
+mod deployment;
+mod form;
+mod layout;
+mod mail;
+mod menu;
+mod page;
+mod server;
+
+use super::{CODE, output};
+use std::alloc::Global;
+use std::process::Abort;
+use std::test::Fail;
+
+/// Asserts what a template compiles to.
+fn compiles_to(rt: &impl Abort, alloc: Global, template: &str, code: &str) -> Result<(), Fail> {
+    let output = output(alloc, &CODE, &mut template.as_bytes())?;
+    assert!(rt; output.as_str() == code, "{output}");
+    Ok(())
+}
