@@ -1,18 +1,17 @@
 -- The names of a statement's blocks, part by part.
-use Rattle.std.proofs.Common.{◌≡◌, ℕ, ◌+◌, ◌-◌, ◌^◌, ◌<◌, ◌≤◌, List, [], ◌∷◌, ◌++◌, length, drop, get_or, map, min, refl, sym, ap, ◌∙◌, true, false, arith, append_assoc}
+use Rattle.std.proofs.Common.{◌≡◌, ℕ, ◌+◌, ◌-◌, ◌^◌, ◌<◌, ◌≤◌, List, [], ◌∷◌, ◌++◌, length, drop, get_or, min, refl, sym, ap, ◌∙◌, true, false, arith}
 use Rattle.std.specs.Prelude.{Bool, ◌&&◌, ◌==◌, Option, Some, None, IfSome, option_map, count_by}
 use Rattle.std.specs.Borrow.{Bor}
 use Rattle.std.specs.Str.{bytes_eq}
-use Rattle.std.proofs.lemmas.List.{append-nil, at_drop_more, at_drop_all}
+use Rattle.std.proofs.lemmas.List.{append-nil, at_drop_more}
 use Rattle.std.proofs.lemmas.Bool.Decides.{nat_tests}
 use Rattle.std.proofs.lemmas.List.Sums.{sum_by-append}
 use Rattle.minijinja_syntax.specs.Texts.{Text}
-use Rattle.minijinja_tree.specs.Tree.{Stmt, template, data_text, output, assignment, for_loop, if_cond, with_block, set_block, auto_escape, filter_block, named_block, extends, include, import_all, from_import, declare, call_block, do_call, break_loop, continue_loop, Stmts, done, also, Macro, macro, Block, blocks, all_blocks, names_of_blocks, block_names, all_block_names}
+use Rattle.minijinja_tree.specs.Tree.{Stmt, template, data_text, output, assignment, for_loop, if_cond, with_block, set_block, auto_escape, filter_block, named_block, extends, include, import_all, from_import, declare, call_block, do_call, break_loop, continue_loop, Stmts, done, also, macro, Block, blocks, all_blocks, names_of_blocks, block_names, all_block_names}
 use Rattle.minijinja_tree.specs.Erasure.{stmt_tree}
 use Rattle.minijinja_tree.specs.private.BlockNames.{own, first_body, second_body, many, beside}
-use Rattle.minijinja_tree.specs.private.Bodies.{body_size}
 use Rattle.minijinja_tree.specs.private.Sizes.{stmt_size}
-use Rattle.minijinja_tree.specs.private.WellFormedTests.{are_single, otherwise, only, only_item}
+use Rattle.minijinja_tree.specs.private.WellFormedTests.{are_single, otherwise, only}
 use Rattle.minijinja_tree.specs.declared.ast.Stmt.{Stmt as Node}
 use Rattle.minijinja_tree.proofs.Rows.{body_of}
 use Rattle.minijinja_tree.proofs.StmtSizes.{IsStmtWithin, next-stmt-within}
@@ -177,20 +176,12 @@ counted-once n m h = let same : (n == 1) ≡ (m == 1) = grind (arith, nat_tests)
 
 -- ---- the second body
 
-some-none : {A : Type 0} {x : A} → Some x ≡ None → ⊥
-some-none h = cc
+pub alone-is-none : {V K C : Type 0} (c : V → C) (xs : List (Node V K)) → 1 ≤ length xs → length xs < 2 → done ≡ many (body_of c xs)
+alone-is-none c [] h k = absurd (omega arith)
+alone-is-none c (x ∷ []) h k = refl
+alone-is-none c (x ∷ (y ∷ xs)) h k = absurd (omega arith)
 
-pub one-is-none : {V K C : Type 0} (c : V → C) (xs : List (Node V K)) (o : Option (Bor (Node V K))) (x : Bor (Node V K)) → option_map (λ s. s.now) o ≡ only_item xs → o ≡ Some x → done ≡ many (body_of c xs)
-one-is-none c [] o x h k = refl
-one-is-none c (y ∷ []) o x h k = refl
-one-is-none c (y ∷ (z ∷ xs)) o x h k = absurd (some-none (sym (ap (option_map (λ s. s.now)) k) ∙ h))
-
-pub others-are : {V K C : Type 0} (c : V → C) (xs : List (Node V K)) (o : Option (Bor (Node V K))) → option_map (λ s. s.now) o ≡ only_item xs → o ≡ None → body_of c xs ≡ many (body_of c xs)
-others-are c [] o h k = refl
-others-are c (y ∷ []) o h k = absurd (some-none (sym h ∙ ap (option_map (λ s. s.now)) k))
-others-are c (y ∷ (z ∷ xs)) o h k = refl
-
--- how deep a body is that may be absent
-abbrev pub any_body_size : {V F : Type 0} → Option (Bor (List (Node V F))) → ℕ
-any_body_size None = 0
-any_body_size (Some xs) = body_size xs.now + 1
+pub others-are : {V K C : Type 0} (c : V → C) (xs : List (Node V K)) → 2 ≤ length xs → body_of c xs ≡ many (body_of c xs)
+others-are c [] h = refl
+others-are c (x ∷ []) h = absurd (omega arith)
+others-are c (x ∷ (y ∷ xs)) h = refl

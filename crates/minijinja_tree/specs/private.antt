@@ -1,7 +1,6 @@
 -- What specifies private functions alone, and need not be believed.
 pub mod Sizes
 pub mod WellFormedTests
-pub mod Bodies
 pub mod BlockNames
 pub mod FoundNames
 pub mod Mentions

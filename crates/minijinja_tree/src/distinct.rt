@@ -1,14 +1,14 @@
 //! Whether no two blocks have one name.
-ghost use Rattle.std.specs.Prelude.{◌≡◌, ◌<◌, ◌&&◌, IfSome, bytes_eq, count_by, min};
+ghost use Rattle.std.specs.Prelude.{◌≡◌, ◌<◌, ◌≤◌, ◌&&◌, bytes_eq, count_by, map, min};
 ghost use Rattle.minijinja_tree.specs.Erasure.{stmt_tree};
-ghost use Rattle.minijinja_tree.specs.Tree.{all_block_names, block_names};
+ghost use Rattle.minijinja_tree.specs.Tree.{all_block_names, block_names, stmts_of};
 ghost use Rattle.minijinja_tree.specs.private.BlockNames as names;
-ghost use Rattle.minijinja_tree.specs.private.Bodies.{body_if_some, body_size};
+ghost use Rattle.minijinja_tree.specs.private.Sizes.{body_size};
 ghost use Rattle.minijinja_tree.specs.private.Sizes.{stmt_size};
 ghost use Rattle.minijinja_tree.specs.private.WellFormedTests as tests;
 
 use crate::ast::Stmt;
-use crate::well_formed::{only, otherwise};
+use crate::well_formed::otherwise;
 use minijinja_base::value::TemplateValue;
 
 /// Whether no two blocks have one name. It takes no memory: each name is counted in the whole tree.
@@ -59,13 +59,10 @@ fn has_single_bodies<'s, V: TemplateValue>(stmt: &Stmt<'s, V>, root: &Stmt<'s, V
 }
 
 #[cycle(named)]
-fn are_named_once<'s, V: TemplateValue>(stmts: Option<&[Stmt<'s, V>]>, root: &Stmt<'s, V>) -> bool
-    ensures { result ≡ tests.are_single (all_block_names (body_if_some V.contents stmts.entry))
+fn are_named_once<'s, V: TemplateValue>(stmts: &[Stmt<'s, V>], root: &Stmt<'s, V>) -> bool
+    ensures { result ≡ tests.are_single (all_block_names (stmts_of (map (stmt_tree V.contents) stmts.now)))
         (block_names (stmt_tree V.contents root.now)) }
 {
-    let Some(stmts) = stmts else {
-        return true;
-    };
     for stmt in stmts {
         if !is_named_once(stmt, root) {
             return false;
@@ -112,13 +109,10 @@ fn times_beside<V: TemplateValue>(stmt: &Stmt<'_, V>, name: &str) -> usize
 }
 
 #[cycle(counted)]
-fn all_times<V: TemplateValue>(stmts: Option<&[Stmt<'_, V>]>, name: &str) -> usize
+fn all_times<V: TemplateValue>(stmts: &[Stmt<'_, V>], name: &str) -> usize
     ensures { result ≡ min (count_by (bytes_eq name.now)
-        (all_block_names (body_if_some V.contents stmts.entry))) usize.MAX }
+        (all_block_names (stmts_of (map (stmt_tree V.contents) stmts.now)))) usize.MAX }
 {
-    let Some(stmts) = stmts else {
-        return 0;
-    };
     let mut count: usize = 0;
     for stmt in stmts {
         count = count.saturating_add(times(stmt, name));
@@ -137,50 +131,56 @@ fn own_times<V: TemplateValue>(stmt: &Stmt<'_, V>, name: &str) -> usize
 }
 
 /// The body of a statement, or the first one of two.
-fn first_body<'a, 's, V: TemplateValue>(stmt: &'a Stmt<'s, V>) -> Option<&'a [Stmt<'s, V>]>
-    ensures body { body_if_some V.contents result ≡ names.first_body
+fn first_body<'a, 's, V: TemplateValue>(stmt: &'a Stmt<'s, V>) -> &'a [Stmt<'s, V>]
+    ensures body { stmts_of (map (stmt_tree V.contents) result.now) ≡ names.first_body
         (stmt_tree V.contents stmt.now) }
-    ensures smaller { IfSome result (λ xs. body_size xs.now < stmt_size stmt.now) }
+    ensures smaller { body_size result.now < stmt_size stmt.now }
 {
     match stmt {
-        Stmt::Template(template) => Some(template.node().children.as_slice()),
-        Stmt::ForLoop(repeated) => Some(repeated.node().body.as_slice()),
-        Stmt::IfCond(condition) => Some(condition.node().true_body.as_slice()),
-        Stmt::WithBlock(block) => Some(block.node().body.as_slice()),
-        Stmt::SetBlock(block) => Some(block.node().body.as_slice()),
-        Stmt::AutoEscape(block) => Some(block.node().body.as_slice()),
-        Stmt::FilterBlock(block) => Some(block.node().body.as_slice()),
-        Stmt::Block(block) => Some(block.node().body.as_slice()),
-        Stmt::Macro(declared) => Some(declared.node().body.as_slice()),
-        Stmt::CallBlock(block) => Some(block.node().macro_decl.node().body.as_slice()),
-        Stmt::EmitExpr(_) => None,
-        Stmt::EmitRaw(_) => None,
-        Stmt::Set(_) => None,
-        Stmt::Import(_) => None,
-        Stmt::FromImport(_) => None,
-        Stmt::Extends(_) => None,
-        Stmt::Include(_) => None,
-        Stmt::Continue(_) => None,
-        Stmt::Break(_) => None,
-        Stmt::Do(_) => None,
+        Stmt::Template(template) => template.node().children.as_slice(),
+        Stmt::ForLoop(repeated) => repeated.node().body.as_slice(),
+        Stmt::IfCond(condition) => condition.node().true_body.as_slice(),
+        Stmt::WithBlock(block) => block.node().body.as_slice(),
+        Stmt::SetBlock(block) => block.node().body.as_slice(),
+        Stmt::AutoEscape(block) => block.node().body.as_slice(),
+        Stmt::FilterBlock(block) => block.node().body.as_slice(),
+        Stmt::Block(block) => block.node().body.as_slice(),
+        Stmt::Macro(declared) => declared.node().body.as_slice(),
+        Stmt::CallBlock(block) => block.node().macro_decl.node().body.as_slice(),
+        Stmt::EmitExpr(_) => &[],
+        Stmt::EmitRaw(_) => &[],
+        Stmt::Set(_) => &[],
+        Stmt::Import(_) => &[],
+        Stmt::FromImport(_) => &[],
+        Stmt::Extends(_) => &[],
+        Stmt::Include(_) => &[],
+        Stmt::Continue(_) => &[],
+        Stmt::Break(_) => &[],
+        Stmt::Do(_) => &[],
     }
 }
 
 /// The second body of a statement, but for a false body that holds one statement.
-fn second_body<'a, 's, V: TemplateValue>(stmt: &'a Stmt<'s, V>) -> Option<&'a [Stmt<'s, V>]>
-    ensures body { body_if_some V.contents result ≡ names.second_body
+fn second_body<'a, 's, V: TemplateValue>(stmt: &'a Stmt<'s, V>) -> &'a [Stmt<'s, V>]
+    ensures body { stmts_of (map (stmt_tree V.contents) result.now) ≡ names.second_body
         (stmt_tree V.contents stmt.now) }
-    ensures smaller { IfSome result (λ xs. body_size xs.now < stmt_size stmt.now) }
+    ensures smaller { body_size result.now < stmt_size stmt.now }
 {
     match stmt {
-        Stmt::ForLoop(repeated) => Some(repeated.node().else_body.as_slice()),
-        Stmt::IfCond(condition) => {
-            let stmts = condition.node().false_body.as_slice();
-            match only(stmts) {
-                Some(_) => None,
-                None => Some(stmts),
-            }
-        }
-        _ => None,
+        Stmt::ForLoop(repeated) => repeated.node().else_body.as_slice(),
+        Stmt::IfCond(condition) => unless_alone(&condition.node().false_body),
+        _ => &[],
+    }
+}
+
+/// The statements, if there is not one alone.
+fn unless_alone<'a, 's, V: TemplateValue>(stmts: &'a [Stmt<'s, V>]) -> &'a [Stmt<'s, V>]
+    ensures body { stmts_of (map (stmt_tree V.contents) result.now) ≡ names.many
+        (stmts_of (map (stmt_tree V.contents) stmts.now)) }
+    ensures smaller { body_size result.now ≤ body_size stmts.now }
+{
+    match stmts {
+        [_] => &[],
+        _ => stmts,
     }
 }

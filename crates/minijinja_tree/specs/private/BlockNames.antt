@@ -1,7 +1,7 @@
 -- The names of a statement's blocks: its own, those of its bodies, and those of the only statement of a false body.
-use Rattle.std.specs.Prelude.{List, [], ◌∷◌, ◌++◌, Option, Some, None}
+use Rattle.std.specs.Prelude.{List, [], ◌∷◌, ◌++◌}
 use Rattle.minijinja_syntax.specs.Texts.{Text}
-use Rattle.minijinja_tree.specs.Tree.{Stmt, template, for_loop, if_cond, with_block, set_block, auto_escape, filter_block, named_block, declare, call_block, Stmts, done, also, Macro, macro, block_names, all_block_names}
+use Rattle.minijinja_tree.specs.Tree.{Stmt, template, for_loop, if_cond, with_block, set_block, auto_escape, filter_block, named_block, declare, call_block, Stmts, done, also, Macro, macro, all_block_names}
 
 -- the name of a block
 abbrev pub own : {C L : Type 0} → Stmt C L → List Text

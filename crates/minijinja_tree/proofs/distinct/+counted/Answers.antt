@@ -2,7 +2,6 @@ use Rattle.std.proofs.Common.{◌≡◌, ◌+◌, ◌-◌, ◌^◌, ◌<◌, ◌
 use Rattle.std.proofs.lemmas.List.{at_drop_all}
 use Rattle.minijinja_tree.specs.Erasure.{stmt_tree}
 use Rattle.minijinja_tree.specs.Tree.{block_names, all_block_names}
-use Rattle.minijinja_tree.specs.private.Bodies.{body_if_some}
 use Rattle.minijinja_tree.proofs.NamesOfBlocks.{count, next-count, added, added-fits, all-counted, count-goes-on, count-ends}
 use Rattle.minijinja_tree.proofs.Rows.{body_of}
 use Rattle.minijinja_tree.proofs.distinct.+counted.Goals as goal
@@ -11,7 +10,7 @@ pub all_times-loop-stmt-preserved : goal.all_times-loop-stmt-preserved
 all_times-loop-stmt-preserved g t c =
     let v = g.V.TemplateValue.contents in
     let y = c.args.name.now in
-    let xs = c.in-Some.stmts.now in
+    let xs = c.args.stmts.now in
     let i = c.loop-stmt.stmt-index in
     let within : i < length xs = omega arith in
     record {
@@ -24,12 +23,11 @@ pub all_times-returns : goal.all_times-returns
 all_times-returns g t c =
     let v = g.V.TemplateValue.contents in
     let y = c.args.name.now in
-    let xs = c.in-Some.stmts.now in
+    let xs = c.args.stmts.now in
     let i = c.loop-stmt.stmt-index in
     let past : length xs ≤ i = omega arith in
     all-counted c.loop-stmt.count (count y (all_block_names (body_of v (drop i xs)))) (count y (all_block_names (body_of v xs))) c.loop-stmt.invariant.same
     (at_drop_all (λ zs. count y (all_block_names (body_of v zs))) xs i past) c.loop-stmt.invariant.fits
-    ∙ ap (λ o. min (count y (all_block_names (body_if_some v o))) (2 ^ 64 - 1)) (sym c.in-Some.is)
 
 pub times-loop-rest-preserved : goal.times-loop-rest-preserved
 times-loop-rest-preserved g t c =

@@ -1,9 +1,9 @@
 use Rattle.std.proofs.Common.{◌≡◌, ◌+◌, ◌-◌, ◌*◌, ◌^◌, ◌≤◌, min, drop}
 use Rattle.minijinja_tree.specs.Tree.{all_block_names}
-use Rattle.minijinja_tree.specs.private.Sizes.{stmt_size}
+use Rattle.minijinja_tree.specs.private.Sizes.{body_size, stmt_size}
 use Rattle.minijinja_tree.proofs.Rows.{body_of}
 use Rattle.minijinja_tree.proofs.StmtSizes.{rest_stmt_size}
-use Rattle.minijinja_tree.proofs.NamesOfBlocks.{IsCountRest, any_body_size, count}
+use Rattle.minijinja_tree.proofs.NamesOfBlocks.{IsCountRest, count}
 use Rattle.minijinja_tree.proofs.distinct.+counted.Given as goal
 
 -- how deep the argument is, and among equals the caller above what it calls
@@ -14,7 +14,7 @@ abbrev pub decreases-times_beside : goal.decreases-times_beside
 decreases-times_beside g l = 3 * stmt_size l.stmt.now + 1
 
 abbrev pub decreases-all_times : goal.decreases-all_times
-decreases-all_times g l = 3 * any_body_size l.stmts
+decreases-all_times g l = 3 * (body_size l.stmts.now + 1)
 
 abbrev pub invariant-times-loop-rest : goal.invariant-times-loop-rest
 invariant-times-loop-rest g l = IsCountRest g.V.TemplateValue.contents l.name l.count l.fn.stmt l.rest

@@ -2,7 +2,6 @@ use Rattle.std.proofs.Common.{◌<◌, ◌≤◌, length, true, false, arith, sy
 use Rattle.std.proofs.lemmas.List.{at_drop_all}
 use Rattle.minijinja_tree.specs.Erasure.{stmt_tree}
 use Rattle.minijinja_tree.specs.Tree.{block_names, all_block_names}
-use Rattle.minijinja_tree.specs.private.Bodies.{body_if_some}
 use Rattle.minijinja_tree.specs.private.WellFormedTests.{are_single}
 use Rattle.minijinja_tree.proofs.NamesOfBlocks.{next-single, single-beside, single-fails, single-goes-on}
 use Rattle.minijinja_tree.proofs.Rows.{body_of}
@@ -12,17 +11,16 @@ pub are_named_once-returns-then-not-is_named_once : goal.are_named_once-returns-
 are_named_once-returns-then-not-is_named_once g t c =
     let v = g.V.TemplateValue.contents in
     let ys = block_names (stmt_tree v c.args.root.now) in
-    let xs = c.in-Some.stmts.now in
+    let xs = c.args.stmts.now in
     let i = c.loop-stmt.stmt-index in
     let within : i < length xs = omega arith in
     sym (c.loop-stmt.invariant ∙ next-single v xs i c.stmt-item.result false ys within c.stmt-item.is (sym c.if-not-is_named_once.true ∙ c.is_named_once.ensures))
-    ∙ ap (λ o. are_single (all_block_names (body_if_some v o)) ys) (sym c.in-Some.is)
 
 pub are_named_once-loop-stmt-preserved : goal.are_named_once-loop-stmt-preserved
 are_named_once-loop-stmt-preserved g t c =
     let v = g.V.TemplateValue.contents in
     let ys = block_names (stmt_tree v c.args.root.now) in
-    let xs = c.in-Some.stmts.now in
+    let xs = c.args.stmts.now in
     let i = c.loop-stmt.stmt-index in
     let within : i < length xs = omega arith in
     c.loop-stmt.invariant ∙ next-single v xs i c.stmt-item.result true ys within c.stmt-item.is (sym c.if-not-is_named_once.false ∙ c.is_named_once.ensures)
@@ -31,11 +29,10 @@ pub are_named_once-returns : goal.are_named_once-returns
 are_named_once-returns g t c =
     let v = g.V.TemplateValue.contents in
     let ys = block_names (stmt_tree v c.args.root.now) in
-    let xs = c.in-Some.stmts.now in
+    let xs = c.args.stmts.now in
     let i = c.loop-stmt.stmt-index in
     let past : length xs ≤ i = omega arith in
     sym (c.loop-stmt.invariant ∙ at_drop_all (λ zs. are_single (all_block_names (body_of v zs)) ys) xs i past)
-    ∙ ap (λ o. are_single (all_block_names (body_if_some v o)) ys) (sym c.in-Some.is)
 
 pub is_named_once-returns-then-not-is_named_once_beside : goal.is_named_once-returns-then-not-is_named_once_beside
 is_named_once-returns-then-not-is_named_once_beside g t c =

@@ -1,11 +1,11 @@
 use Rattle.std.proofs.Common.{◌≡◌, ◌+◌, ◌*◌, drop}
 use Rattle.minijinja_tree.specs.Erasure.{stmt_tree}
 use Rattle.minijinja_tree.specs.Tree.{block_names, all_block_names}
-use Rattle.minijinja_tree.specs.private.Sizes.{stmt_size}
+use Rattle.minijinja_tree.specs.private.Sizes.{body_size, stmt_size}
 use Rattle.minijinja_tree.specs.private.WellFormedTests.{are_single}
 use Rattle.minijinja_tree.proofs.Rows.{body_of}
 use Rattle.minijinja_tree.proofs.StmtSizes.{rest_stmt_size}
-use Rattle.minijinja_tree.proofs.NamesOfBlocks.{IsSingleRest, any_body_size}
+use Rattle.minijinja_tree.proofs.NamesOfBlocks.{IsSingleRest}
 use Rattle.minijinja_tree.proofs.distinct.+named.Given as goal
 
 -- how deep the argument is, and among equals the caller above what it calls
@@ -19,7 +19,7 @@ abbrev pub decreases-has_single_bodies : goal.decreases-has_single_bodies
 decreases-has_single_bodies g l = 4 * stmt_size l.stmt.now + 1
 
 abbrev pub decreases-are_named_once : goal.decreases-are_named_once
-decreases-are_named_once g l = 4 * any_body_size l.stmts
+decreases-are_named_once g l = 4 * (body_size l.stmts.now + 1)
 
 abbrev pub invariant-is_named_once-loop-rest : goal.invariant-is_named_once-loop-rest
 invariant-is_named_once-loop-rest g l = let c = g.V.TemplateValue.contents in IsSingleRest c (block_names (stmt_tree c l.root)) l.fn.stmt l.rest
