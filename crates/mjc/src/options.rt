@@ -1,6 +1,6 @@
 //! The options of a command, which say how tags and lines of statements begin and end.
 use minijinja_compiler::error::Error;
-use minijinja_compiler::syntax::SyntaxConfig;
+use minijinja_compiler::syntax::{SyntaxConfig, SyntaxConfigBuilder};
 use std::alloc::Global;
 
 /// An option, by its word.
@@ -52,7 +52,7 @@ pub struct Options<'a> {
 }
 
 impl<'a> Options<'a> {
-    ghost use Rattle.std.specs.Prelude.{◌≡◌, ◌⊎◌, ◌<◌, length, ◌≤◌, Some, IfOk, IfErr, IfSome, IsErrAnd};
+    ghost use Rattle.std.specs.Prelude.{◌≡◌, ◌⊎◌, ◌<◌, length, ◌≤◌, Some, IfOk, IfErr, IfSome, IsErrAnd, OnOk};
     ghost use Rattle.minijinja_syntax.specs.Syntax.{IsBuildable, default_syntax};
     ghost use Rattle.minijinja_syntax.specs.Errors.{IsOutOfMemory, IsInvalidDelimiter};
     ghost use Rattle.mjc.specs.Settings.{texts};
@@ -140,6 +140,15 @@ impl<'a> Options<'a> {
         ensures valid { IsBuildable (syntax_of self.now) → IfErr result IsOutOfMemory }
     {
         let mut builder = SyntaxConfig::builder();
+        self.set_up(alloc, &mut builder)?;
+        builder.build(alloc)
+    }
+
+    /// Sets all that a builder has to what the options say.
+    fn set_up(&self, alloc: Global, builder: &mut SyntaxConfigBuilder) -> Result<(), Error<'static>>
+        ensures value { OnOk result (builder.new ≡ syntax_of self.now) }
+        ensures refused { IfErr result IsOutOfMemory }
+    {
         builder.block_delimiters(alloc, self.block.0, self.block.1)?;
         builder.variable_delimiters(alloc, self.variable.0, self.variable.1)?;
         builder.comment_delimiters(alloc, self.comment.0, self.comment.1)?;
@@ -149,6 +158,6 @@ impl<'a> Options<'a> {
             .trim_blocks(self.trim_blocks)
             .lstrip_blocks(self.lstrip_blocks)
             .keep_trailing_newline(self.keep_newline);
-        builder.build(alloc)
+        Ok(())
     }
 }

@@ -98,91 +98,120 @@ struct Printed<'i, 's>(&'i Instruction<'s, Value>);
 
 impl fmt::Display for Printed<'_, '_> {
     fn fmt<W: fmt::Write>(&self, f: &mut fmt::Formatter<W>) -> fmt::Result {
+        f.write_str(name_of(self.0))?;
         match self.0 {
-            Instruction::EmitRaw(text) => write!(f, "EmitRaw({})", Quoted(text)),
-            Instruction::StoreLocal(name) => write!(f, "StoreLocal({})", Quoted(name)),
-            Instruction::Lookup(name) => write!(f, "Lookup({})", Quoted(name)),
-            Instruction::GetAttr(name) => write!(f, "GetAttr({})", Quoted(name)),
-            Instruction::SetAttr(name) => write!(f, "SetAttr({})", Quoted(name)),
-            Instruction::GetItem => write!(f, "GetItem"),
-            Instruction::Slice => write!(f, "Slice"),
-            Instruction::LoadConst(value) => write!(f, "LoadConst({value})"),
-            Instruction::BuildMap(count) => write!(f, "BuildMap({count})"),
-            Instruction::BuildKwargs(count) => write!(f, "BuildKwargs({count})"),
-            Instruction::MergeKwargs(count) => write!(f, "MergeKwargs({count})"),
-            Instruction::BuildList(count) => write!(f, "BuildList({})", PrintedCount(*count)),
-            Instruction::BuildTuple(count) => write!(f, "BuildTuple({})", PrintedCount(*count)),
-            Instruction::UnpackList(count) => write!(f, "UnpackList({count})"),
-            Instruction::UnpackLists(count) => write!(f, "UnpackLists({count})"),
-            Instruction::Add => write!(f, "Add"),
-            Instruction::Sub => write!(f, "Sub"),
-            Instruction::Mul => write!(f, "Mul"),
-            Instruction::Div => write!(f, "Div"),
-            Instruction::IntDiv => write!(f, "IntDiv"),
-            Instruction::Rem => write!(f, "Rem"),
-            Instruction::Pow => write!(f, "Pow"),
-            Instruction::Neg => write!(f, "Neg"),
-            Instruction::Eq => write!(f, "Eq"),
-            Instruction::Ne => write!(f, "Ne"),
-            Instruction::Gt => write!(f, "Gt"),
-            Instruction::Gte => write!(f, "Gte"),
-            Instruction::Lt => write!(f, "Lt"),
-            Instruction::Lte => write!(f, "Lte"),
-            Instruction::Not => write!(f, "Not"),
-            Instruction::StringConcat => write!(f, "StringConcat"),
-            Instruction::In => write!(f, "In"),
-            Instruction::CompareAndPreserve(op) => write!(f, "CompareAndPreserve({op:?})"),
-            Instruction::ApplyFilter(name, count, id) => {
-                let count = PrintedCount::of_args(*count);
-                write!(f, "ApplyFilter({}, {count}, {id})", Quoted(name))
+            Instruction::EmitRaw(text)
+            | Instruction::StoreLocal(text)
+            | Instruction::Lookup(text)
+            | Instruction::GetAttr(text)
+            | Instruction::SetAttr(text)
+            | Instruction::CallBlock(text)
+            | Instruction::Enclose(text) => write!(f, "({})", Quoted(text)),
+            Instruction::LoadConst(value) => write!(f, "({value})"),
+            Instruction::BuildMap(count)
+            | Instruction::BuildKwargs(count)
+            | Instruction::MergeKwargs(count)
+            | Instruction::UnpackList(count)
+            | Instruction::UnpackLists(count) => write!(f, "({count})"),
+            Instruction::BuildList(count) | Instruction::BuildTuple(count) => {
+                write!(f, "({})", PrintedCount(*count))
             }
-            Instruction::PerformTest(name, count, id) => {
-                let count = PrintedCount::of_args(*count);
-                write!(f, "PerformTest({}, {count}, {id})", Quoted(name))
+            Instruction::CompareAndPreserve(op) => write!(f, "({op:?})"),
+            Instruction::ApplyFilter(name, count, id) | Instruction::PerformTest(name, count, id) =>
+                {
+                    let count = PrintedCount::of_args(*count);
+                    write!(f, "({}, {count}, {id})", Quoted(name))
+                }
+            Instruction::PushLoop(flags) => write!(f, "({flags})"),
+            Instruction::Iterate(target)
+            | Instruction::Jump(target)
+            | Instruction::JumpIfFalse(target)
+            | Instruction::JumpIfFalseOrPop(target)
+            | Instruction::JumpIfTrueOrPop(target) => write!(f, "({target})"),
+            Instruction::BeginCapture(mode) => write!(f, "({mode:?})"),
+            Instruction::CallFunction(name, count) | Instruction::CallMethod(name, count) => {
+                write!(f, "({}, {})", Quoted(name), PrintedCount::of_args(*count))
             }
-            Instruction::Emit => write!(f, "Emit"),
-            Instruction::PushLoop(flags) => write!(f, "PushLoop({flags})"),
-            Instruction::PushWith => write!(f, "PushWith"),
-            Instruction::Iterate(target) => write!(f, "Iterate({target})"),
-            Instruction::PushDidNotIterate => write!(f, "PushDidNotIterate"),
-            Instruction::PopFrame => write!(f, "PopFrame"),
-            Instruction::PopLoopFrame => write!(f, "PopLoopFrame"),
-            Instruction::Jump(target) => write!(f, "Jump({target})"),
-            Instruction::JumpIfFalse(target) => write!(f, "JumpIfFalse({target})"),
-            Instruction::JumpIfFalseOrPop(target) => write!(f, "JumpIfFalseOrPop({target})"),
-            Instruction::JumpIfTrueOrPop(target) => write!(f, "JumpIfTrueOrPop({target})"),
-            Instruction::PushAutoEscape => write!(f, "PushAutoEscape"),
-            Instruction::PopAutoEscape => write!(f, "PopAutoEscape"),
-            Instruction::BeginCapture(mode) => write!(f, "BeginCapture({mode:?})"),
-            Instruction::EndCapture => write!(f, "EndCapture"),
-            Instruction::CallFunction(name, count) => {
-                let count = PrintedCount::of_args(*count);
-                write!(f, "CallFunction({}, {count})", Quoted(name))
-            }
-            Instruction::CallMethod(name, count) => {
-                let count = PrintedCount::of_args(*count);
-                write!(f, "CallMethod({}, {count})", Quoted(name))
-            }
-            Instruction::CallObject(count) => {
-                write!(f, "CallObject({})", PrintedCount::of_args(*count))
-            }
-            Instruction::DupTop => write!(f, "DupTop"),
-            Instruction::DiscardTop => write!(f, "DiscardTop"),
-            Instruction::FastSuper => write!(f, "FastSuper"),
-            Instruction::FastRecurse => write!(f, "FastRecurse"),
-            Instruction::Swap => write!(f, "Swap"),
-            Instruction::CallBlock(name) => write!(f, "CallBlock({})", Quoted(name)),
-            Instruction::LoadBlocks => write!(f, "LoadBlocks"),
-            Instruction::Include(ignores_missing) => write!(f, "Include({ignores_missing})"),
-            Instruction::ExportLocals => write!(f, "ExportLocals"),
-            Instruction::Enclose(name) => write!(f, "Enclose({})", Quoted(name)),
-            Instruction::GetClosure => write!(f, "GetClosure"),
+            Instruction::CallObject(count) => write!(f, "({})", PrintedCount::of_args(*count)),
+            Instruction::Include(ignores_missing) => write!(f, "({ignores_missing})"),
             Instruction::BuildMacro(name, entry, flags) => {
-                write!(f, "BuildMacro({}, {entry}, {flags})", Quoted(name))
+                write!(f, "({}, {entry}, {flags})", Quoted(name))
             }
-            Instruction::Return => write!(f, "Return"),
-            Instruction::IsUndefined => write!(f, "IsUndefined"),
+            _ => Ok(()),
         }
+    }
+}
+
+/// The name of an instruction.
+fn name_of(instruction: &Instruction<'_, Value>) -> &'static str {
+    match instruction {
+        Instruction::EmitRaw(_) => "EmitRaw",
+        Instruction::StoreLocal(_) => "StoreLocal",
+        Instruction::Lookup(_) => "Lookup",
+        Instruction::GetAttr(_) => "GetAttr",
+        Instruction::SetAttr(_) => "SetAttr",
+        Instruction::GetItem => "GetItem",
+        Instruction::Slice => "Slice",
+        Instruction::LoadConst(_) => "LoadConst",
+        Instruction::BuildMap(_) => "BuildMap",
+        Instruction::BuildKwargs(_) => "BuildKwargs",
+        Instruction::MergeKwargs(_) => "MergeKwargs",
+        Instruction::BuildList(_) => "BuildList",
+        Instruction::BuildTuple(_) => "BuildTuple",
+        Instruction::UnpackList(_) => "UnpackList",
+        Instruction::UnpackLists(_) => "UnpackLists",
+        Instruction::Add => "Add",
+        Instruction::Sub => "Sub",
+        Instruction::Mul => "Mul",
+        Instruction::Div => "Div",
+        Instruction::IntDiv => "IntDiv",
+        Instruction::Rem => "Rem",
+        Instruction::Pow => "Pow",
+        Instruction::Neg => "Neg",
+        Instruction::Eq => "Eq",
+        Instruction::Ne => "Ne",
+        Instruction::Gt => "Gt",
+        Instruction::Gte => "Gte",
+        Instruction::Lt => "Lt",
+        Instruction::Lte => "Lte",
+        Instruction::Not => "Not",
+        Instruction::StringConcat => "StringConcat",
+        Instruction::In => "In",
+        Instruction::CompareAndPreserve(_) => "CompareAndPreserve",
+        Instruction::ApplyFilter(..) => "ApplyFilter",
+        Instruction::PerformTest(..) => "PerformTest",
+        Instruction::Emit => "Emit",
+        Instruction::PushLoop(_) => "PushLoop",
+        Instruction::PushWith => "PushWith",
+        Instruction::Iterate(_) => "Iterate",
+        Instruction::PushDidNotIterate => "PushDidNotIterate",
+        Instruction::PopFrame => "PopFrame",
+        Instruction::PopLoopFrame => "PopLoopFrame",
+        Instruction::Jump(_) => "Jump",
+        Instruction::JumpIfFalse(_) => "JumpIfFalse",
+        Instruction::JumpIfFalseOrPop(_) => "JumpIfFalseOrPop",
+        Instruction::JumpIfTrueOrPop(_) => "JumpIfTrueOrPop",
+        Instruction::PushAutoEscape => "PushAutoEscape",
+        Instruction::PopAutoEscape => "PopAutoEscape",
+        Instruction::BeginCapture(_) => "BeginCapture",
+        Instruction::EndCapture => "EndCapture",
+        Instruction::CallFunction(..) => "CallFunction",
+        Instruction::CallMethod(..) => "CallMethod",
+        Instruction::CallObject(_) => "CallObject",
+        Instruction::DupTop => "DupTop",
+        Instruction::DiscardTop => "DiscardTop",
+        Instruction::FastSuper => "FastSuper",
+        Instruction::FastRecurse => "FastRecurse",
+        Instruction::Swap => "Swap",
+        Instruction::CallBlock(_) => "CallBlock",
+        Instruction::LoadBlocks => "LoadBlocks",
+        Instruction::Include(_) => "Include",
+        Instruction::ExportLocals => "ExportLocals",
+        Instruction::Enclose(_) => "Enclose",
+        Instruction::GetClosure => "GetClosure",
+        Instruction::BuildMacro(..) => "BuildMacro",
+        Instruction::Return => "Return",
+        Instruction::IsUndefined => "IsUndefined",
     }
 }
 
