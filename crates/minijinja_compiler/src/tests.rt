@@ -12,8 +12,12 @@ mod syntax;
 mod tree;
 mod values;
 
+use crate::ast::Stmt;
+use crate::compile::{Compiled, compile};
 use crate::error::{Detail, Error, ErrorKind};
+use crate::parser::parse;
 use crate::syntax::{SyntaxConfig, SyntaxConfigBuilder};
+use crate::value::Value;
 use std::alloc::{AllocError, Global};
 use std::process::Abort;
 use std::test::Fail;
@@ -121,4 +125,20 @@ fn set_flag(builder: &mut SyntaxConfigBuilder, name: &str) -> Result<(), Error<'
 fn no_option() -> Error<'static> {
     let detail = Detail::UnknownStatement("an option");
     Error::new(ErrorKind::SyntaxError, detail, None, None)
+}
+
+/// The tree of a template in the default syntax, whose name is `page`.
+fn parse_page(alloc: Global, text: &str) -> Result<Stmt<'_, Value>, Error<'_>> {
+    parse(alloc, text, "page", &SyntaxConfig::default())
+}
+
+/// The code of such a template.
+fn compile_page(alloc: Global, text: &str) -> Result<Compiled<'_>, Error<'_>> {
+    compile(alloc, text, "page", &SyntaxConfig::default())
+}
+
+/// How many instructions such a template has.
+fn page_length(alloc: Global, text: &str) -> Result<usize, Error<'_>> {
+    let compiled = compile_page(alloc, text)?;
+    Ok(compiled.instructions.len())
 }

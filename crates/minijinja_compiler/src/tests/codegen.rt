@@ -1,4 +1,7 @@
 //! The generator and its lists of instructions. What they make of texts stands in the tests of the program.
+ghost use Rattle.std.specs.Prelude.{◌≡◌, None, OnOk};
+ghost use Rattle.minijinja_code.specs.private.AtGenerator.{refusal_of};
+
 use super::{Subject, hold};
 use crate::ast::{Expr, Spanned, Var};
 use crate::codegen::CodeGenerator;
@@ -12,11 +15,22 @@ use std::alloc::{AllocError, Global};
 use std::process::Abort;
 use std::test::Fail;
 
+fn compile_expression<'s>(
+    alloc: Global,
+    generator: &mut CodeGenerator<'s, Value>,
+    text: &'s str,
+) -> Result<(), Error<'s>>
+    ensures ready { OnOk result (refusal_of generator.new ≡ None) }
+{
+    let tree = parse_expr(alloc, text)?;
+    generator.compile_expr(&tree)
+}
+
 /// The code of expressions, one after another.
 fn code_of<'s>(alloc: Global, texts: &'s str) -> Result<Instructions<'s, Value>, Error<'s>> {
     let mut generator = CodeGenerator::new(alloc, "name", texts);
     for text in texts.split(", ") {
-        generator.compile_expr(&parse_expr::<Value>(alloc, text)?)?;
+        compile_expression(alloc, &mut generator, text)?;
     }
     let (code, _) = generator.finish();
     Ok(code)
@@ -67,15 +81,19 @@ fn pair_of_instructions(alloc: Global) -> Result<Instructions<'static, Value>, E
     Ok(list)
 }
 
-#[test]
-fn a_list_is_filled_with_ample_memory(rt: HostRuntime) -> Result<(), Fail> {
-    assert!(rt; Instructions::<Value>::new(rt.alloc(), "name", "source").is_empty());
-    let list = pair_of_instructions(rt.alloc())?;
+fn assert_pair(rt: &impl Abort, list: &Instructions<'_, Value>) {
     assert!(rt; list.len() == 2);
     assert!(rt; list.name() == "name" && list.source() == "source");
     assert!(rt; matches!(list.get(0), Some(Instruction::Lookup("x"))));
     assert!(rt; matches!(list.get(1), Some(Instruction::Emit)));
     assert!(rt; list.get(2).is_none());
+}
+
+#[test]
+fn a_list_is_filled_with_ample_memory(rt: HostRuntime) -> Result<(), Fail> {
+    assert!(rt; Instructions::<Value>::new(rt.alloc(), "name", "source").is_empty());
+    let list = pair_of_instructions(rt.alloc())?;
+    assert_pair(&rt, &list);
     Ok(())
 }
 
@@ -109,13 +127,18 @@ fn code_of_each(
     Ok((code, hint, blocks.len()))
 }
 
-#[test]
-fn each_kind_of_node_compiles_with_ample_memory(rt: HostRuntime) -> Result<(), Fail> {
-    let (code, hint, blocks) = code_of_each(rt.alloc())?;
-    assert!(rt; hint == 8 && blocks == 0 && code.len() == 5);
+fn assert_code_of_each(rt: &impl Abort, code: &Instructions<'_, Value>) {
+    assert!(rt; code.len() == 5);
     assert!(rt; code.name() == "name" && code.source() == "source");
     assert!(rt; matches!(code.get(0), Some(Instruction::LoadConst(_))));
     assert!(rt; matches!(code.get(1), Some(Instruction::StoreLocal("x"))));
     assert!(rt; matches!(code.get(2), Some(Instruction::EmitRaw("abc"))));
+}
+
+#[test]
+fn each_kind_of_node_compiles_with_ample_memory(rt: HostRuntime) -> Result<(), Fail> {
+    let (code, hint, blocks) = code_of_each(rt.alloc())?;
+    assert!(rt; hint == 8 && blocks == 0);
+    assert_code_of_each(&rt, &code);
     Ok(())
 }

@@ -1,8 +1,7 @@
-use super::{Subject, hold};
-use crate::compile::{compile, compile_expression};
+use super::{Subject, compile_page, hold, page_length};
+use crate::compile::{Compiled, compile_expression};
 use crate::error::{Error, ErrorKind};
 use crate::instructions::Instructions;
-use crate::syntax::SyntaxConfig;
 use crate::value::Value;
 use std::alloc::{AllocError, Global};
 use std::process::Abort;
@@ -19,17 +18,20 @@ fn refusal(alloc: Global, error: Error<'_>) -> Result<String, AllocError> {
     format!(in alloc; "{:?}{end}", error.kind())
 }
 
+/// The name and the length of a template's code and the hint.
+fn size_of(alloc: Global, compiled: &Compiled<'_>) -> Result<String, Fail> {
+    let code = &compiled.instructions;
+    let hint = compiled.buffer_size_hint;
+    Ok(format!(in alloc; "{}: {}, hint {hint}", code.name(), code.len())?)
+}
+
 /// Templates: the name and the length of their code and the hint, or why they are refused.
 enum Templates {}
 
 impl Subject for Templates {
     fn words(alloc: Global, text: &str) -> Result<String, Fail> {
-        match compile::<Value>(alloc, text, "page", &SyntaxConfig::default()) {
-            Ok(compiled) => {
-                let code = &compiled.instructions;
-                let hint = compiled.buffer_size_hint;
-                Ok(format!(in alloc; "{}: {}, hint {hint}", code.name(), code.len())?)
-            }
+        match compile_page(alloc, text) {
+            Ok(compiled) => size_of(alloc, &compiled),
             Err(error) => Ok(refusal(alloc, error)?),
         }
     }
@@ -95,19 +97,24 @@ fn push_list(
     write!(words, "{name}{mark} {}", code.len())
 }
 
-/// Templates: their own list, and those of their blocks in order of name.
+/// A template's own list, and those of its blocks in order of name.
+fn lists_of(alloc: Global, compiled: &Compiled<'_>) -> Result<String, Fail> {
+    let mut words = String::new(alloc);
+    push_list(&mut words, "template", &compiled.instructions)?;
+    for (name, code) in &compiled.blocks {
+        words.push_str(", ")?;
+        push_list(&mut words, name, code)?;
+    }
+    Ok(words)
+}
+
+/// Templates: their lists.
 enum Lists {}
 
 impl Subject for Lists {
     fn words(alloc: Global, text: &str) -> Result<String, Fail> {
-        let compiled = compile::<Value>(alloc, text, "page", &SyntaxConfig::default())?;
-        let mut words = String::new(alloc);
-        push_list(&mut words, "template", &compiled.instructions)?;
-        for (name, code) in &compiled.blocks {
-            words.push_str(", ")?;
-            push_list(&mut words, name, code)?;
-        }
-        Ok(words)
+        let compiled = compile_page(alloc, text)?;
+        lists_of(alloc, &compiled)
     }
 }
 
@@ -205,13 +212,11 @@ fn is_of_memory(error: Error<'_>) -> bool {
 /// Takes no memory itself, so that it may run with an allocation that fails.
 #[test]
 fn says_that_memory_is_refused(rt: HostRuntime) {
-    match compile::<Value>(
+    match page_length(
         rt.alloc(),
         "{% macro m(a, b=c) %}{{ d }}{% endmacro %}{% block e %}x{% endblock %}{{ f(a, *b)|g }}",
-        "page",
-        &SyntaxConfig::default(),
     ) {
-        Ok(compiled) => assert!(rt; compiled.instructions.len() == 25),
+        Ok(length) => assert!(rt; length == 25),
         Err(error) => assert!(rt; is_of_memory(error)),
     }
     match compile_expression::<Value>(rt.alloc(), "f(a, *b)|g") {

@@ -1,10 +1,8 @@
 //! Texts of about 1 MiB, of the forms that a search that goes back would read in square time, and rows of what a parser or a
 //! generator that calls itself would end the process at: a test has a minute.
-use super::{Subject, hold, parted, repeated, syntax_of};
-use crate::compile::compile;
+use super::{Subject, hold, page_length, parted, repeated, syntax_of};
 use crate::lexer::Tokenizer;
 use crate::syntax::SyntaxConfig;
-use crate::value::Value;
 use std::alloc::Global;
 use std::test::Fail;
 
@@ -23,20 +21,25 @@ fn count_tokens(alloc: Global, syntax: &SyntaxConfig, source: &str) -> (u32, u32
     (u32::MAX, end)
 }
 
-/// A template, after its options, in pieces: how many tokens it has. The last ends where the text does.
+/// How many tokens a template in pieces has. The last ends where the text does.
+fn count_in_pieces(alloc: Global, syntax: &SyntaxConfig, pieces: &str) -> Result<String, Fail> {
+    let source = repeated(alloc, pieces)?;
+    let (count, end) = count_tokens(alloc, syntax, source.as_str());
+    if u64::from(end) == source.len() as u64 {
+        Ok(count.to_string(alloc)?)
+    } else {
+        Ok(String::from_str(alloc, "another end")?)
+    }
+}
+
+/// A template, after its options, in pieces: how many tokens it has.
 enum Large {}
 
 impl Subject for Large {
     fn words(alloc: Global, text: &str) -> Result<String, Fail> {
         let (options, pieces) = parted(text, " | ");
         let syntax = syntax_of(alloc, options)?;
-        let source = repeated(alloc, pieces)?;
-        let (count, end) = count_tokens(alloc, &syntax, source.as_str());
-        if u64::from(end) == source.len() as u64 {
-            Ok(count.to_string(alloc)?)
-        } else {
-            Ok(String::from_str(alloc, "another end")?)
-        }
+        count_in_pieces(alloc, &syntax, pieces)
     }
 }
 
@@ -73,8 +76,8 @@ enum Rows {}
 impl Subject for Rows {
     fn words(alloc: Global, text: &str) -> Result<String, Fail> {
         let source = repeated(alloc, text)?;
-        match compile::<Value>(alloc, source.as_str(), "page", &SyntaxConfig::default()) {
-            Ok(compiled) => Ok(compiled.instructions.len().to_string(alloc)?),
+        match page_length(alloc, source.as_str()) {
+            Ok(length) => Ok(length.to_string(alloc)?),
             Err(_) => Ok(String::from_str(alloc, "refused")?),
         }
     }

@@ -1,45 +1,61 @@
 //! The names that macros need from outside.
-use super::{Subject, hold};
+use super::{Subject, hold, parse_page};
 use crate::ast::{Macro, Stmt};
 use crate::error::Error;
 use crate::meta::find_macro_closure;
-use crate::parser::parse;
-use crate::syntax::SyntaxConfig;
 use crate::value::Value;
-use std::alloc::{AllocError, Global};
+use std::alloc::Global;
+use std::collections::BTreeSet;
 use std::test::Fail;
 
-/// The names that a macro needs, each after a space.
-fn push_closure<'s>(
-    alloc: Global,
-    words: &mut String,
-    declared: &Macro<'s, Value>,
-) -> Result<(), Error<'static>> {
-    for name in &find_macro_closure(alloc, declared)? {
-        push_name(words, name)?;
+/// Appends names, each after a space.
+fn push_names(words: &mut String, names: &BTreeSet<&str>) -> Result<(), Error<'static>> {
+    for name in names {
+        write!(words, " {name}")?;
     }
     Ok(())
 }
 
-fn push_name(words: &mut String, name: &str) -> Result<(), AllocError> {
-    write!(words, " {name}")
+/// Appends the names that a macro needs.
+fn push_closure(
+    alloc: Global,
+    words: &mut String,
+    declared: &Macro<'_, Value>,
+) -> Result<(), Error<'static>> {
+    let names = find_macro_closure(alloc, declared)?;
+    push_names(words, &names)
 }
 
-/// Templates: the names that each of the macros outside of all else needs.
+/// Appends the names that a statement needs if it is a macro.
+fn push_part(
+    alloc: Global,
+    words: &mut String,
+    part: &Stmt<'_, Value>,
+) -> Result<(), Error<'static>> {
+    match part {
+        Stmt::Macro(declared) => push_closure(alloc, words, declared.node()),
+        _ => Ok(()),
+    }
+}
+
+/// The names that each of a template's macros outside of all else needs.
+fn closures_of(alloc: Global, template: &Stmt<'_, Value>) -> Result<String, Fail> {
+    let mut words = String::from_str(alloc, "of")?;
+    if let Stmt::Template(template) = template {
+        for child in &template.node().children {
+            push_part(alloc, &mut words, child)?;
+        }
+    }
+    Ok(words)
+}
+
+/// Templates: the names that their macros need.
 enum Closures {}
 
 impl Subject for Closures {
     fn words(alloc: Global, text: &str) -> Result<String, Fail> {
-        let template = parse::<Value>(alloc, text, "page", &SyntaxConfig::default())?;
-        let mut words = String::from_str(alloc, "of")?;
-        if let Stmt::Template(template) = &template {
-            for child in &template.node().children {
-                if let Stmt::Macro(declared) = child {
-                    push_closure(alloc, &mut words, declared.node())?;
-                }
-            }
-        }
-        Ok(words)
+        let template = parse_page(alloc, text)?;
+        closures_of(alloc, &template)
     }
 }
 

@@ -1,10 +1,10 @@
 //! What the parser accepts, how deep it goes, and what it answers after a tree and after a refusal.
 ghost use Rattle.std.specs.Prelude.{◌<◌, ◌^◌, length};
 
-use super::{Subject, hold, repeated};
+use super::{Subject, hold, parse_page, repeated};
 use crate::ast::Stmt;
 use crate::error::{Error, ErrorKind};
-use crate::parser::{Parser, TokenStream, parse, parse_expr};
+use crate::parser::{Parser, TokenStream, parse_expr};
 use crate::syntax::SyntaxConfig;
 use crate::tokens::Span;
 use crate::value::Value;
@@ -28,12 +28,8 @@ fn push_output(words: &mut String, part: &Stmt<'_, Value>) -> Result<(), AllocEr
     }
 }
 
-/// How many parts a template has, and where what its outputs show begins.
-fn parts(alloc: Global, tree: &Stmt<'_, Value>) -> Result<String, Fail> {
-    let Stmt::Template(template) = tree else {
-        return Err(Fail::from("no template"));
-    };
-    let children = &template.node().children;
+/// How many parts there are, and where what outputs show begins.
+fn parts(alloc: Global, children: &[Stmt<'_, Value>]) -> Result<String, AllocError> {
     let mut words = format!(in alloc; "{} parts", children.len())?;
     for part in children {
         push_output(&mut words, part)?;
@@ -41,14 +37,24 @@ fn parts(alloc: Global, tree: &Stmt<'_, Value>) -> Result<String, Fail> {
     Ok(words)
 }
 
-/// Templates, which are well formed: their parts.
+/// The parts of a template, which is well formed.
+fn template_words(alloc: Global, tree: &Stmt<'_, Value>) -> Result<String, Fail> {
+    if !tree.is_well_formed() {
+        return Ok(String::from_str(alloc, "ill formed")?);
+    }
+    match tree {
+        Stmt::Template(template) => Ok(parts(alloc, &template.node().children)?),
+        _ => Err(Fail::from("no template")),
+    }
+}
+
+/// Templates: their parts.
 enum Templates {}
 
 impl Subject for Templates {
     fn words(alloc: Global, text: &str) -> Result<String, Fail> {
-        match parse(alloc, text, "page", &SyntaxConfig::default()) {
-            Ok(tree) if tree.is_well_formed() => parts(alloc, &tree),
-            Ok(_) => Ok(String::from_str(alloc, "ill formed")?),
+        match parse_page(alloc, text) {
+            Ok(tree) => template_words(alloc, &tree),
             Err(error) => Ok(kind(alloc, error)?),
         }
     }
@@ -182,14 +188,17 @@ fn refusal_of(error: Error<'_>) -> Refusal {
 }
 
 fn of_template(parser: &mut Parser<'_, '_>) -> Option<Refusal> {
-    parser.parse::<Value>().err().map(refusal_of)
+    match parser.parse::<Value>() {
+        Ok(_) => None,
+        Err(error) => Some(refusal_of(error)),
+    }
 }
 
 fn of_expression(parser: &mut Parser<'_, '_>) -> Option<Refusal> {
-    parser
-        .parse_standalone_expr::<Value>()
-        .err()
-        .map(refusal_of)
+    match parser.parse_standalone_expr::<Value>() {
+        Ok(_) => None,
+        Err(error) => Some(refusal_of(error)),
+    }
 }
 
 /// The refusal of a template that both calls answer again.
@@ -231,54 +240,71 @@ a {% set loop = a %} b => SyntaxError
     hold::<Standing>(&rt, rt.alloc(), rows)
 }
 
-fn children_of(tree: Option<Stmt<'_, Value>>) -> Option<usize> {
-    match &tree {
-        Some(Stmt::Template(template)) => Some(template.node().children.len()),
+fn children_of(tree: &Stmt<'_, Value>) -> Option<usize> {
+    match tree {
+        Stmt::Template(template) => Some(template.node().children.len()),
         _ => None,
     }
+}
+
+/// How many parts the template has that is parsed next.
+fn next_children(parser: &mut Parser<'_, '_>) -> Option<usize> {
+    match parser.parse::<Value>() {
+        Ok(tree) => children_of(&tree),
+        Err(_) => None,
+    }
+}
+
+fn assert_ends(rt: &impl Abort, parser: &mut Parser<'_, '_>) {
+    assert!(rt; parser.filename() == "name");
+    assert!(rt; next_children(parser) == Some(1));
+    assert!(rt; next_children(parser) == Some(0));
+    let refusal = of_expression(parser).map(|refusal| refusal.kind);
+    assert!(rt; refusal == Some(ErrorKind::SyntaxError));
 }
 
 #[test]
 fn after_a_tree_stands_the_empty_template(rt: HostRuntime) {
     let syntax = SyntaxConfig::default();
     let mut parser = Parser::new(rt.alloc(), "page", "name", false, &syntax);
-    assert!(rt; parser.filename() == "name");
-    assert!(rt; children_of(parser.parse::<Value>().ok()) == Some(1));
-    assert!(rt; children_of(parser.parse::<Value>().ok()) == Some(0));
-    let refusal = of_expression(&mut parser).map(|refusal| refusal.kind);
-    assert!(rt; refusal == Some(ErrorKind::SyntaxError));
+    assert_ends(&rt, &mut parser);
 }
 
-/// Appends the token in view, if there is one, and its place.
-fn push_view(words: &mut String, stream: &TokenStream<'_, '_>) -> Result<(), Fail> {
+/// Appends the token in view, if there is one, its place and that of the one before it, and takes the token.
+fn push_view(words: &mut String, stream: &mut TokenStream<'_, '_>) -> Result<(), Fail> {
     match stream.current() {
         Ok(Some((token, _))) => write!(words, "{token}")?,
         Ok(None) => words.push_str("end")?,
         Err(_) => words.push_str("refused")?,
     }
-    write!(words, "{:?}", stream.current_span())?;
+    let (span, last) = (stream.current_span(), stream.last_span());
+    write!(words, "{span:?}, after{last:?}, ")?;
+    let _ = stream.next();
     Ok(())
 }
 
-/// Templates of two tokens: each token in view, and where the one before it stands. Last comes the span from the start of
-/// the first token to the end of the last.
+/// Two tokens and the end in view. Last comes the span from the start of the first token to the end of the last.
+fn tokens_in_view(alloc: Global, stream: &mut TokenStream<'_, '_>) -> Result<String, Fail> {
+    let mut words = String::new(alloc);
+    let first = stream.current_span();
+    for _ in 0..3 {
+        push_view(&mut words, stream)?;
+    }
+    write!(words, "all{:?}", stream.expand_span(first))?;
+    Ok(words)
+}
+
+/// Templates of two tokens: each token in view.
 enum Views {}
 
 impl Subject for Views {
     fn words(alloc: Global, text: &str) -> Result<String, Fail> {
-        let mut words = String::new(alloc);
-        if text.len() < 4_294_967_296 {
-            let syntax = SyntaxConfig::default();
-            let mut stream = TokenStream::new(alloc, text, "page", false, &syntax);
-            let first = stream.current_span();
-            for _ in 0..3 {
-                push_view(&mut words, &stream)?;
-                write!(words, ", after{:?}, ", stream.last_span())?;
-                let _ = stream.next();
-            }
-            write!(words, "all{:?}", stream.expand_span(first))?;
+        if text.len() >= 4_294_967_296 {
+            return Ok(String::new(alloc));
         }
-        Ok(words)
+        let syntax = SyntaxConfig::default();
+        let mut stream = TokenStream::new(alloc, text, "page", false, &syntax);
+        tokens_in_view(alloc, &mut stream)
     }
 }
 

@@ -56,10 +56,26 @@ fn rebuilt(alloc: Global, syntax: &SyntaxConfig) -> Result<SyntaxConfig, Error<'
     syntax.to_builder(alloc)?.build(alloc)
 }
 
-/// Whether a copy of a syntax, and one that is built from it, shows these options.
-fn has_copies(alloc: Global, syntax: &SyntaxConfig, options: &str) -> Result<bool, Fail> {
-    let (copy, rebuilt) = (syntax.try_clone()?, rebuilt(alloc, syntax)?);
-    Ok(shows(alloc, &copy, options)? && shows(alloc, &rebuilt, options)?)
+/// Whether a syntax shows these options, if there is one.
+fn is_shown(
+    alloc: Global,
+    syntax: Result<SyntaxConfig, Error<'static>>,
+    options: &str,
+) -> Result<bool, Error<'static>> {
+    let syntax = syntax?;
+    Ok(shows(alloc, &syntax, options)?)
+}
+
+/// The options of a syntax, which a copy of it and one that is built from it show too.
+fn options_with_copies(alloc: Global, syntax: &SyntaxConfig) -> Result<String, Fail> {
+    let options = options_of(alloc, syntax)?;
+    if is_shown(alloc, syntax.try_clone(), options.as_str())?
+        && is_shown(alloc, rebuilt(alloc, syntax), options.as_str())?
+    {
+        Ok(options)
+    } else {
+        Ok(String::from_str(alloc, "a copy differs")?)
+    }
 }
 
 /// The kind of a refusal, which names no place.
@@ -76,13 +92,7 @@ enum Built {}
 impl Subject for Built {
     fn words(alloc: Global, text: &str) -> Result<String, Fail> {
         match syntax_of(alloc, text) {
-            Ok(syntax) => {
-                let options = options_of(alloc, &syntax)?;
-                if !has_copies(alloc, &syntax, options.as_str())? {
-                    return Ok(String::from_str(alloc, "a copy differs")?);
-                }
-                Ok(options)
-            }
+            Ok(syntax) => options_with_copies(alloc, &syntax),
             Err(error) => Ok(refusal(alloc, error)?),
         }
     }
@@ -164,6 +174,31 @@ fn marker_at(
     String::from_str(alloc, "none")
 }
 
+/// Whether a matcher of a syntax finds there what a search without it does.
+fn has_matcher(
+    alloc: Global,
+    syntax: &SyntaxConfig,
+    source: &str,
+    offset: usize,
+) -> Result<bool, Error<'static>> {
+    let matcher = StartMarkerMatcher::new(alloc, syntax)?;
+    Ok(agree(syntax, &matcher, syntax, source, offset))
+}
+
+/// What is found in a text, in words, by a matcher too.
+fn marker_found(
+    alloc: Global,
+    syntax: &SyntaxConfig,
+    source: &str,
+    offset: usize,
+) -> Result<String, Fail> {
+    if has_matcher(alloc, syntax, source, offset)? {
+        Ok(marker_at(alloc, syntax, source, offset)?)
+    } else {
+        Ok(String::from_str(alloc, "a matcher finds another")?)
+    }
+}
+
 /// A text after its options and the place from which it is searched: which marker is found, how many bytes on, and how
 /// many it has.
 enum Markers {}
@@ -172,13 +207,9 @@ impl Subject for Markers {
     fn words(alloc: Global, text: &str) -> Result<String, Fail> {
         let (options, rest) = parted(text, " | ");
         let (offset, source) = parted(rest, " | ");
-        let syntax = syntax_of(alloc, options)?;
-        let matcher = StartMarkerMatcher::new(alloc, &syntax)?;
         let offset = offset.parse::<usize>()?;
-        if !agree(&syntax, &matcher, &syntax, source, offset) {
-            return Ok(String::from_str(alloc, "a matcher finds another")?);
-        }
-        Ok(marker_at(alloc, &syntax, source, offset)?)
+        let syntax = syntax_of(alloc, options)?;
+        marker_found(alloc, &syntax, source, offset)
     }
 }
 
@@ -214,16 +245,30 @@ fn differs_at(
     None
 }
 
-/// A text: where two searches of it do not agree. A prefix that does not stand in it changes nothing but the way in which
-/// it is searched.
+/// The first place of a text at which a search in this syntax and one in the default syntax do not agree.
+fn differs_from_default(
+    alloc: Global,
+    other: &SyntaxConfig,
+    source: &str,
+) -> Result<Option<usize>, Error<'static>> {
+    let default = SyntaxConfig::default();
+    let matcher = StartMarkerMatcher::new(alloc, &default)?;
+    Ok(differs_at(&default, &matcher, other, source))
+}
+
+/// The first place of a text at which two searches do not agree. A prefix that does not stand in it changes nothing but
+/// the way in which it is searched.
+fn difference(alloc: Global, source: &str) -> Result<Option<usize>, Error<'static>> {
+    let general = syntax_of(alloc, "line_comment \u{1}\u{2}")?;
+    differs_from_default(alloc, &general, source)
+}
+
+/// A text: where two searches of it do not agree.
 enum Searches {}
 
 impl Subject for Searches {
     fn words(alloc: Global, text: &str) -> Result<String, Fail> {
-        let default = SyntaxConfig::default();
-        let matcher = StartMarkerMatcher::new(alloc, &default)?;
-        let general = syntax_of(alloc, "line_comment \u{1}\u{2}")?;
-        match differs_at(&default, &matcher, &general, text) {
+        match difference(alloc, text)? {
             Some(offset) => Ok(offset.to_string(alloc)?),
             None => Ok(String::new(alloc)),
         }

@@ -116,9 +116,17 @@ f(x, k=1, *y, **z) => unknown
     hold::<KeywordArguments>(&rt, rt.alloc(), rows)
 }
 
-/// What a node is called, and its place.
-fn described(alloc: Global, node: &Expr<'_, Value>) -> Result<String, AllocError> {
-    format!(in alloc; "{}{:?}", node.description(), node.span())
+/// What a node is called, its place, and those of the operands of an operator.
+fn described(alloc: Global, node: &Expr<'_, Value>) -> Result<String, Fail> {
+    let mut words = format!(in alloc; "{}{:?}", node.description(), node.span())?;
+    if !node.is_well_formed() {
+        words.push_str(", ill formed")?;
+    }
+    if let Expr::BinOp(operation) = node {
+        let (left, right) = (&operation.node().left, &operation.node().right);
+        write!(words, " of{:?} and{:?}", left.span(), right.span())?;
+    }
+    Ok(words)
 }
 
 /// Expressions, which are well formed: what they are, and the operands of an operator.
@@ -127,15 +135,7 @@ enum Nodes {}
 impl Subject for Nodes {
     fn words(alloc: Global, text: &str) -> Result<String, Fail> {
         let tree = parse_expr::<Value>(alloc, text)?;
-        let mut words = described(alloc, &tree)?;
-        if !tree.is_well_formed() {
-            words.push_str(", ill formed")?;
-        }
-        if let Expr::BinOp(operation) = &tree {
-            let (left, right) = (&operation.node().left, &operation.node().right);
-            write!(words, " of{:?} and{:?}", left.span(), right.span())?;
-        }
-        Ok(words)
+        described(alloc, &tree)
     }
 }
 

@@ -186,7 +186,15 @@ fn apply(
     }
 }
 
-/// A value, an operator and a value: what comes of them, or why nothing does, which an expression does not tell.
+/// What comes of an operator and two values, or why nothing does.
+fn outcome(alloc: Global, op: &str, left: &Value, right: &Value) -> Result<String, Fail> {
+    match apply(alloc, op, left, right) {
+        Ok(value) => Ok(value.to_string(alloc)?),
+        Err(error) => Ok(format!(in alloc; "{error:?}")?),
+    }
+}
+
+/// A value, an operator and a value: what comes of them, which an expression does not tell.
 enum Applied {}
 
 impl Subject for Applied {
@@ -194,10 +202,7 @@ impl Subject for Applied {
         let (left, rest) = parted(text, " | ");
         let (op, right) = parted(rest, " | ");
         let (left, right) = (value_of(alloc, left)?, value_of(alloc, right)?);
-        match apply(alloc, op, &left, &right) {
-            Ok(value) => Ok(value.to_string(alloc)?),
-            Err(error) => Ok(format!(in alloc; "{error:?}")?),
-        }
+        outcome(alloc, op, &left, &right)
     }
 }
 
