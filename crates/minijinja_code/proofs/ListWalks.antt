@@ -15,7 +15,7 @@ use Rattle.minijinja_instructions.specs.declared.instructions.Instructions.{Inst
 use Rattle.minijinja_meaning.specs.Layout.{block_code}
 use Rattle.minijinja_code.specs.BlockLists.{IsBlockList, list_of, HaveLists, AddsLists}
 use Rattle.minijinja_code.specs.private.Lists.{own_block, macro_body, bodies_of}
-use Rattle.minijinja_code.specs.private.Statements.{MayStand, StandsSomewhere}
+use Rattle.minijinja_statement_code.specs.private.Statements.{MayStand, StandsSomewhere}
 
 module _ {C L : Type 0} where
   -- the blocks in rows of statements

@@ -19,8 +19,8 @@ use Rattle.minijinja_tree.specs.declared.ast.Stmt.TheVariants.{Block', CallBlock
 use Rattle.minijinja_meaning.specs.Layout.{block_code}
 use Rattle.minijinja_code.specs.Generator.{HaveTooLong}
 use Rattle.minijinja_code.specs.private.Lists.{block_tree, own_block}
-use Rattle.minijinja_code.specs.private.Statements.{MayStand, StandsSomewhere}
-use Rattle.minijinja_code.proofs.StatementArms.{block_arm}
+use Rattle.minijinja_statement_code.specs.private.Statements.{MayStand, StandsSomewhere}
+use Rattle.minijinja_statement_code.proofs.StatementArms.{block_arm}
 
 -- the node of a block
 abbrev Blocked : {V F : Type 0} → Stmt V F → Type 0

@@ -9,7 +9,7 @@ use Rattle.minijinja_meaning.specs.Jumps.{target}
 use Rattle.minijinja_meaning.specs.Layout as layout
 use Rattle.minijinja_meaning.specs.Pieces.{Piece, outside}
 use Rattle.minijinja_expression_code.specs.private.Making.{Made, here_of, capped, last_target, reach, Adds}
-use Rattle.minijinja_code.specs.private.Statements.{stmt_piece}
+use Rattle.minijinja_statement_code.specs.private.Statements.{stmt_piece}
 use Rattle.minijinja_meaning.proofs.Leads.{AllLead, Leads, entry_of, expr_leads, root_leads, target_leads}
 use Rattle.minijinja_meaning.proofs.Lengths.{Exact, exact_to, expr_exact, stmt_exact, target_exact}
 use Rattle.minijinja_meaning.proofs.Runs.{stands_behind}

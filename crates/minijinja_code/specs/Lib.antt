@@ -1,4 +1,4 @@
-pub mod Hint
+pub use Rattle.minijinja_statement_code.specs.Hint
 pub mod BlockLists
 pub mod Generator
 pub mod private

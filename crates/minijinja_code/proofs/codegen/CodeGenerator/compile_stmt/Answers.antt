@@ -10,7 +10,7 @@ use Rattle.minijinja_meaning.specs.Units.{DoUnits}
 use Rattle.minijinja_meaning.proofs.Whole.{statement_does, statement_units_do}
 use Rattle.minijinja_expression_code.specs.private.Making.{made_of, here_of}
 use Rattle.minijinja_code.specs.Generator.{OnlyWhereOneIsTooLong}
-use Rattle.minijinja_code.specs.private.Statements.{stmt_piece}
+use Rattle.minijinja_statement_code.specs.private.Statements.{stmt_piece}
 use Rattle.minijinja_expression_code.specs.declared.memory.OutOfMemory.{OutOfMemory}
 use Rattle.minijinja_code.proofs.Ending.{always_ok, block_too_long, if_none, one_too_long, never_ok, never_long}
 use Rattle.minijinja_code.proofs.OwnBlocks.{passed_on}

@@ -10,7 +10,7 @@ use Rattle.minijinja_syntax.specs.declared.error.ErrorKind.TheVariants.{TooManyI
 use Rattle.minijinja_code.specs.BlockLists.{AddsLists}
 use Rattle.minijinja_code.specs.Generator.{HaveTooLong}
 use Rattle.minijinja_code.specs.private.Lists.{bodies_of, file_in, lists_of, own_block, rows_of, text_in}
-use Rattle.minijinja_code.proofs.Bodies.{root_stands}
+use Rattle.minijinja_statement_code.proofs.Bodies.{root_stands}
 use Rattle.minijinja_code.proofs.ListRows.{row_taken, row_passed}
 use Rattle.minijinja_code.proofs.ListWalks.{Walking, steps_fall, walk_end, walk_may, walk_on, walk_passes, walk_start, walk_too_long}
 use Rattle.minijinja_code.proofs.OwnBlocks.{passed_on}
