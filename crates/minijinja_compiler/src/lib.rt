@@ -12,5 +12,6 @@ mod tests;
 pub use minijinja_base::{error, syntax, tokens, value};
 pub use minijinja_code::{codegen, instructions};
 pub use minijinja_lexer::lexer;
+pub use minijinja_meta::meta;
 pub use minijinja_parser::parser;
-pub use minijinja_tree::{ast, meta};
+pub use minijinja_tree::ast;

@@ -21,8 +21,8 @@ use minijinja_expression_code::emit::Emitter;
 use minijinja_expression_code::expr::expression;
 use minijinja_expression_code::memory::OutOfMemory;
 use minijinja_instructions::instructions::{Instruction, MACRO_CALLER};
+use minijinja_meta::meta::find_macro_closure;
 use minijinja_tree::ast::{Expr, Macro};
-use minijinja_tree::meta::find_macro_closure;
 use std::alloc::Global;
 
 /// Adds a macro as a value: what it runs, which is passed by, and what makes it. Nothing in it leads out of it.

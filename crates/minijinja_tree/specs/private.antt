@@ -2,7 +2,3 @@
 pub mod Sizes
 pub mod WellFormedTests
 pub mod BlockNames
-pub mod FoundNames
-pub mod Mentions
-pub mod Ways
-pub mod TargetRows

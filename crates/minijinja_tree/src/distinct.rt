@@ -3,8 +3,7 @@ ghost use Rattle.std.specs.Prelude.{◌≡◌, ◌<◌, ◌≤◌, ◌&&◌, byt
 ghost use Rattle.minijinja_tree.specs.Erasure.{stmt_tree};
 ghost use Rattle.minijinja_tree.specs.Tree.{all_block_names, block_names, stmts_of};
 ghost use Rattle.minijinja_tree.specs.private.BlockNames as names;
-ghost use Rattle.minijinja_tree.specs.private.Sizes.{body_size};
-ghost use Rattle.minijinja_tree.specs.private.Sizes.{stmt_size};
+ghost use Rattle.minijinja_tree.specs.private.Sizes.{body_size, stmt_size};
 ghost use Rattle.minijinja_tree.specs.private.WellFormedTests as tests;
 
 use crate::ast::Stmt;
@@ -60,7 +59,8 @@ fn has_single_bodies<'s, V: TemplateValue>(stmt: &Stmt<'s, V>, root: &Stmt<'s, V
 
 #[cycle(named)]
 fn are_named_once<'s, V: TemplateValue>(stmts: &[Stmt<'s, V>], root: &Stmt<'s, V>) -> bool
-    ensures { result ≡ tests.are_single (all_block_names (stmts_of (map (stmt_tree V.contents) stmts.now)))
+    ensures { result ≡ tests.are_single
+        (all_block_names (stmts_of (map (stmt_tree V.contents) stmts.now)))
         (block_names (stmt_tree V.contents root.now)) }
 {
     for stmt in stmts {

@@ -3,8 +3,7 @@
 
 pub mod ast;
 mod distinct;
-pub mod meta;
 pub mod nodes;
-mod well_formed;
+pub mod well_formed;
 
 pub use minijinja_expressions::{constants, fold};

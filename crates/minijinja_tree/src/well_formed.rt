@@ -71,7 +71,7 @@ fn is_inner<V: TemplateValue>(stmt: &Stmt<'_, V>, in_loop: bool, in_macro: bool)
 }
 
 /// The only statement of a false body: rows of `elif` nest in it without a bound.
-pub(crate) fn otherwise<'a, 's, V: TemplateValue>(stmt: &'a Stmt<'s, V>) -> Option<&'a Stmt<'s, V>>
+pub fn otherwise<'a, 's, V: TemplateValue>(stmt: &'a Stmt<'s, V>) -> Option<&'a Stmt<'s, V>>
     ensures part { option_map (λ s. stmt_tree V.contents s.now) result ≡ tests.otherwise
         (stmt_tree V.contents stmt.now) }
     ensures smaller { IfSome result (λ s. stmt_size s.now < stmt_size stmt.now) }
@@ -83,7 +83,7 @@ pub(crate) fn otherwise<'a, 's, V: TemplateValue>(stmt: &'a Stmt<'s, V>) -> Opti
 }
 
 /// The statement, if there is one alone.
-pub(crate) fn only<'a, 's, V: TemplateValue>(stmts: &'a [Stmt<'s, V>]) -> Option<&'a Stmt<'s, V>>
+pub fn only<'a, 's, V: TemplateValue>(stmts: &'a [Stmt<'s, V>]) -> Option<&'a Stmt<'s, V>>
     ensures { option_map (λ s. s.now) result ≡ only_item stmts.now }
 {
     match stmts {

@@ -1,0 +1,9 @@
+pub mod Mentioning
+pub mod Walking
+pub mod Logging
+pub mod Storing
+pub mod Noting
+pub mod Closing
+pub mod TargetWays
+pub mod StmtWays
+pub mod ParameterWays

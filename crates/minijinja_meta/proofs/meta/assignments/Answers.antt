@@ -1,0 +1,18 @@
+use Rattle.std.proofs.Common.{◌<◌, length, arith}
+use Rattle.minijinja_tree.specs.Erasure.{expr_tree}
+use Rattle.minijinja_tree.specs.FreeNames.{through, to_target}
+use Rattle.minijinja_meta.proofs.ParameterWays.{next-assignment}
+use Rattle.minijinja_meta.proofs.Walking.{walks-on, walks-through, walking-goes-on}
+use Rattle.minijinja_meta.proofs.meta.assignments.Goals as goal
+
+pub loop-left-preserved : goal.loop-left-preserved
+loop-left-preserved g c =
+    let v = g.V.TemplateValue.contents in
+    let xs = c.args.pairs.now in
+    let i = c.loop-left.left-index in
+    let within : i < length xs = omega arith in
+    let x = c.loop-left-item.result in
+    let first = walks-through c.loop-left.names c.expression.new.names c.loop-left.invariant.logged (expr_tree v x.1) c.in_ok-expression.ensures in
+    walking-goes-on c.args.names.now c.loop-left.names c.target.new.names _ _ (λ w. through (expr_tree v x.1) (to_target (expr_tree v x.0) w)) _ c.loop-left.invariant
+    (walks-on c.loop-left.names c.expression.new.names c.target.new.names (through (expr_tree v x.1)) (to_target (expr_tree v x.0)) first c.in_ok-target.ensures)
+    (next-assignment v xs i x within c.loop-left-item.is)

@@ -1,0 +1,12 @@
+use Rattle.std.proofs.Common.{◌≤◌, length, map, arith}
+use Rattle.minijinja_tree.specs.Erasure.{expr_tree}
+use Rattle.minijinja_meta.proofs.ParameterWays.{no-more-parameters}
+use Rattle.minijinja_meta.proofs.Walking.{walking-ends}
+use Rattle.minijinja_meta.proofs.meta.parameters.Goals as goal
+
+pub returns : goal.returns
+returns g c =
+    let v = g.V.TemplateValue.contents in
+    let m = c.args.declared.now in
+    let past : length m.args.items ≤ c.loop-place.place = omega (arith, c.len-place-end.ensures) in
+    walking-ends c.args.names.now c.loop-place.names _ _ c.loop-place.invariant (no-more-parameters v m.args.items (map (expr_tree v) m.defaults.items) c.loop-place.place past)

@@ -1,0 +1,4 @@
+//! What a part of a template needs from outside.
+#![tactic(auto)]
+
+pub mod meta;
