@@ -1,30 +1,25 @@
 //! The program `mjc`, which shows the tokens of a template, and what a template or an expression compiles to.
 #![tactic(auto)]
 
-pub mod fault;
-mod options;
-mod print;
-pub mod run;
 mod source;
 #[cfg(test)]
 mod tests;
-mod usage;
-pub mod watched;
 
-use fault::Fault;
-use run::{refuse, run, status};
+use minijinja_commands::fault::Fault;
+use minijinja_commands::file_named;
+use minijinja_commands::run::{refuse, run, status};
+use minijinja_commands::watched::Watched;
 use source::Source;
 use std::env;
 use std::io::{self, BufWriter};
 use std::process::ExitCode;
-use watched::Watched;
 
 /// Runs with the words and the streams of the process.
 fn start(rt: &HostRuntime) -> io::Result<u8> {
     let alloc = rt.alloc();
     let words: Vec<String> = env::args(rt)?.skip(1).collect(alloc)?;
     let args: Vec<&str> = words.iter().map(|word| word.as_str()).collect(alloc)?;
-    let mut file = Watched::new(Source::open(rt, usage::file_named(&args)));
+    let mut file = Watched::new(Source::open(rt, file_named(&args)));
     let mut out = Watched::new(BufWriter::new(alloc, rt.stdout())?);
     let mut err = rt.stderr();
     let ending = run(

@@ -6,13 +6,14 @@ mod calls;
 mod expr;
 mod imports;
 mod macros;
+mod print;
 mod shipped;
 mod statements;
 mod tokens;
 mod words;
 
-use crate::run::{run, status};
-use crate::watched::Watched;
+use minijinja_commands::run::{run, status};
+use minijinja_commands::watched::Watched;
 use std::alloc::{AllocError, Global};
 use std::io::{self, Read, Write};
 use std::process::Abort;
