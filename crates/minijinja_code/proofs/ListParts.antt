@@ -26,9 +26,9 @@ use Rattle.minijinja_meaning.proofs.Leads.{block_leads_well, stmts_lead}
 use Rattle.minijinja_meaning.proofs.Lengths.{exact_to, stmts_exact}
 use Rattle.minijinja_meaning.proofs.Whole.{block_does}
 use Rattle.minijinja_code.specs.BlockLists.{IsBlockList, list_of, AddsLists}
-use Rattle.minijinja_statement_code.specs.private.Turns.{Around, FollowsStmts}
+use Rattle.minijinja_statement_parts.specs.private.Turns.{Around, FollowsStmts}
 use Rattle.minijinja_expression_code.specs.private.Making.{Made, here_of, capped, Adds}
-use Rattle.minijinja_statement_code.proofs.Rounds.{nowhere, adds_outside}
+use Rattle.minijinja_statement_parts.proofs.Rounds.{nowhere, adds_outside}
 use Rattle.minijinja_code.proofs.Uncapped.{uncapped}
 
 no_code : {X : Type 0} (xs : List X) → length xs ≡ 0 → xs ≡ []

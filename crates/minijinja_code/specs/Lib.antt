@@ -1,4 +1,4 @@
-pub use Rattle.minijinja_statement_code.specs.Hint
+pub use Rattle.minijinja_statement_parts.specs.Hint
 pub mod BlockLists
 pub mod Generator
 pub mod private

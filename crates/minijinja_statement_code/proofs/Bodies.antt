@@ -10,14 +10,14 @@ use Rattle.minijinja_tree.specs.Nodes.{node_of}
 use Rattle.minijinja_tree.specs.declared.ast.IfCond.{IfCond, size-IfCond, the_lemmas as if_lemmas}
 use Rattle.minijinja_tree.specs.declared.ast.Stmt.{Stmt, size-Stmt, the_lemmas}
 use Rattle.minijinja_tree.specs.declared.ast.Stmt.TheVariants as stmt
-use Rattle.minijinja_statement_code.specs.private.Conditions.{IsOnly}
+use Rattle.minijinja_statement_parts.specs.private.Conditions.{IsOnly}
 use denote.Param.Weighed.{most, at_most}
 use Rattle.minijinja_meaning.specs.Layout.{stmts}
 use Rattle.minijinja_meaning.specs.Pieces.{Open}
-use Rattle.minijinja_statement_code.specs.Hint.{all_data_bytes}
+use Rattle.minijinja_statement_parts.specs.Hint.{all_data_bytes}
 use Rattle.minijinja_expression_code.specs.private.Making.{Made}
 use Rattle.minijinja_statement_code.specs.private.Statements.{MayStand}
-use Rattle.minijinja_statement_code.specs.private.Turns.{Around, Follows}
+use Rattle.minijinja_statement_parts.specs.private.Turns.{Around, Follows}
 use Rattle.minijinja_tree.proofs.Rows.{body_of}
 
 module _ {V K C : Type 0} (c : V → C) where

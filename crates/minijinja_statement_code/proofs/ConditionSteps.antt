@@ -7,16 +7,16 @@ use Rattle.minijinja_tree.specs.Tree.{Expr, if_cond, Stmt, Stmts, done, also, ar
 use Rattle.minijinja_meaning.specs.Code.{Jump, JumpIfFalse}
 use Rattle.minijinja_meaning.specs.Layout.{expr, stmt, stmts, either}
 use Rattle.minijinja_meaning.specs.Pieces.{Piece, Leading, Exits, nothing, one, ◌▸◌, plain, ◌▹◌, leading_to, branches, branches_out, skipping_out}
-use Rattle.minijinja_statement_code.specs.Hint.{data_bytes, all_data_bytes}
+use Rattle.minijinja_statement_parts.specs.Hint.{data_bytes, all_data_bytes}
 use Rattle.minijinja_expression_code.specs.private.Branching.{leading_on}
-use Rattle.minijinja_statement_code.specs.private.Conditions.{JumpsPast, Tests}
+use Rattle.minijinja_statement_parts.specs.private.Conditions.{JumpsPast, Tests}
 use Rattle.minijinja_expression_code.specs.private.Leading.{Tested}
 use Rattle.minijinja_expression_code.specs.private.Making.{Made, Adds, hole, reach}
-use Rattle.minijinja_statement_code.specs.private.Turns.{Around, AreBefore, AreOthers, Follows, FollowsStmt, FollowsStmts, exits, ending}
+use Rattle.minijinja_statement_parts.specs.private.Turns.{Around, AreBefore, AreOthers, Follows, FollowsStmt, FollowsStmts, exits, ending}
 use Rattle.minijinja_expression_code.proofs.Adding.{adds_nothing}
 use Rattle.minijinja_expression_code.proofs.Branching.{set_at, ending_at, leads_more, Opened, choice_added}
-use Rattle.minijinja_statement_code.proofs.Filling.{before_later, before_others, ends_length, ends_apart, filled_adds, adds_on}
-use Rattle.minijinja_statement_code.proofs.Rounds.{follows_plain, follows_then, follows_bytes, follows_skipping}
+use Rattle.minijinja_statement_parts.proofs.Filling.{before_later, before_others, ends_length, ends_apart, filled_adds, adds_on}
+use Rattle.minijinja_statement_parts.proofs.Rounds.{follows_plain, follows_then, follows_bytes, follows_skipping}
 
 pub none_bytes : {C L : Type 0} (ss : Stmts C L) → are_any ss ≡ false → all_data_bytes ss ≡ 0
 none_bytes done e = refl

@@ -1,15 +1,5 @@
 pub mod Bodies
 pub mod ConditionSteps
-pub mod Filling
-pub mod Leaving
-pub mod LoopSteps
-pub mod Rounds
-pub mod Selves
 pub mod StatementArms
 pub mod Templates
-pub mod TargetRows
-pub mod LoopParts
-pub mod Assigning
-pub mod MacroParts
-pub mod ImportParts
 pub mod MacroSteps

@@ -14,15 +14,15 @@ use Rattle.minijinja_meaning.specs.Events.{StoreLocal, Emit}
 use Rattle.minijinja_meaning.specs.Layout.{expr, base, call_of, stmts, taking, making, macro_value, arguments_with, argument_count_with, call_with, up_to_caller}
 use Rattle.minijinja_meaning.specs.Pieces.{Here, Piece, one, ◌▸◌, plain, leading_to, outside, skipping}
 use Rattle.minijinja_meaning.specs.Places.{before_caller}
-use Rattle.minijinja_statement_code.specs.Hint.{if_made, all_data_bytes, macro_bytes}
-use Rattle.minijinja_statement_code.specs.private.Macros.{building}
-use Rattle.minijinja_statement_code.specs.private.Turns.{Around, Counted, Follows, FollowsStmt, FollowsStmts, counting}
+use Rattle.minijinja_statement_parts.specs.Hint.{if_made, all_data_bytes, macro_bytes}
+use Rattle.minijinja_statement_parts.specs.private.Macros.{building}
+use Rattle.minijinja_statement_parts.specs.private.Turns.{Around, Counted, Follows, FollowsStmt, FollowsStmts, counting}
 use Rattle.minijinja_expression_code.specs.private.Callers.{TakesCaller, WholeBlock, arguments_end, behind_caller, called, end_count}
 use Rattle.minijinja_expression_code.specs.private.Calling.{captured}
 use Rattle.minijinja_expression_code.specs.private.Making.{Made, here_of, Adds, hole, reach, capped}
 use Rattle.minijinja_expression_code.proofs.Adding.{adds_then, adds_assoc, adds_length, adds_skipping}
-use Rattle.minijinja_statement_code.proofs.Rounds.{nowhere, adds_outside, follows_counted, follows_plain, follows_bytes}
-use Rattle.minijinja_statement_code.proofs.TargetRows.{adds_nested}
+use Rattle.minijinja_statement_parts.proofs.Rounds.{nowhere, adds_outside, follows_counted, follows_plain, follows_bytes}
+use Rattle.minijinja_statement_parts.proofs.TargetRows.{adds_nested}
 
 module _ {C : Type 0} where
   -- pieces within others are put together otherwise

@@ -1,5 +1,5 @@
 -- The tree of a statement, by its node.
-use Rattle.std.proofs.Common.{◌≡◌, List, [], ◌∷◌, length, get_or, sym, ap, ◌∙◌, refl, arith}
+use Rattle.std.proofs.Common.{◌≡◌, List, sym, ap, ◌∙◌, refl}
 use Rattle.minijinja_tree.specs.Nodes.{node_of}
 use Rattle.minijinja_tree.specs.Erasure.{expr_tree, optional_of, args_of, assignments_of, names_of, macro_tree, stmt_tree}
 use Rattle.minijinja_tree.specs.Tree as tree
@@ -23,17 +23,8 @@ use Rattle.minijinja_tree.specs.declared.ast.FromImport.{FromImport}
 use Rattle.minijinja_tree.specs.declared.ast.Import.{Import}
 use Rattle.minijinja_tree.specs.declared.ast.Include.{Include}
 use Rattle.minijinja_tree.specs.declared.ast.Macro.{Macro}
-use Rattle.minijinja_statement_code.specs.private.Conditions.{IsOnly}
+use Rattle.minijinja_statement_parts.specs.private.Conditions.{IsOnly}
 use Rattle.minijinja_tree.proofs.Rows.{body_of, for_loop_is, if_cond_is, with_block_is, set_block_is, auto_escape_is, filter_block_is, block_is, declare_is, call_block_tree, call_block_is}
-
-first_item : {X : Type 0} (xs : List X) (x : X) → x ≡ get_or xs 0 x → length xs ≡ 1 → xs ≡ x ∷ []
-first_item [] x at h = absurd (omega (arith, h))
-first_item (y ∷ []) x at h = ap (λ z. z ∷ []) (sym at)
-first_item (y ∷ z ∷ ys) x at h = absurd (omega (arith, h))
-
--- the only statement, if it is an if statement
-pub only_row : {V F : Type 0} (xs : List (Stmt V F)) (x : Stmt V F) (p : Spanned (IfCond V F)) → x ≡ get_or xs 0 x → length xs ≡ 1 → x ≡ stmt.IfCond p → xs ≡ stmt.IfCond p ∷ []
-only_row xs x p at h is = first_item xs x at h ∙ ap (λ s. s ∷ []) is
 
 module _ {V F C : Type 0} (c : V → C) where
   pub data_arm : (s : Stmt V F) (p : Spanned EmitRaw) (n : EmitRaw) → s ≡ stmt.EmitRaw p → n ≡ node_of p → stmt_tree c s ≡ tree.data_text n.raw.now

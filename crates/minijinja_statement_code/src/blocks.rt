@@ -1,28 +1,24 @@
 //! Instructions of statements that open something and close it after their body.
-ghost use Rattle.std.specs.Prelude.{[], map, OnOk};
+ghost use Rattle.std.specs.Prelude.{map, OnOk};
 ghost use Rattle.minijinja_tree.specs.Erasure.{expr_tree, optional_of, assignments_of, stmt_tree};
 ghost use Rattle.minijinja_tree.specs.Tree as tree;
 ghost use Rattle.minijinja_tree.specs.Tree.{stmts_of};
 ghost use Rattle.minijinja_tree.specs.WellFormed.{IsTarget, IsWhole, IsChainOfFilters, IsChainIfAny, AreAssignments, AreInner};
-ghost use Rattle.minijinja_meaning.specs.Code.{Do};
-ghost use Rattle.minijinja_meaning.specs.Events as event;
 ghost use Rattle.minijinja_meaning.specs.Layout as layout;
-ghost use Rattle.minijinja_meaning.specs.Pieces.{one, ◌▸◌};
-ghost use Rattle.minijinja_expression_code.specs.private.Making.{made_of, Adds};
-ghost use Rattle.minijinja_statement_code.specs.private.AtTurn.{around_of, open_of};
-ghost use Rattle.minijinja_statement_code.specs.private.Turns.{opening, Follows, FollowsStmt};
-ghost use Rattle.minijinja_statement_code.specs.Hint.{all_data_bytes};
+ghost use Rattle.minijinja_expression_code.specs.private.Making.{made_of};
+ghost use Rattle.minijinja_statement_parts.specs.private.AtTurn.{around_of, open_of};
+ghost use Rattle.minijinja_statement_parts.specs.private.Turns.{opening, Follows, FollowsStmt};
+ghost use Rattle.minijinja_statement_parts.specs.Hint.{all_data_bytes};
 
 use crate::stmt::statements;
-use crate::targets::assign;
-use crate::turn::{Open, Turn};
 use minijinja_base::value::TemplateValue;
 use minijinja_expression_code::emit::Emitter;
 use minijinja_expression_code::expr::expression;
-use minijinja_expression_code::filters::filters;
 use minijinja_expression_code::memory::OutOfMemory;
 use minijinja_instructions::instructions::{CaptureMode, Instruction};
-use minijinja_tree::ast::{AutoEscape, Expr, FilterBlock, SetBlock, Stmt, WithBlock};
+use minijinja_statement_parts::blocks::{begin_scope, end_filter_block, end_set_block};
+use minijinja_statement_parts::turn::{Open, Turn};
+use minijinja_tree::ast::{AutoEscape, FilterBlock, SetBlock, Stmt, WithBlock};
 
 /// Adds a body within what was opened for it.
 #[cycle(stmt)]
@@ -68,24 +64,6 @@ pub(crate) fn with_block<'s, V: TemplateValue>(
     code.add(Instruction::PopFrame)
 }
 
-/// Begins a scope, and assigns its variables in turn.
-fn begin_scope<'s, V: TemplateValue>(
-    code: &mut Emitter<'s, V>,
-    assignments: &[(Expr<'s, V>, Expr<'s, V>)],
-) -> Result<(), OutOfMemory>
-    requires { AreAssignments (assignments_of V.contents assignments.now) }
-    ensures { OnOk result (Adds (made_of V.contents code.old) (made_of V.contents code.new)
-        (one (Do event.PushWith [] 0)
-        ▸ layout.assignments V.functions (assignments_of V.contents assignments.now))) }
-{
-    code.add(Instruction::PushWith)?;
-    for (target, value) in assignments {
-        expression(code, value)?;
-        assign(code, target)?;
-    }
-    Ok(())
-}
-
 /// Adds a body whose output goes through filters to a target.
 #[cycle(stmt)]
 pub(crate) fn set_block<'s, V: TemplateValue>(
@@ -107,38 +85,6 @@ pub(crate) fn set_block<'s, V: TemplateValue>(
     code.add(Instruction::BeginCapture(CaptureMode::Capture))?;
     body(code, turn, Open::Capture, &block.body)?;
     end_set_block(code, block)
-}
-
-/// Ends the capture of a set block, and assigns what its filters make of it.
-fn end_set_block<'s, V: TemplateValue>(
-    code: &mut Emitter<'s, V>,
-    block: &SetBlock<'s, V>,
-) -> Result<(), OutOfMemory>
-    requires target { IsTarget (expr_tree V.contents block.now.target) }
-    requires chain { IsChainIfAny (optional_of V.contents block.now.filter) }
-    ensures { OnOk result (Adds (made_of V.contents code.old) (made_of V.contents code.new)
-        (one (Do event.EndCapture [] 0)
-        ▸ layout.filters V.functions (optional_of V.contents block.now.filter)
-        ▸ layout.target V.functions (expr_tree V.contents block.now.target))) }
-{
-    code.add(Instruction::EndCapture)?;
-    filters_if_any(code, &block.filter)?;
-    assign(code, &block.target)
-}
-
-/// Adds the filters of a chain, if there is one; what they are applied to is on top.
-fn filters_if_any<'s, V: TemplateValue>(
-    code: &mut Emitter<'s, V>,
-    chain: &Option<Expr<'s, V>>,
-) -> Result<(), OutOfMemory>
-    requires { IsChainIfAny (optional_of V.contents chain.now) }
-    ensures { OnOk result (Adds (made_of V.contents code.old) (made_of V.contents code.new)
-        (layout.filters V.functions (optional_of V.contents chain.now))) }
-{
-    match chain {
-        Some(chain) => filters(code, chain),
-        None => Ok(()),
-    }
 }
 
 /// Adds a body that is escaped or not.
@@ -182,20 +128,4 @@ pub(crate) fn filter_block<'s, V: TemplateValue>(
     code.add(Instruction::BeginCapture(CaptureMode::Capture))?;
     body(code, turn, Open::Capture, &block.body)?;
     end_filter_block(code, &block.filter)
-}
-
-/// Ends the capture of a filter block, and writes what its filters make of it.
-fn end_filter_block<'s, V: TemplateValue>(
-    code: &mut Emitter<'s, V>,
-    chain: &Expr<'s, V>,
-) -> Result<(), OutOfMemory>
-    requires { IsChainOfFilters (expr_tree V.contents chain.now) }
-    ensures { OnOk result (Adds (made_of V.contents code.old) (made_of V.contents code.new)
-        (one (Do event.EndCapture [] 0)
-        ▸ layout.expr V.functions (expr_tree V.contents chain.now)
-        ▸ one (Do event.Emit [] 1))) }
-{
-    code.add(Instruction::EndCapture)?;
-    filters(code, chain)?;
-    code.add(Instruction::Emit)
 }

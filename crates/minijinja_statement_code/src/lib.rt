@@ -5,7 +5,4 @@ mod blocks;
 mod conditions;
 mod loops;
 mod macros;
-mod modules;
 pub mod stmt;
-pub mod targets;
-pub mod turn;

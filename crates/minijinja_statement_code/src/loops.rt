@@ -1,30 +1,21 @@
 //! Instructions of loops.
-ghost use Rattle.std.specs.Prelude.{◌≡◌, ◌<◌, map, IsTrue, true, OnOk, IfOk};
+ghost use Rattle.std.specs.Prelude.{map, true, OnOk};
 ghost use Rattle.minijinja_tree.specs.Erasure.{expr_tree, optional_of, stmt_tree};
 ghost use Rattle.minijinja_tree.specs.Tree as tree;
 ghost use Rattle.minijinja_tree.specs.Tree.{stmts_of};
 ghost use Rattle.minijinja_tree.specs.WellFormed.{IsTarget, IsWhole, IsWholeIfAny, AreInner};
-ghost use Rattle.minijinja_meaning.specs.Code.{DupTop};
-ghost use Rattle.minijinja_meaning.specs.Layout as layout;
-ghost use Rattle.minijinja_meaning.specs.Meaning.{loop_flags};
-ghost use Rattle.minijinja_meaning.specs.Pieces.{one, ◌▸◌, leaving};
-ghost use Rattle.minijinja_statement_code.specs.private.AtTurn.{around_of, opened_in};
-ghost use Rattle.minijinja_statement_code.specs.private.Loops.{Begins, EndsBeforeElse, closed, turned};
-ghost use Rattle.minijinja_expression_code.specs.private.Making.{made_of, Adds};
-ghost use Rattle.minijinja_statement_code.specs.private.Turns.{Follows, FollowsStmt};
+ghost use Rattle.minijinja_statement_parts.specs.private.AtTurn.{around_of};
+ghost use Rattle.minijinja_expression_code.specs.private.Making.{made_of};
+ghost use Rattle.minijinja_statement_parts.specs.private.Turns.{FollowsStmt};
 
 use crate::stmt::statements;
-use crate::targets::assign;
-use crate::turn::{Open, Turn};
 use minijinja_base::value::TemplateValue;
-use minijinja_expression_code::branches::lead_on;
 use minijinja_expression_code::emit::Emitter;
-use minijinja_expression_code::expr::expression;
 use minijinja_expression_code::memory::OutOfMemory;
-use minijinja_instructions::instructions::{
-    Instruction, LOOP_FLAG_RECURSIVE, LOOP_FLAG_WITH_LOOP_VAR,
-};
-use minijinja_tree::ast::{Expr, ForLoop};
+use minijinja_instructions::instructions::Instruction;
+use minijinja_statement_parts::loops::{begin, end_before_else, items, turn_back};
+use minijinja_statement_parts::turn::Turn;
+use minijinja_tree::ast::ForLoop;
 
 /// Adds a loop: what gives its items, its turns, and its else body.
 #[cycle(stmt)]
@@ -59,189 +50,5 @@ pub(crate) fn for_loop<'s, V: TemplateValue>(
     let came = end_before_else(code)?;
     statements(code, turn, &each.else_body)?;
     code.fill(came, Instruction::JumpIfFalse(code.target()));
-    Ok(())
-}
-
-/// Adds what gives a loop its items. Where items have to pass a test, a loop of its own keeps those that do, and counts them.
-fn items<'s, V: TemplateValue>(
-    code: &mut Emitter<'s, V>,
-    target: &Expr<'s, V>,
-    iterable: &Expr<'s, V>,
-    test: &Option<Expr<'s, V>>,
-) -> Result<(), OutOfMemory>
-    requires target { IsTarget (expr_tree V.contents target.now) }
-    requires iterable { IsWhole (expr_tree V.contents iterable.now) }
-    requires test { IsWholeIfAny (optional_of V.contents test.now) }
-    ensures { OnOk result (Adds (made_of V.contents code.old) (made_of V.contents code.new)
-        (layout.passing V.functions (expr_tree V.contents target.now)
-        (optional_of V.contents test.now)
-        (layout.expr V.functions (expr_tree V.contents iterable.now)))) }
-{
-    match test {
-        Some(test) => passing_items(code, target, iterable, test),
-        None => expression(code, iterable),
-    }
-}
-
-/// The same where there is a test.
-fn passing_items<'s, V: TemplateValue>(
-    code: &mut Emitter<'s, V>,
-    target: &Expr<'s, V>,
-    iterable: &Expr<'s, V>,
-    test: &Expr<'s, V>,
-) -> Result<(), OutOfMemory>
-    requires target { IsTarget (expr_tree V.contents target.now) }
-    requires iterable { IsWhole (expr_tree V.contents iterable.now) }
-    requires test { IsWhole (expr_tree V.contents test.now) }
-    ensures { OnOk result (Adds (made_of V.contents code.old) (made_of V.contents code.new)
-        (layout.passing V.functions (expr_tree V.contents target.now)
-        (tree.present (expr_tree V.contents test.now))
-        (layout.expr V.functions (expr_tree V.contents iterable.now)))) }
-{
-    code.add(Instruction::LoadConst(V::of_u64(0)))?;
-    expression(code, iterable)?;
-    code.add(Instruction::PushLoop(0))?;
-    let iterate = code.reserve()?;
-    keep_if(code, target, test)?;
-    turn_back(code, iterate, &[])?;
-    code.add(Instruction::PopLoopFrame)?;
-    code.add(Instruction::BuildList(None))
-}
-
-/// Keeps an item below the count, which goes up by one, if a test of it is true, and drops it if not.
-fn keep_if<'s, V: TemplateValue>(
-    code: &mut Emitter<'s, V>,
-    target: &Expr<'s, V>,
-    test: &Expr<'s, V>,
-) -> Result<(), OutOfMemory>
-    requires target { IsTarget (expr_tree V.contents target.now) }
-    requires test { IsWhole (expr_tree V.contents test.now) }
-    ensures { OnOk result (Adds (made_of V.contents code.old) (made_of V.contents code.new)
-        (one DupTop ▸ layout.target V.functions (expr_tree V.contents target.now)
-        ▸ layout.expr V.functions (expr_tree V.contents test.now)
-        ▸ layout.counting V.functions)) }
-{
-    code.add(Instruction::DupTop)?;
-    assign(code, target)?;
-    expression(code, test)?;
-    count_item(code)
-}
-
-/// Counts an item or drops it, as the truth value on top says.
-fn count_item<V: TemplateValue>(code: &mut Emitter<'_, V>) -> Result<(), OutOfMemory>
-    ensures { OnOk result (Adds (made_of V.contents code.old) (made_of V.contents code.new)
-        (layout.counting V.functions)) }
-{
-    let test = code.reserve()?;
-    code.add(Instruction::Swap)?;
-    code.add(Instruction::LoadConst(V::of_u64(1)))?;
-    code.add(Instruction::Add)?;
-    let end = code.reserve()?;
-    code.fill(test, Instruction::JumpIfFalse(code.target()));
-    code.add(Instruction::DiscardTop)?;
-    code.fill(end, Instruction::Jump(code.target()));
-    Ok(())
-}
-
-/// Begins a loop over the items of the value on top, and assigns an item to its target. Answers the loop, for its body; so many
-/// bytes of data nodes came before it.
-fn begin<'s, V: TemplateValue>(
-    code: &mut Emitter<'s, V>,
-    recursive: bool,
-    target: &Expr<'s, V>,
-    data_bytes: usize,
-) -> Result<Turn, OutOfMemory>
-    requires { IsTarget (expr_tree V.contents target.now) }
-    ensures { IfOk result (λ turn. Begins V.functions (expr_tree V.contents target.now) recursive
-        data_bytes (made_of V.contents code.old) (made_of V.contents code.new) (around_of turn)) }
-{
-    code.add(Instruction::PushLoop(flags(recursive)))?;
-    let iterate = code.reserve()?;
-    assign(code, target)?;
-    Ok(Turn::of_loop(code.alloc(), iterate, data_bytes))
-}
-
-/// The flags of a loop, which has a variable of its own.
-fn flags(recursive: bool) -> u8
-    ensures { result ≡ loop_flags recursive }
-{
-    if recursive {
-        LOOP_FLAG_WITH_LOOP_VAR | LOOP_FLAG_RECURSIVE
-    } else {
-        LOOP_FLAG_WITH_LOOP_VAR
-    }
-}
-
-/// Ends the turns of a loop: they begin anew where it asks for its next item, and where there is none, or where it is left, they
-/// lead on from here.
-fn turn_back<V: TemplateValue>(
-    code: &mut Emitter<'_, V>,
-    iterate: usize,
-    breaks: &[usize],
-) -> Result<(), OutOfMemory>
-    ensures { OnOk result (made_of V.contents code.new
-        ≡ turned iterate breaks.now (made_of V.contents code.old)) }
-{
-    code.jump_to(iterate)?;
-    lead_on(code, breaks);
-    code.fill(iterate, Instruction::Iterate(code.target()));
-    Ok(())
-}
-
-/// Ends a loop before its else body, and leaves room for the jump past that. Answers the place of the jump.
-fn end_before_else<V: TemplateValue>(code: &mut Emitter<'_, V>) -> Result<usize, OutOfMemory>
-    ensures { IfOk result (λ place. EndsBeforeElse place (made_of V.contents code.old)
-        (made_of V.contents code.new)) }
-{
-    code.add(Instruction::PushDidNotIterate)?;
-    code.add(Instruction::PopLoopFrame)?;
-    code.reserve()
-}
-
-/// Leaves the loop: closes what is open in it, and leaves room for the jump to its end.
-pub(crate) fn break_loop<V: TemplateValue>(
-    code: &mut Emitter<'_, V>,
-    turn: &mut Turn,
-) -> Result<(), OutOfMemory>
-    requires { IsTrue (around_of turn.old).in_loop }
-    ensures { OnOk result (Follows
-        (around_of turn.old) (made_of V.contents code.old)
-        (around_of turn.new) (made_of V.contents code.new)
-        0 (leaving (λ x. x.break_to) (around_of turn.old).opened)) }
-{
-    close(code, turn.opened())?;
-    let place = code.reserve()?;
-    turn.break_at(place)
-}
-
-/// Goes on with the loop's next item, after closing what is open in the loop.
-pub(crate) fn continue_loop<V: TemplateValue>(
-    code: &mut Emitter<'_, V>,
-    turn: &mut Turn,
-) -> Result<(), OutOfMemory>
-    ensures { OnOk result (Follows
-        (around_of turn.old) (made_of V.contents code.old)
-        (around_of turn.new) (made_of V.contents code.new)
-        0 (leaving (λ x. x.continue_to) (around_of turn.old).opened)) }
-{
-    close(code, turn.opened())?;
-    code.jump_to(turn.iterate())
-}
-
-/// Closes what is open, the innermost, which stands last, first.
-fn close<V: TemplateValue>(code: &mut Emitter<'_, V>, entered: &[Open]) -> Result<(), OutOfMemory>
-    ensures { OnOk result (Adds (made_of V.contents code.old) (made_of V.contents code.new)
-        (closed (opened_in entered.now))) }
-{
-    for opened in entered.iter().rev() {
-        match *opened {
-            Open::Scope => code.add(Instruction::PopFrame)?,
-            Open::AutoEscape => code.add(Instruction::PopAutoEscape)?,
-            Open::Capture => {
-                code.add(Instruction::EndCapture)?;
-                code.add(Instruction::DiscardTop)?;
-            }
-        }
-    }
     Ok(())
 }

@@ -21,7 +21,7 @@ use minijinja_expression_code::memory::OutOfMemory;
 use minijinja_instructions::instructions::{Instruction, Instructions};
 use minijinja_instructions::lists::{LIMIT, listed, too_many};
 use minijinja_statement_code::stmt::statements;
-use minijinja_statement_code::turn::Turn;
+use minijinja_statement_parts::turn::Turn;
 use minijinja_tree::ast::{Block, Stmt};
 use std::alloc::{AllocError, Global};
 use std::collections::BTreeMap;

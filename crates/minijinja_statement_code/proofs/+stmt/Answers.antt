@@ -18,20 +18,20 @@ use Rattle.minijinja_meaning.specs.Code.{Do}
 use Rattle.minijinja_meaning.specs.Events as event
 use Rattle.minijinja_meaning.specs.Layout as layout
 use Rattle.minijinja_meaning.specs.Pieces.{one, ◌▸◌, OpenScope, OpenAutoEscape, OpenCapture}
-use Rattle.minijinja_statement_code.specs.private.AtTurn.{around_of, open_of}
+use Rattle.minijinja_statement_parts.specs.private.AtTurn.{around_of, open_of}
 use Rattle.minijinja_expression_code.specs.private.Branching.{leading_on}
 use Rattle.minijinja_expression_code.specs.private.Callers.{BeginsCall, behind_caller}
-use Rattle.minijinja_statement_code.specs.private.Loops.{Begins, turned}
+use Rattle.minijinja_statement_parts.specs.private.Loops.{Begins, turned}
 use Rattle.minijinja_expression_code.specs.private.Making.{made_of}
 use Rattle.minijinja_statement_code.specs.private.Statements.{MayStand}
-use Rattle.minijinja_statement_code.specs.private.Turns.{Around, FollowsStmts}
+use Rattle.minijinja_statement_parts.specs.private.Turns.{Around, FollowsStmts}
 use Rattle.minijinja_expression_code.proofs.Adding.{adds_as, adds_then}
 use Rattle.minijinja_statement_code.proofs.Bodies.{inner_as, inner_in, inner_here, body_as, body_next, body_end, none_any, some_any, elif_size, inner_stands}
 use Rattle.minijinja_statement_code.proofs.ConditionSteps.{Choosing, none_bytes, choosing_start, choosing_next, choosing_last, choosing_none}
-use Rattle.minijinja_statement_code.proofs.LoopSteps.{loop_follows, loop_else_follows}
+use Rattle.minijinja_statement_parts.proofs.LoopSteps.{loop_follows, loop_else_follows}
 use Rattle.minijinja_expression_code.proofs.Results.{ok_gives}
 use Rattle.minijinja_statement_code.proofs.MacroSteps.{block_call_follows, call_block_follows, counted_inside, declare_follows, macro_added, macro_bytes_as, take_as}
-use Rattle.minijinja_statement_code.proofs.Rounds.{follows_plain, follows_within, follows_closed, stmt_as, onward_start, onward_next, onward_end}
+use Rattle.minijinja_statement_parts.proofs.Rounds.{follows_plain, follows_within, follows_closed, stmt_as, onward_start, onward_next, onward_end}
 use Rattle.minijinja_statement_code.proofs.StatementArms.{data_arm, output_arm, set_arm, for_arm, if_arm, with_arm, set_block_arm, escape_arm, filter_block_arm, block_arm, extends_arm, include_arm, import_arm, from_arm, macro_arm, call_block_arm, do_arm, only_is}
 use Rattle.minijinja_statement_code.proofs.Templates.{tree_is}
 use Rattle.minijinja_statement_code.proofs.+stmt.Goals as goal

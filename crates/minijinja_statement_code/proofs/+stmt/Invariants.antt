@@ -3,10 +3,10 @@ use Rattle.minijinja_tree.specs.Erasure.{expr_tree, stmt_tree}
 use Rattle.minijinja_tree.specs.Tree.{stmts_of, if_cond}
 use Rattle.minijinja_tree.specs.WellFormed.{IsWhole, AreInner}
 use Rattle.minijinja_tree.specs.declared.ast.IfCond.{size-IfCond}
-use Rattle.minijinja_statement_code.specs.private.AtTurn.{around_of}
+use Rattle.minijinja_statement_parts.specs.private.AtTurn.{around_of}
 use Rattle.minijinja_expression_code.specs.private.Making.{made_of}
 use Rattle.minijinja_statement_code.proofs.ConditionSteps.{Choosing}
-use Rattle.minijinja_statement_code.proofs.Rounds.{Onward}
+use Rattle.minijinja_statement_parts.proofs.Rounds.{Onward}
 use Rattle.minijinja_statement_code.proofs.+stmt.Given as goal
 
 abbrev pub invariant-stmt::statements-loop-stmt : goal.invariant-stmt::statements-loop-stmt

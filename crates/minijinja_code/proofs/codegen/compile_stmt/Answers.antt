@@ -2,9 +2,9 @@ use Rattle.std.proofs.Common.{ap, arith, subst}
 use Rattle.minijinja_tree.specs.Erasure.{stmt_tree}
 use Rattle.minijinja_expression_code.specs.private.Making.{Adds, made_of}
 use Rattle.minijinja_statement_code.specs.private.Statements.{stmt_piece}
-use Rattle.minijinja_statement_code.specs.private.Turns.{Around}
+use Rattle.minijinja_statement_parts.specs.private.Turns.{Around}
 use Rattle.minijinja_statement_code.proofs.Bodies.{root_stands}
-use Rattle.minijinja_statement_code.proofs.Rounds.{bytes_outside, stmt_outside}
+use Rattle.minijinja_statement_parts.proofs.Rounds.{bytes_outside, stmt_outside}
 use Rattle.minijinja_code.proofs.codegen.compile_stmt.Goals as goal
 
 pub statement-requires : goal.statement-requires

@@ -1,7 +1,7 @@
 use Rattle.std.proofs.Common.{◌∙◌, ap}
 use Rattle.minijinja_tree.proofs.Rows.{body_of}
 use Rattle.minijinja_expression_code.specs.private.Making.{made_of}
-use Rattle.minijinja_statement_code.specs.private.Turns.{Around}
+use Rattle.minijinja_statement_parts.specs.private.Turns.{Around}
 use Rattle.minijinja_statement_code.proofs.Bodies.{inner_in}
 use Rattle.minijinja_code.proofs.ListParts.{body_added}
 use Rattle.minijinja_code.proofs.codegen.lists.body_code.Goals as goal

@@ -1,0 +1,10 @@
+pub mod Filling
+pub mod Leaving
+pub mod LoopSteps
+pub mod Rounds
+pub mod TargetRows
+pub mod LoopParts
+pub mod Assigning
+pub mod MacroParts
+pub mod ImportParts
+pub mod OnlyRows
