@@ -1,5 +1,5 @@
 //! Instructions round the bodies of if statements.
-ghost use Rattle.std.specs.Prelude.{IsTrue, IfOk, OnOk};
+ghost use Rattle.std.specs.Prelude.{◌↔◌, IsTrue, IfOk, OnOk};
 ghost use Rattle.minijinja_tree.specs.Erasure.{expr_tree};
 ghost use Rattle.minijinja_tree.specs.WellFormed.{IsWhole};
 ghost use Rattle.minijinja_statement_parts.specs.private.Conditions.{IsElif, IsOnly, JumpsPast, Tests};
@@ -41,7 +41,7 @@ pub fn jump_past<V: TemplateValue>(
 
 /// Whether a false body is one if statement and no more.
 pub fn has_elif<V: TemplateValue>(choice: &IfCond<'_, V>) -> bool
-    ensures { IsTrue result → IsElif choice.now.false_body.items }
+    ensures { IsTrue result ↔ IsElif choice.now.false_body.items }
 {
     if choice.false_body.len() != 1 {
         return false;

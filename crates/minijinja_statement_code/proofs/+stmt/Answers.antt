@@ -309,7 +309,7 @@ conditions::condition-loop-ends-init g t c =
     }
 
 pub conditions::condition-elif-part-requires : goal.conditions::condition-elif-part-requires
-conditions::condition-elif-part-requires g t c = c.has_elif.ensures c.if-not-has_elif.false
+conditions::condition-elif-part-requires g t c = c.has_elif.ensures.0 c.if-not-has_elif.false
 
 pub conditions::condition-statements-requires : goal.conditions::condition-statements-requires
 conditions::condition-statements-requires g t c =
