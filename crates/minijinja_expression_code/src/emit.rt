@@ -78,7 +78,9 @@ impl<'s, V: TemplateValue> Emitter<'s, V> {
         ensures { OnOk result (Adds (made_of V.contents self.old) (made_of V.contents self.new)
             (one (instr_of V.contents instruction.entry))) }
     {
-        self.list.push(instruction)?;
+        // What is pushed where there is room is not handed back, and so is made where it stands.
+        self.list.reserve(1)?;
+        self.list.push_reserved(instruction);
         Ok(())
     }
 
