@@ -4,22 +4,14 @@ use Rattle.std.specs.Borrow.{Bor}
 use Rattle.std.proofs.lemmas.List.{reverse-append}
 use Rattle.minijinja_tree.specs.Erasure.{stmt_tree}
 use Rattle.minijinja_tree.specs.Tree as tree
-use Rattle.minijinja_tree.specs.Tree.{done, also}
 use Rattle.minijinja_tree.specs.declared.ast.Stmt.{Stmt}
 use Rattle.minijinja_tree.proofs.Rows.{body_of}
 use Rattle.minijinja_code.specs.private.Lists.{bodies_of, rows_of}
 
 module _ {V K C : Type 0} (c : V → C) where
+  -- the next row, and those after it
   pub row_more : (ws xs : List (Bor (List (Stmt V K)))) (w : Bor (List (Stmt V K))) → xs ≡ ws ++ w ∷ [] → rows_of c xs ≡ body_of c w.now ∷ rows_of c ws
   row_more ws xs w e = ap (rows_of c) e ∙ ap (map (λ (v : Bor (List (Stmt V K))). body_of c v.now)) (reverse-append ws (w ∷ []))
-
-  -- the first statement of the next row is taken from it
-  pub row_taken : (ws xs : List (Bor (List (Stmt V K)))) (w : Bor (List (Stmt V K))) (s : Stmt V K) (ss : List (Stmt V K)) → xs ≡ ws ++ w ∷ [] → w.now ≡ s ∷ ss → rows_of c xs ≡ also (stmt_tree c s) (body_of c ss) ∷ rows_of c ws
-  row_taken ws xs w s ss is first = row_more ws xs w is ∙ ap (λ row. body_of c row ∷ rows_of c ws) first
-
-  -- the next row is at its end
-  pub row_passed : (ws xs : List (Bor (List (Stmt V K)))) (w : Bor (List (Stmt V K))) → xs ≡ ws ++ w ∷ [] → w.now ≡ [] → rows_of c xs ≡ done ∷ rows_of c ws
-  row_passed ws xs w is none = row_more ws xs w is ∙ ap (λ row. body_of c row ∷ rows_of c ws) none
 
   -- the body of a statement that has one
   pub one_body : (s : Stmt V K) {old new : List (tree.Stmts C (Unit {0}))} {xs ys : List (Stmt V K)} → new ≡ body_of c xs ∷ old → xs ≡ ys → bodies_of (stmt_tree c s) ≡ body_of c ys ∷ [] → new ≡ bodies_of (stmt_tree c s) ++ old

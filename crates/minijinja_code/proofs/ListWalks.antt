@@ -1,6 +1,6 @@
 -- The lists of blocks, while statements are walked through.
 use Rattle.std.proofs.Common.{◌≡◌, ◌≢◌, ℕ, zero, suc, ◌+◌, ◌<◌, ◌≤◌, ◌^◌, List, [], ◌∷◌, ◌++◌, length, Some, refl, sym, ap, ◌∙◌, subst, arith, append_assoc}
-use Rattle.std.specs.Prelude.{Bool, true, false, All}
+use Rattle.std.specs.Prelude.{Bool, true, false, All, if◌then◌else◌}
 use Rattle.std.specs.List.{Any}
 use Rattle.std.specs.Borrow.{Bor}
 use Rattle.std.specs.BTreeMap.{BTreeMap}
@@ -14,7 +14,7 @@ use Rattle.minijinja_tree.specs.WellFormed.{IsInner, AreInner, IsMacro, AreDisti
 use Rattle.minijinja_instructions.specs.declared.instructions.Instructions.{Instructions}
 use Rattle.minijinja_meaning.specs.Layout.{block_code}
 use Rattle.minijinja_code.specs.BlockLists.{IsBlockList, list_of, HaveLists, AddsLists}
-use Rattle.minijinja_code.specs.private.Lists.{own_block, macro_body, bodies_of}
+use Rattle.minijinja_code.specs.private.Lists.{are_any, own_block, macro_body, bodies_of, is_nesting, from_nesting}
 use Rattle.minijinja_statement_code.specs.private.Statements.{MayStand, StandsSomewhere}
 
 module _ {C L : Type 0} where
@@ -163,6 +163,29 @@ module _ {C L : Type 0} where
   pub steps_fall : (rows left new : List (Stmts C L)) (s : Stmt C L) (rest : Stmts C L) → rows ≡ also s rest ∷ left → new ≡ bodies_of s ++ rest ∷ left → row_steps new < row_steps rows
   steps_fall rows left new s rest is are = subst (λ l. row_steps new < row_steps l) (sym is) (subst (λ l. row_steps l < row_steps (also s rest ∷ left)) (sym are) (steps_taken s rest left))
 
+none_of : {X : Type 0} (xs : List X) → are_any xs ≡ false → xs ≡ []
+none_of [] h = refl
+none_of (x ∷ xs) h = let some : true ≡ false = h in absurd (cc)
+
+module _ {C L : Type 0} where
+  -- what nothing is nested in is no block
+  no_block : (s : Stmt C L) → bodies_of s ≡ [] → own_block s ≡ []
+  no_block (named_block x required body) h = absurd (cc)
+  no_block _ h = refl
+
+  -- what holds of the statements from one on, if it is one in which others are nested, and of those after it if it is none
+  either : (P : Stmts C L → Type 0) (s : Stmt C L) (rest : Stmts C L) (b : Bool) → is_nesting s ≡ b → P (also s rest) → (is_nesting s ≡ false → P (from_nesting rest)) → P (if b then also s rest else from_nesting rest)
+  either P s rest true is here later = here
+  either P s rest false is here later = later is
+
+  steps_from : (ss : Stmts C L) → all_steps (from_nesting ss) ≤ all_steps ss
+  steps_from done = omega arith
+  steps_from (also s rest) = either (λ ts. all_steps ts ≤ all_steps (also s rest)) s rest (is_nesting s) refl (omega arith) (λ e. omega (arith, steps_from rest))
+
+  -- the walk goes on at the first statement of a row in which others are nested
+  pub steps_to : (rows ws : List (Stmts C L)) (ss ts : Stmts C L) → rows ≡ ss ∷ ws → ts ≡ from_nesting ss → row_steps (ts ∷ ws) ≤ row_steps rows
+  steps_to rows ws ss ts is at = subst (λ l. row_steps (ts ∷ ws) ≤ row_steps l) (sym is) (subst (λ t. row_steps (t ∷ ws) ≤ row_steps (ss ∷ ws)) (sym at) (omega (arith, steps_from ss)))
+
 -- Some or all of a list.
 
 module _ {X : Type 0} (P : X → Type 0) where
@@ -299,6 +322,19 @@ module _ {V E C L F : Type 0} (f : Functions C F) (contents : V → C) (source f
 
     pub walk_too_long : {now : BTreeMap (Bor Text) (Instructions V E)} (rows ws : List (Stmts C L)) (s : Stmt C L) (rest : Stmts C L) → rows ≡ also s rest ∷ ws → Walking whole first rows now → Any (TooLong f) (own_block s) → Any (TooLong f) whole
     walk_too_long {now} rows ws s rest is w long = walk_long s rest ws (subst (λ l. Walking whole first l now) is w) long
+
+    -- a statement in which none are nested is passed
+    walk_leaf : {now : BTreeMap (Bor Text) (Instructions V E)} (s : Stmt C L) (rest : Stmts C L) (rows : List (Stmts C L)) → bodies_of s ≡ [] → Walking whole first (also s rest ∷ rows) now → Walking whole first (rest ∷ rows) now
+    walk_leaf {now} s rest rows none w =
+        subst (λ bs. Walking whole first (bs ++ rest ∷ rows) now) none (walk_next s rest rows w (subst (λ bs. AddsLists f contents source filename bs now now) (sym (no_block s none)) (adds_none now)))
+
+    walk_from : {now : BTreeMap (Bor Text) (Instructions V E)} (ss : Stmts C L) (rows : List (Stmts C L)) → Walking whole first (ss ∷ rows) now → Walking whole first (from_nesting ss ∷ rows) now
+    walk_from done rows w = w
+    walk_from {now} (also s rest) rows w =
+        either (λ ts. Walking whole first (ts ∷ rows) now) s rest (is_nesting s) refl w (λ e. walk_from rest rows (walk_leaf s rest rows (none_of (bodies_of s) e) w))
+
+    pub walk_to : {now : BTreeMap (Bor Text) (Instructions V E)} (rows ws : List (Stmts C L)) (ss ts : Stmts C L) → rows ≡ ss ∷ ws → ts ≡ from_nesting ss → Walking whole first rows now → Walking whole first (ts ∷ ws) now
+    walk_to {now} rows ws ss ts is at w = subst (λ t. Walking whole first (t ∷ ws) now) (sym at) (walk_from ss ws (subst (λ l. Walking whole first l now) is w))
 
     -- a row at its end
     pub walk_less : {now : BTreeMap (Bor Text) (Instructions V E)} (rows : List (Stmts C L)) → Walking whole first (done ∷ rows) now → Walking whole first rows now

@@ -24,6 +24,7 @@ mod lists;
 
 use crate::codegen::lists::{Lists, add_lists};
 use minijinja_base::error::Error;
+use minijinja_base::tokens::Span;
 use minijinja_base::value::{TemplateValue, Value};
 use minijinja_expression_code::emit::Emitter;
 use minijinja_expression_code::expr::expression;
@@ -307,7 +308,32 @@ fn compile_stmt<'s, V: TemplateValue>(
     Ok(turn.data_bytes())
 }
 
-/// Makes room for the code of a template, most of whose statements make two instructions or more.
+/// The most instructions for which there is room before a template's statements are counted.
+const MOST_ROOM: usize = 1 << 10;
+
+/// How much room the code of a template may want, which has so many statements and bytes: most statements make two instructions or
+/// more, and a text that is dense with tags, one for four bytes or so.
+fn room_for(statements: usize, bytes: usize) -> usize {
+    statements.saturating_mul(2).max((bytes / 4).min(MOST_ROOM))
+}
+
+/// The bytes of a template outside of its blocks, whose code has lists of its own.
+fn own_bytes<V: TemplateValue>(children: &[Stmt<'_, V>], whole: Span) -> usize {
+    let mut bytes = bytes_of(whole);
+    for child in children {
+        if let Stmt::Block(block) = child {
+            bytes = bytes.saturating_sub(bytes_of(block.span()));
+        }
+    }
+    bytes
+}
+
+/// How many bytes stand within a span.
+fn bytes_of(span: Span) -> usize {
+    span.end_offset.saturating_sub(span.start_offset) as usize
+}
+
+/// Makes room for the code of a template.
 fn make_room<'s, V: TemplateValue>(
     code: &mut Emitter<'s, V>,
     stmt: &Stmt<'s, V>,
@@ -316,7 +342,9 @@ fn make_room<'s, V: TemplateValue>(
 {
     match stmt {
         Stmt::Template(template) => {
-            code.make_room(template.node().children.len().saturating_mul(2))
+            let children = &template.node().children;
+            let bytes = own_bytes(children, template.span());
+            code.make_room(room_for(children.len(), bytes))
         }
         _ => Ok(()),
     }

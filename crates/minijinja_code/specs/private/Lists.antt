@@ -1,11 +1,11 @@
 -- The lists of blocks while they are being made.
-use Rattle.std.specs.Prelude.{List, [], ◌∷◌, map, reverse}
+use Rattle.std.specs.Prelude.{Bool, true, false, List, [], ◌∷◌, map, reverse, if◌then◌else◌}
 use Rattle.std.specs.Borrow.{Bor}
 use Rattle.std.specs.BTreeMap.{BTreeMap}
 use Rattle.minijinja_syntax.specs.Texts.{Text}
 use Rattle.minijinja_tree.specs.Erasure.{stmt_tree}
 use Rattle.minijinja_tree.specs.Tree as tree
-use Rattle.minijinja_tree.specs.Tree.{template, data_text, output, assignment, for_loop, if_cond, with_block, set_block, auto_escape, filter_block, named_block, extends, include, import_all, from_import, declare, call_block, do_call, break_loop, continue_loop, Stmts, Macro, macro, Block, stmts_of}
+use Rattle.minijinja_tree.specs.Tree.{template, data_text, output, assignment, for_loop, if_cond, with_block, set_block, auto_escape, filter_block, named_block, extends, include, import_all, from_import, declare, call_block, do_call, break_loop, continue_loop, Stmts, done, also, Macro, macro, Block, stmts_of}
 use Rattle.minijinja_tree.specs.declared.ast.Block.{Block as BlockNode}
 use Rattle.minijinja_tree.specs.declared.ast.Stmt.{Stmt}
 use Rattle.minijinja_instructions.specs.declared.instructions.Instructions.{Instructions}
@@ -56,6 +56,20 @@ bodies_of (call_block e args m) = macro_body m ∷ []
 bodies_of (do_call e args) = []
 bodies_of break_loop = []
 bodies_of continue_loop = []
+
+-- whether there are any
+abbrev pub are_any : {X : Type 0} → List X → Bool
+are_any [] = false
+are_any (x ∷ xs) = true
+
+-- whether others are nested in the statement
+abbrev pub is_nesting : {C L : Type 0} → tree.Stmt C L → Bool
+is_nesting s = are_any (bodies_of s)
+
+-- the statements from the first one on in which others are nested
+abbrev pub from_nesting : {C L : Type 0} → Stmts C L → Stmts C L
+from_nesting done = done
+from_nesting (also s rest) = if is_nesting s then also s rest else from_nesting rest
 
 -- rows of statements that wait, the next one first
 abbrev pub rows_of : {V F C : Type 0} → (V → C) → List (Bor (List (Stmt V F))) → List (Stmts C (Unit {0}))

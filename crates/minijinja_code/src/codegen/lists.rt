@@ -9,7 +9,7 @@ ghost use Rattle.minijinja_instructions.specs.InstructionLists.{IsAddError};
 ghost use Rattle.minijinja_instructions.specs.Instructions.{instr_of};
 ghost use Rattle.minijinja_code.specs.BlockLists.{AddsLists};
 ghost use Rattle.minijinja_code.specs.Generator.{HaveTooLong, IsUnplaced};
-ghost use Rattle.minijinja_code.specs.private.Lists.{block_tree, bodies_of, file_in, lists_of, own_block, rows_of, text_in};
+ghost use Rattle.minijinja_code.specs.private.Lists.{block_tree, bodies_of, file_in, from_nesting, is_nesting, lists_of, own_block, rows_of, text_in};
 ghost use Rattle.minijinja_statement_code.specs.private.Statements.{StandsSomewhere};
 ghost use Rattle.minijinja_expression_code.specs.private.Making.{capped};
 ghost use Rattle.minijinja_meaning.specs.Layout as layout;
@@ -56,13 +56,53 @@ pub(super) fn add_lists<'s, V: TemplateValue>(
     add_list_of(lists, alloc, stmt)?;
     push_bodies(&mut rows, stmt)?;
     while let Some(row) = rows.pop() {
-        if let Some((stmt, rest)) = row.split_first() {
+        if let Some((stmt, rest)) = nesting(row).split_first() {
             push_row(&mut rows, rest)?;
             add_list_of(lists, alloc, stmt)?;
             push_bodies(&mut rows, stmt)?;
         }
     }
     Ok(())
+}
+
+/// The statements from the first one on in which others are nested. Most have none nested in them, and cost little so.
+fn nesting<'a, 's, V: TemplateValue>(row: &'a [Stmt<'s, V>]) -> &'a [Stmt<'s, V>]
+    ensures { stmts_of (map (stmt_tree V.contents) result.now)
+        ≡ from_nesting (stmts_of (map (stmt_tree V.contents) row.now)) }
+{
+    let mut first = 0;
+    while first < row.len() && !nests(&row[first]) {
+        first += 1;
+    }
+    &row[first..]
+}
+
+/// Whether other statements are nested in the statement.
+fn nests<V: TemplateValue>(stmt: &Stmt<'_, V>) -> bool
+    ensures { result ≡ is_nesting (stmt_tree V.contents stmt.now) }
+{
+    match stmt {
+        Stmt::Template(_) => true,
+        Stmt::ForLoop(_) => true,
+        Stmt::IfCond(_) => true,
+        Stmt::WithBlock(_) => true,
+        Stmt::SetBlock(_) => true,
+        Stmt::AutoEscape(_) => true,
+        Stmt::FilterBlock(_) => true,
+        Stmt::Block(_) => true,
+        Stmt::Macro(_) => true,
+        Stmt::CallBlock(_) => true,
+        Stmt::EmitExpr(_) => false,
+        Stmt::EmitRaw(_) => false,
+        Stmt::Set(_) => false,
+        Stmt::Import(_) => false,
+        Stmt::FromImport(_) => false,
+        Stmt::Extends(_) => false,
+        Stmt::Include(_) => false,
+        Stmt::Continue(_) => false,
+        Stmt::Break(_) => false,
+        Stmt::Do(_) => false,
+    }
 }
 
 /// Adds the bodies of a statement to rows that wait, the first one last.

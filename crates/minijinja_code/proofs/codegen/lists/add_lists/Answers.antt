@@ -1,9 +1,9 @@
-use Rattle.std.proofs.Common.{rules, ◌≡◌, ◌∙◌, ◌++◌, ◌∷◌, [], ap, refl, subst}
+use Rattle.std.proofs.Common.{rules, arith, ◌≡◌, ◌∙◌, ◌++◌, ◌∷◌, [], ap, refl, subst}
 use Rattle.std.specs.Prelude.{false}
 use Rattle.std.proofs.lemmas.List.{nil_from_length}
 use Rattle.std.proofs.lemmas.Option.{MatchOption-at_none}
 use Rattle.minijinja_tree.specs.Erasure.{stmt_tree}
-use Rattle.minijinja_tree.specs.Tree.{blocks, also}
+use Rattle.minijinja_tree.specs.Tree.{blocks, done, also}
 use Rattle.minijinja_tree.proofs.Rows.{body_of}
 use Rattle.minijinja_syntax.specs.Errors.{kind_of}
 use Rattle.minijinja_syntax.specs.declared.error.ErrorKind.TheVariants.{TooManyInstructions}
@@ -11,8 +11,8 @@ use Rattle.minijinja_code.specs.BlockLists.{AddsLists}
 use Rattle.minijinja_code.specs.Generator.{HaveTooLong}
 use Rattle.minijinja_code.specs.private.Lists.{bodies_of, file_in, lists_of, own_block, rows_of, text_in}
 use Rattle.minijinja_statement_code.proofs.Bodies.{root_stands}
-use Rattle.minijinja_code.proofs.ListRows.{row_taken, row_passed}
-use Rattle.minijinja_code.proofs.ListWalks.{Walking, steps_fall, walk_end, walk_may, walk_on, walk_passes, walk_start, walk_too_long}
+use Rattle.minijinja_code.proofs.ListRows.{row_more}
+use Rattle.minijinja_code.proofs.ListWalks.{Walking, steps_fall, steps_to, walk_end, walk_may, walk_on, walk_passes, walk_start, walk_to, walk_too_long}
 use Rattle.minijinja_code.proofs.OwnBlocks.{passed_on}
 use Rattle.minijinja_code.proofs.codegen.lists.add_lists.Goals as goal
 
@@ -35,9 +35,13 @@ pub add_list_of-requires-in-Some-split_first : goal.add_list_of-requires-in-Some
 add_list_of-requires-in-Some-split_first g c =
     let v = g.V.TemplateValue.contents in
     let l = c.loop-row in
-    let taken = row_taken v c.pop.new.self.items l.rows.items c.in-Some.row c.in-Some-split_first.stmt.now c.in-Some-split_first.rest.now c.in-Some.ensures.items c.in-Some-split_first.ensures.cases.0 in
+    let left = rows_of v c.pop.new.self.items in
+    let ahead = body_of v c.nesting.result.now in
+    let row : rows_of v l.rows.items ≡ body_of v c.in-Some.row.now ∷ left = row_more v c.pop.new.self.items l.rows.items c.in-Some.row c.in-Some.ensures.items in
     walk_may g.V.TemplateValue.functions v (text_in c.args.lists.now) (file_in c.args.lists.now) (blocks (stmt_tree v c.args.stmt.now)) c.requires.1 (lists_of c.args.lists.now)
-    (rows_of v l.rows.items) (rows_of v c.pop.new.self.items) (stmt_tree v c.in-Some-split_first.stmt.now) (body_of v c.in-Some-split_first.rest.now) taken l.invariant.walking
+    (ahead ∷ left) left (stmt_tree v c.in-Some-split_first.stmt.now) (body_of v c.in-Some-split_first.rest.now) (ap (λ ss. body_of v ss ∷ left) c.in-Some-split_first.ensures.cases.0)
+    (walk_to g.V.TemplateValue.functions v (text_in c.args.lists.now) (file_in c.args.lists.now) (blocks (stmt_tree v c.args.stmt.now)) c.requires.1 (lists_of c.args.lists.now)
+    (rows_of v l.rows.items) left (body_of v c.in-Some.row.now) ahead row c.nesting.ensures l.invariant.walking)
 
 pub loop-row-preserved-in-Continue-branch-5 : goal.loop-row-preserved-in-Continue-branch-5
 loop-row-preserved-in-Continue-branch-5 g c =
@@ -45,15 +49,19 @@ loop-row-preserved-in-Continue-branch-5 g c =
     let f = g.V.TemplateValue.functions in
     let l = c.loop-row in
     let left = rows_of v c.pop.new.self.items in
+    let ahead = body_of v c.nesting.result.now in
+    let row : rows_of v l.rows.items ≡ body_of v c.in-Some.row.now ∷ left = row_more v c.pop.new.self.items l.rows.items c.in-Some.row c.in-Some.ensures.items in
     let s = stmt_tree v c.in-Some-split_first.stmt.now in
     let rest = body_of v c.in-Some-split_first.rest.now in
     let new = rows_of v c.push_bodies-in-Some-split_first.new.rows.items in
     let added = c.in_ok-add_list_of-2.ensures.added in
-    let taken : rows_of v l.rows.items ≡ also s rest ∷ left = row_taken v c.pop.new.self.items l.rows.items c.in-Some.row c.in-Some-split_first.stmt.now c.in-Some-split_first.rest.now c.in-Some.ensures.items c.in-Some-split_first.ensures.cases.0 in
+    let taken : ahead ∷ left ≡ also s rest ∷ left = ap (λ ss. body_of v ss ∷ left) c.in-Some-split_first.ensures.cases.0 in
     let more : new ≡ bodies_of s ++ rest ∷ left = c.in_ok-push_bodies-2.ensures ∙ ap (λ rows. bodies_of s ++ rows) c.in_ok-push_row.ensures in
     record {
       walking = walk_on f v (text_in c.args.lists.now) (file_in c.args.lists.now) (blocks (stmt_tree v c.args.stmt.now)) c.requires.1 (lists_of c.args.lists.now) {now = lists_of l.lists} {next = lists_of c.add_list_of-in-Some-split_first.new.lists}
-          (rows_of v l.rows.items) left new s rest taken more l.invariant.walking
+          (ahead ∷ left) left new s rest taken more
+          (walk_to g.V.TemplateValue.functions v (text_in c.args.lists.now) (file_in c.args.lists.now) (blocks (stmt_tree v c.args.stmt.now)) c.requires.1 (lists_of c.args.lists.now)
+          (rows_of v l.rows.items) left (body_of v c.in-Some.row.now) ahead row c.nesting.ensures l.invariant.walking)
           (subst (λ t. AddsLists f v t (file_in c.args.lists.now) (own_block s) (lists_of l.lists) (lists_of c.add_list_of-in-Some-split_first.new.lists)) l.invariant.source
           (subst (λ n. AddsLists f v (text_in l.lists) n (own_block s) (lists_of l.lists) (lists_of c.add_list_of-in-Some-split_first.new.lists)) l.invariant.name added));
       name = c.add_list_of-in-Some-split_first.ensures.name ∙ l.invariant.name;
@@ -65,21 +73,28 @@ loop-row-smaller-in-Continue-branch-5 g c =
     let v = g.V.TemplateValue.contents in
     let l = c.loop-row in
     let left = rows_of v c.pop.new.self.items in
+    let ahead = body_of v c.nesting.result.now in
+    let row : rows_of v l.rows.items ≡ body_of v c.in-Some.row.now ∷ left = row_more v c.pop.new.self.items l.rows.items c.in-Some.row c.in-Some.ensures.items in
     let s = stmt_tree v c.in-Some-split_first.stmt.now in
     let rest = body_of v c.in-Some-split_first.rest.now in
     let new = rows_of v c.push_bodies-in-Some-split_first.new.rows.items in
-    let taken : rows_of v l.rows.items ≡ also s rest ∷ left = row_taken v c.pop.new.self.items l.rows.items c.in-Some.row c.in-Some-split_first.stmt.now c.in-Some-split_first.rest.now c.in-Some.ensures.items c.in-Some-split_first.ensures.cases.0 in
+    let taken : ahead ∷ left ≡ also s rest ∷ left = ap (λ ss. body_of v ss ∷ left) c.in-Some-split_first.ensures.cases.0 in
     let more : new ≡ bodies_of s ++ rest ∷ left = c.in_ok-push_bodies-2.ensures ∙ ap (λ rows. bodies_of s ++ rows) c.in_ok-push_row.ensures in
-    steps_fall (rows_of v l.rows.items) left new s rest taken more
+    omega (arith, steps_fall (ahead ∷ left) left new s rest taken more, steps_to (rows_of v l.rows.items) left (body_of v c.in-Some.row.now) ahead row c.nesting.ensures)
 
 pub loop-row-preserved : goal.loop-row-preserved
 loop-row-preserved g c =
     let v = g.V.TemplateValue.contents in
     let l = c.loop-row in
-    let passed = row_passed v c.pop.new.self.items l.rows.items c.in-Some.row c.in-Some.ensures.items (nil_from_length c.in-Some.row.now (MatchOption-at_none _ _ c.in_default-split_first.is c.split_first.ensures.cases)) in
+    let left = rows_of v c.pop.new.self.items in
+    let ahead = body_of v c.nesting.result.now in
+    let row : rows_of v l.rows.items ≡ body_of v c.in-Some.row.now ∷ left = row_more v c.pop.new.self.items l.rows.items c.in-Some.row c.in-Some.ensures.items in
+    let passed : ahead ∷ left ≡ done ∷ left = ap (λ ss. body_of v ss ∷ left) (nil_from_length c.nesting.result.now (MatchOption-at_none _ _ c.in_default-split_first.is c.split_first.ensures.cases)) in
     record {
       walking = walk_passes g.V.TemplateValue.functions v (text_in c.args.lists.now) (file_in c.args.lists.now) (blocks (stmt_tree v c.args.stmt.now)) c.requires.1 (lists_of c.args.lists.now)
-          (rows_of v l.rows.items) (rows_of v c.pop.new.self.items) passed l.invariant.walking;
+          (ahead ∷ left) left passed
+          (walk_to g.V.TemplateValue.functions v (text_in c.args.lists.now) (file_in c.args.lists.now) (blocks (stmt_tree v c.args.stmt.now)) c.requires.1 (lists_of c.args.lists.now)
+          (rows_of v l.rows.items) left (body_of v c.in-Some.row.now) ahead row c.nesting.ensures l.invariant.walking);
       name = l.invariant.name;
       source = l.invariant.source;
     }
@@ -100,7 +115,11 @@ returns-in_err-add_list_of-2-clause-too_many g c =
     let f = g.V.TemplateValue.functions in
     let whole = blocks (stmt_tree v c.args.stmt.now) in
     let l = c.loop-row in
-    let taken = row_taken v c.pop.new.self.items l.rows.items c.in-Some.row c.in-Some-split_first.stmt.now c.in-Some-split_first.rest.now c.in-Some.ensures.items c.in-Some-split_first.ensures.cases.0 in
+    let left = rows_of v c.pop.new.self.items in
+    let ahead = body_of v c.nesting.result.now in
+    let row : rows_of v l.rows.items ≡ body_of v c.in-Some.row.now ∷ left = row_more v c.pop.new.self.items l.rows.items c.in-Some.row c.in-Some.ensures.items in
     passed_on (λ e. kind_of e ≡ TooManyInstructions → HaveTooLong f whole) c.from_residual-in_err-add_list_of-2.result c.in_err-add_list_of-2.field-0.0 c.from_residual-in_err-add_list_of-2.ensures.1
     (λ k. walk_too_long f v (text_in c.args.lists.now) (file_in c.args.lists.now) whole c.requires.1 (lists_of c.args.lists.now)
-    (rows_of v l.rows.items) (rows_of v c.pop.new.self.items) (stmt_tree v c.in-Some-split_first.stmt.now) (body_of v c.in-Some-split_first.rest.now) taken l.invariant.walking (c.in_err-add_list_of-2.ensures.too_many k))
+    (ahead ∷ left) left (stmt_tree v c.in-Some-split_first.stmt.now) (body_of v c.in-Some-split_first.rest.now) (ap (λ ss. body_of v ss ∷ left) c.in-Some-split_first.ensures.cases.0)
+    (walk_to g.V.TemplateValue.functions v (text_in c.args.lists.now) (file_in c.args.lists.now) (blocks (stmt_tree v c.args.stmt.now)) c.requires.1 (lists_of c.args.lists.now)
+    (rows_of v l.rows.items) left (body_of v c.in-Some.row.now) ahead row c.nesting.ensures l.invariant.walking) (c.in_err-add_list_of-2.ensures.too_many k))
