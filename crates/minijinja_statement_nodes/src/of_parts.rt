@@ -17,38 +17,6 @@ use minijinja_tree::nodes;
 use std::alloc::{AllocError, Global};
 use std::mem;
 
-/// Text as it stands in the source.
-fn data<'s, V: TemplateValue>(
-    alloc: Global,
-    parts: &mut StatementParts<&'s str, Expr<'s, V>, Stmt<'s, V>>,
-    span: Span,
-) -> Result<Stmt<'s, V>, AllocError>
-    requires { parts.old.kind ≡ kind.Data }
-    ensures tree { IfOk result (λ s. stmt_node V.contents s ≡ statement_tree (λ x. x.now)
-        (expr_node V.contents) (stmt_node V.contents) parts.old span) }
-{
-    match parts.name {
-        Some(raw) => nodes::data(alloc, raw, span),
-        None => nodes::break_loop(alloc, span),
-    }
-}
-
-/// The output of an expression.
-fn output<'s, V: TemplateValue>(
-    alloc: Global,
-    parts: &mut StatementParts<&'s str, Expr<'s, V>, Stmt<'s, V>>,
-    span: Span,
-) -> Result<Stmt<'s, V>, AllocError>
-    requires { parts.old.kind ≡ kind.Output }
-    ensures tree { IfOk result (λ s. stmt_node V.contents s ≡ statement_tree (λ x. x.now)
-        (expr_node V.contents) (stmt_node V.contents) parts.old span) }
-{
-    match parts.expr.take() {
-        Some(expr) => nodes::output(alloc, expr, span),
-        None => nodes::break_loop(alloc, span),
-    }
-}
-
 /// An assignment.
 fn assignment<'s, V: TemplateValue>(
     alloc: Global,
@@ -350,8 +318,6 @@ pub fn statement<'s, V: TemplateValue>(
         (expr_node V.contents) (stmt_node V.contents) parts.old span) }
 {
     match parts.kind {
-        Kind::Data => data(alloc, parts, span),
-        Kind::Output => output(alloc, parts, span),
         Kind::Set => assignment(alloc, parts, span),
         Kind::Template => template(alloc, parts, span),
         Kind::For => for_loop(alloc, parts, span),

@@ -1,4 +1,6 @@
 //! The statements of a tree.
+#![tactic(auto, unfolding(crate::specs::private::Parts::parts_tree))]
+
 ghost use Rattle.std.specs.Prelude.{◌≡◌, IfOk};
 ghost use Rattle.std.specs.Option.{option_map};
 ghost use Rattle.minijinja_syntax.specs.Tokens.{tok_of};
@@ -9,6 +11,7 @@ ghost use Rattle.minijinja_grammar.specs.Templates.{template_at};
 ghost use Rattle.minijinja_stream.specs.private.Forms.{expr_of, ident_of};
 ghost use Rattle.minijinja_stream.specs.private.Reads.{Reads};
 ghost use Rattle.minijinja_templates.specs.private.Made.{opening_of, opening_tok, statement_tree, target_tree};
+ghost use Rattle.minijinja_statement_nodes.specs.private.Parts.{parts_tree};
 
 use crate::of_parts;
 use minijinja_base::tokens::{Span, Token};
@@ -23,8 +26,20 @@ use minijinja_stream::tokens::{ident, new_ident};
 use minijinja_templates::rules::statements;
 use minijinja_templates::statements::{Opening, StatementParts, Statements, Target};
 use minijinja_tree::ast::{Expr, Stmt};
+use minijinja_tree::nodes as tree_nodes;
 use std::alloc::{AllocError, Global};
 use std::marker::PhantomData;
+
+/// What a statement is made of. Most statements are data or an output, and these have one part.
+#[derive(Drop)]
+pub enum Parts<N, E, S> {
+    /// Text as it stands in the source.
+    Data(N),
+    /// What is written.
+    Output(E),
+    /// The parts of any other statement.
+    Other(StatementParts<N, E, S>),
+}
 
 /// What is made of the parts of a statement. The rules are called for any such type, and not for the type of statements: all that
 /// they ask of what is made is compared at each type that they are called for, and at that type it costs more than can be checked.
@@ -35,10 +50,10 @@ pub trait OfParts<'s, V: TemplateValue>: Drop {
     /// The statement of these parts. Refused memory is the only error.
     fn of_parts(
         alloc: Global,
-        parts: StatementParts<&'s str, Expr<'s, V>, Self>,
+        parts: Parts<&'s str, Expr<'s, V>, Self>,
         span: Span,
     ) -> Result<Self, AllocError>
-        ensures { IfOk result (λ s. node V.Contents V.contents s ≡ statement_tree (λ x. x.now)
+        ensures { IfOk result (λ s. node V.Contents V.contents s ≡ parts_tree (λ x. x.now)
             (expr_node V.contents) (node V.Contents V.contents) parts.entry span) };
 }
 
@@ -47,13 +62,17 @@ impl<'s, V: TemplateValue> OfParts<'s, V> for Stmt<'s, V> {
 
     fn of_parts(
         alloc: Global,
-        mut parts: StatementParts<&'s str, Expr<'s, V>, Stmt<'s, V>>,
+        parts: Parts<&'s str, Expr<'s, V>, Stmt<'s, V>>,
         span: Span,
     ) -> Result<Stmt<'s, V>, AllocError>
-        ensures { IfOk result (λ s. stmt_node V.contents s ≡ statement_tree (λ x. x.now)
+        ensures { IfOk result (λ s. stmt_node V.contents s ≡ parts_tree (λ x. x.now)
             (expr_node V.contents) (stmt_node V.contents) parts.entry span) }
     {
-        of_parts::statement(alloc, &mut parts, span)
+        match parts {
+            Parts::Data(raw) => tree_nodes::data(alloc, raw, span),
+            Parts::Output(expr) => tree_nodes::output(alloc, expr, span),
+            Parts::Other(mut parts) => of_parts::statement(alloc, &mut parts, span),
+        }
     }
 }
 
@@ -150,6 +169,19 @@ impl<'s, 'c, V: TemplateValue, S: OfParts<'s, V>> Statements for TreeStatements<
         }
     }
 
+    fn data(&self, raw: &'s str, span: Span) -> Result<S, AllocError>
+        ensures { IfOk result (λ s. S.node V.Contents V.contents s ≡ tree.data_text raw.now span) }
+    {
+        S::of_parts(self.nodes.alloc, Parts::Data(raw), span)
+    }
+
+    fn output(&self, expr: Expr<'s, V>, span: Span) -> Result<S, AllocError>
+        ensures { IfOk result (λ s. S.node V.Contents V.contents s
+            ≡ tree.output (expr_node V.contents expr.entry) span) }
+    {
+        S::of_parts(self.nodes.alloc, Parts::Output(expr), span)
+    }
+
     fn statement(
         &self,
         parts: StatementParts<&'s str, Expr<'s, V>, S>,
@@ -158,7 +190,7 @@ impl<'s, 'c, V: TemplateValue, S: OfParts<'s, V>> Statements for TreeStatements<
         ensures { IfOk result (λ s. S.node V.Contents V.contents s ≡ statement_tree (λ x. x.now)
             (expr_node V.contents) (S.node V.Contents V.contents) parts.entry span) }
     {
-        S::of_parts(self.nodes.alloc, parts, span)
+        S::of_parts(self.nodes.alloc, Parts::Other(parts), span)
     }
 }
 

@@ -4,6 +4,7 @@ ghost use Rattle.std.specs.Prelude.{◌≡◌, [], false, IfOk, None};
 ghost use Rattle.std.specs.Option.{option_map};
 ghost use Rattle.minijinja_syntax.specs.Texts.{Text};
 ghost use Rattle.minijinja_value.specs.Values.{Functions};
+ghost use Rattle.minijinja_tree.specs.SpannedTrees as form;
 ghost use Rattle.minijinja_tree.specs.SpannedTrees.{Expr, Stmt};
 ghost use Rattle.minijinja_stream.specs.private.Forms.{expr_of, ident_of};
 ghost use Rattle.minijinja_templates.specs.private.Made.{opening_of, opening_tok, statement_tree, target_tree};
@@ -37,11 +38,9 @@ pub enum Target<N, E> {
     List(Vec<E>),
 }
 
-/// What kind of statement it is.
+/// What kind of statement it is. Data and outputs, which most parts of a template are, have one part each and no kind.
 #[derive(Clone, Copy)]
 pub enum Kind {
-    Data,
-    Output,
     Set,
     Template,
     For,
@@ -67,10 +66,10 @@ pub enum Kind {
 #[derive(Drop)]
 pub struct StatementParts<N, E, S> {
     pub kind: Kind,
-    /// Text as it stands in the source, or a name.
+    /// A name.
     pub name: Option<N>,
     pub target: Option<E>,
-    /// What is written, assigned, tested, gone through or called, the chain of filters of a filter block, or the name of a template.
+    /// What is assigned, tested, gone through or called, the chain of filters of a filter block, or the name of a template.
     pub expr: Option<E>,
     /// The test that an item of a loop has to pass, or the filters of a set block.
     pub filter: Option<E>,
@@ -181,6 +180,14 @@ pub trait Statements: Copy {
     fn opening(token: &<Self::Input as Tokens>::Token) -> Option<Opening<Self::Name>>
         ensures { option_map (opening_tok text) result ≡ opening_of
             (Self.Input.tok token.now) };
+
+    /// Text outside of tags. Refused memory is the only error.
+    fn data(&self, raw: Self::Name, span: Span) -> Result<Self::Stmt, AllocError>
+        ensures { IfOk result (λ s. stmt s ≡ form.data_text (text raw) span) };
+
+    /// The output of an expression. Refused memory is the only error.
+    fn output(&self, expr: Self::Expr, span: Span) -> Result<Self::Stmt, AllocError>
+        ensures { IfOk result (λ s. stmt s ≡ form.output (tree expr) span) };
 
     /// A statement of these parts. Refused memory is the only error.
     fn statement(

@@ -58,8 +58,6 @@ call_block_tree (Some c) m s = tree.call_block c.0 c.1 c.2 m s
 
 -- the statement of a kind, of its parts
 abbrev pub tree_of : {C : Type 0} → Kind → Option Text → (target expr filter : Option (Expr C)) → List (Expr C × Expr C) → List (Expr C × Option (Expr C)) → (body other : List (Stmt C)) → Bool → Span → Stmt C
-tree_of kind.Data (Some x) t e f bs ns b o r s = tree.data_text x s
-tree_of kind.Output x t (Some e) f bs ns b o r s = tree.output e s
 tree_of kind.Set x (Some t) (Some e) f bs ns b o r s = tree.assignment t e s
 tree_of kind.Template x t e f bs ns b o r s = tree.template (stmts_of b) s
 tree_of kind.For x (Some t) (Some e) f bs ns b o r s = tree.for_loop t e (optional_of f) r (stmts_of b) (stmts_of o) s

@@ -9,7 +9,6 @@ ghost use Rattle.minijinja_templates.specs.private.Blanks.{blank_at};
 ghost use Rattle.minijinja_templates.specs.private.Blocks.{block_end, block_head};
 ghost use Rattle.minijinja_templates.specs.private.Parses.{Nests, Parses, context_of};
 
-use crate::rules::bodies::data;
 use crate::rules::{Context, Rules};
 use crate::statements::{Kind, Opening, Statements, of_kind};
 use minijinja_base::error::Expected;
@@ -42,7 +41,7 @@ fn blank_part<S: Statements>(
             if !is_blank(S::letters(&raw)) {
                 return Err(tokens.misfit(Wanted::Blank));
             }
-            Ok(Some(data(statements, raw, span)?))
+            Ok(Some(statements.data(raw, span)?))
         }
         Some(Opening::Output) => Err(tokens.misfit(Wanted::Blank)),
         Some(Opening::Statement) => Ok(None),

@@ -1,7 +1,6 @@
 //! Bodies, a part at a time.
-ghost use Rattle.std.specs.Prelude.{◌≡◌, map, IfOk};
+ghost use Rattle.std.specs.Prelude.{map};
 ghost use Rattle.std.specs.Option.{option_map};
-ghost use Rattle.minijinja_tree.specs.SpannedTrees.{data_text};
 ghost use Rattle.minijinja_grammar.specs.Grammar.{expr_at};
 ghost use Rattle.minijinja_grammar.specs.Statements as form;
 ghost use Rattle.minijinja_grammar.specs.Statements.{parts_at, stmt_at};
@@ -11,18 +10,20 @@ ghost use Rattle.minijinja_templates.specs.private.Bodies.{part_at};
 ghost use Rattle.minijinja_templates.specs.private.Parses.{Nests, Parses, context_of};
 
 use crate::rules::{Context, Rules};
-use crate::statements::{Kind, Opening, Statements, of_kind};
+use crate::statements::{Opening, Statements};
 use minijinja_base::error::Expected;
 use minijinja_base::tokens::Span;
 use minijinja_stream::forms::ExprForm;
 use minijinja_stream::marks::{Ends, Mark, Part};
 use minijinja_stream::refusal::{Refusal, Wanted};
 use minijinja_stream::tokens::Tokens;
-use std::alloc::AllocError;
 use std::marker::PhantomData;
 
+/// For how many parts a body has room before the first is read. Most bodies have no more.
+const ROOM_AT_FIRST: usize = 8;
+
 /// An output, after its start.
-#[tactic(auto, unfolding(crate::specs::private::Made::statement_tree, minijinja_grammar::specs::Forms::reads, minijinja_grammar::specs::Statements::shown))]
+#[tactic(auto, unfolding(minijinja_grammar::specs::Forms::reads, minijinja_grammar::specs::Statements::shown))]
 fn output<S: Statements>(
     statements: S,
     tokens: &mut S::Input,
@@ -35,23 +36,7 @@ fn output<S: Statements>(
     let expr = statements.expr(tokens, ExprForm::Full, depth)?;
     let span = tokens.expand_span(from);
     tokens.expect(Mark::VariableEnd)?;
-    let mut parts = of_kind(statements.alloc(), Kind::Output);
-    parts.expr = Some(expr);
-    Ok(statements.statement(parts, span)?)
-}
-
-/// Text outside of tags.
-#[tactic(auto, unfolding(crate::specs::private::Made::statement_tree))]
-pub(super) fn data<S: Statements>(
-    statements: S,
-    raw: S::Name,
-    span: Span,
-) -> Result<S::Stmt, AllocError>
-    ensures { IfOk result (λ s. S.stmt s ≡ data_text (S.text raw) span) }
-{
-    let mut parts = of_kind(statements.alloc(), Kind::Data);
-    parts.name = Some(raw);
-    statements.statement(parts, span)
+    Ok(statements.output(expr, span)?)
 }
 
 impl<
@@ -94,7 +79,7 @@ impl<
             (S.Input.place tokens.old)) result (S.Input.place tokens.new) }
     {
         match S::opening(token) {
-            Some(Opening::Data(raw)) => Ok(Some(data(self.statements, raw, span)?)),
+            Some(Opening::Data(raw)) => Ok(Some(self.statements.data(raw, span)?)),
             Some(Opening::Output) => Ok(Some(output(self.statements, tokens, self.depth, span)?)),
             Some(Opening::Statement) => {
                 if tokens.begins(Part::BodyEnd(ends)) {
@@ -115,7 +100,7 @@ impl<
             self.now.depth) (stmt_at S.functions (context_of self.now.context) self.now.depth)
             (ends_view ends)) tokens.old result tokens.new }
     {
-        let mut parts = Vec::new(self.statements.alloc());
+        let mut parts = Vec::with_capacity(self.statements.alloc(), ROOM_AT_FIRST)?;
         while tokens.begins(Part::Template) {
             let (token, span) = tokens.take(Wanted::Part(Expected::Part))?;
             match self.part(tokens, &token, span, ends)? {
