@@ -1,6 +1,6 @@
 -- The lists of blocks, while statements are walked through.
 use Rattle.std.proofs.Common.{◌≡◌, ◌≢◌, ℕ, zero, suc, ◌+◌, ◌<◌, ◌≤◌, ◌^◌, List, [], ◌∷◌, ◌++◌, length, Some, refl, sym, ap, ◌∙◌, subst, arith, append_assoc}
-use Rattle.std.specs.Prelude.{Bool, true, false, All, if◌then◌else◌}
+use Rattle.std.specs.Prelude.{Bool, true, false, All, IsTrue, ◌==◌, if◌then◌else◌}
 use Rattle.std.specs.List.{Any}
 use Rattle.std.specs.Borrow.{Bor}
 use Rattle.std.specs.BTreeMap.{BTreeMap}
@@ -167,6 +167,11 @@ none_of : {X : Type 0} (xs : List X) → are_any xs ≡ false → xs ≡ []
 none_of [] h = refl
 none_of (x ∷ xs) h = let some : true ≡ false = h in absurd (cc)
 
+pub none_left : {X : Type 0} (xs : List X) (b : Bool) → b ≡ (length xs == 0) → IsTrue b → xs ≡ []
+none_left [] b is h = refl
+none_left (x ∷ xs) true is h = absurd (grind (arith, is))
+none_left (x ∷ xs) false is h = absurd (cc h)
+
 module _ {C L : Type 0} where
   -- what nothing is nested in is no block
   no_block : (s : Stmt C L) → bodies_of s ≡ [] → own_block s ≡ []
@@ -177,6 +182,12 @@ module _ {C L : Type 0} where
   either : (P : Stmts C L → Type 0) (s : Stmt C L) (rest : Stmts C L) (b : Bool) → is_nesting s ≡ b → P (also s rest) → (is_nesting s ≡ false → P (from_nesting rest)) → P (if b then also s rest else from_nesting rest)
   either P s rest true is here later = here
   either P s rest false is here later = later is
+
+  -- statements of which none nests others have no blocks
+  pub no_blocks : (ss : Stmts C L) → from_nesting ss ≡ done → all_blocks ss ≡ []
+  no_blocks done h = refl
+  no_blocks (also s rest) h = either (λ ts. ts ≡ done → blocks s ++ all_blocks rest ≡ []) s rest (is_nesting s) refl (λ some. absurd (cc some))
+      (λ e left. let none = none_of (bodies_of s) e in ap (λ bs. bs ++ all_blocks rest) (blocks_are s ∙ ap (λ bs. bs ++ row_blocks (bodies_of s)) (no_block s none) ∙ ap row_blocks none) ∙ no_blocks rest left) h
 
   steps_from : (ss : Stmts C L) → all_steps (from_nesting ss) ≤ all_steps ss
   steps_from done = omega arith

@@ -308,8 +308,8 @@ fn compile_stmt<'s, V: TemplateValue>(
     Ok(turn.data_bytes())
 }
 
-/// The most instructions for which there is room before a template's statements are counted.
-const MOST_ROOM: usize = 1 << 10;
+/// The most room that the bytes of a template ask for, in instructions.
+const MOST_ROOM: usize = 600;
 
 /// How much room the code of a template may want, which has so many statements and bytes: most statements make two instructions or
 /// more, and a text that is dense with tags, one for four bytes or so.

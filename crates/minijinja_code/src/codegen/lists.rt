@@ -1,5 +1,5 @@
 //! The lists of blocks.
-ghost use Rattle.std.specs.Prelude.{◌≡◌, ◌≤◌, ◌^◌, ◌∷◌, [], ◌++◌, false, length, map, IfErr, IfOk, OnOk};
+ghost use Rattle.std.specs.Prelude.{IsTrue, ◌≡◌, ◌≤◌, ◌^◌, ◌∷◌, [], ◌++◌, false, length, map, IfErr, IfOk, OnOk};
 ghost use Rattle.minijinja_syntax.specs.Errors.{kind_of};
 ghost use Rattle.minijinja_syntax.specs.declared.error.ErrorKind.TheVariants.{TooManyInstructions};
 ghost use Rattle.minijinja_tree.specs.Erasure.{stmt_tree};
@@ -52,6 +52,9 @@ pub(super) fn add_lists<'s, V: TemplateValue>(
     ensures name { file_in lists.new ≡ file_in lists.old }
     ensures source { text_in lists.new ≡ text_in lists.old }
 {
+    if is_flat(stmt) {
+        return Ok(());
+    }
     let mut rows = Vec::new(alloc);
     add_list_of(lists, alloc, stmt)?;
     push_bodies(&mut rows, stmt)?;
@@ -63,6 +66,16 @@ pub(super) fn add_lists<'s, V: TemplateValue>(
         }
     }
     Ok(())
+}
+
+/// Whether the statement is a template in whose statements none are nested, so that it has no blocks.
+fn is_flat<V: TemplateValue>(stmt: &Stmt<'_, V>) -> bool
+    ensures { IsTrue result → blocks (stmt_tree V.contents stmt.now) ≡ [] }
+{
+    match stmt {
+        Stmt::Template(template) => nesting(&template.node().children).is_empty(),
+        _ => false,
+    }
 }
 
 /// The statements from the first one on in which others are nested. Most have none nested in them, and cost little so.
