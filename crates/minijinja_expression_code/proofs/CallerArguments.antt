@@ -4,7 +4,7 @@ use Rattle.minijinja_tree.specs.Tree.{Args}
 use Rattle.minijinja_meaning.specs.Layout.{Count, map_count, merged, spreading, counted}
 use Rattle.minijinja_expression_code.specs.declared.arguments.Counts.{Counts}
 use Rattle.minijinja_expression_code.specs.private.Callers.{AreCounts, arguments_end, end_count}
-use Rattle.minijinja_expression_code.specs.private.Making.{Made, Adds, count_of}
+use Rattle.minijinja_expression_code.specs.private.Making.{Made, Adds}
 use Rattle.minijinja_expression_code.proofs.Adding.{adds_as, adds_then}
 
 -- with the macro there is a map

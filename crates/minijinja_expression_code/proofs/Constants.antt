@@ -1,12 +1,12 @@
 -- The constant that is loaded between two places, if that is all that is done there.
-use Rattle.std.proofs.Common.{◌≡◌, ℕ, ◌+◌, ◌-◌, ◌<◌, ◌≤◌, List, [], ◌∷◌, length, map, take, drop, get_or, min, Option, Some, None, Bool, true, false, refl, sym, ap, ◌∙◌, arith, length-drop}
-use Rattle.std.specs.Prelude.{is_some}
+use Rattle.std.proofs.Common.{◌≡◌, ℕ, ◌+◌, ◌-◌, ◌<◌, ◌≤◌, List, [], ◌∷◌, ◌++◌, length, map, take, drop, get_or, min, Option, Some, None, true, refl, sym, ap, ◌∙◌, arith, length-drop}
 use Rattle.std.specs.Option.{option_map}
 use Rattle.std.proofs.Math.Seq.{drop-cons, take-length}
 use Rattle.std.proofs.lemmas.List.{length-take, length-take-le, drop-map, drop-take, take-take}
-use Rattle.minijinja_meaning.specs.Code.{Instr}
+use Rattle.minijinja_value.specs.Values.{Functions}
+use Rattle.minijinja_meaning.specs.Code.{Instr, Load}
 use Rattle.minijinja_expression_code.specs.private.Making.{Made, loaded_by, alone, between}
-use Rattle.minijinja_expression_code.specs.private.Constants.{TakesConstants, are_both, both_loaded, last_loaded, without_last}
+use Rattle.minijinja_expression_code.specs.private.Constants.{Joins, TakesConstant, TakesConstants, are_both, both_loaded, last_loaded, without_last}
 
 no_some : {C : Type 0} {c : C} → ◌≡◌ {A = Option C} None (Some c) → ⊥
 no_some e = absurd (cc)
@@ -110,3 +110,13 @@ module _ {C : Type 0} where
           sym (ap (option_map v) ry) ∙ right ∙ last_is start middle old.code t,
           rest ∙ ap (λ (m : Made C). record m { code = without_last m.code }) cut ∙ ap (λ (c : List (Instr C)). record old { code = c }) (rest_is start middle old.code t),
         )
+
+  -- what was joined with a constant that was taken back stands in its place
+  pub joined_there : {F V : Type 0} (f : Functions C F) (v : V → C) (place : ℕ) (right : C) (old cut new : Made C) (left joined : V) → TakesConstant v place old (Some left) cut → v joined ≡ f.concat (v left) right → new ≡ record cut { code = take place cut.code ++ Load (v joined) ∷ [] } → Joins f place right true old new
+  joined_there f v place right old cut new left joined t ej en = (
+    v left,
+    t.0,
+    en ∙ ap (λ (m : Made C). record m { code = take place m.code ++ Load (v joined) ∷ [] }) t.1
+        ∙ ap (λ (l : List (Instr C)). record old { code = l ++ Load (v joined) ∷ [] }) (take-take place place old.code (omega arith))
+        ∙ ap (λ x. record old { code = take place old.code ++ Load x ∷ [] }) ej,
+  )

@@ -15,7 +15,7 @@ use Rattle.minijinja_meaning.specs.Layout.{expr, base, operand, optional, items,
 use Rattle.minijinja_meaning.specs.Pieces.{Piece, nothing, one, ◌▸◌, noted, id_of}
 use Rattle.minijinja_expression_code.specs.private.Calling.{captured}
 use Rattle.minijinja_expression_code.specs.private.Making.{Made, given, Adds, AddsIf}
-use Rattle.minijinja_expression_code.specs.private.Leading.{After, called_on, leading, test_in, piece_of, Finishes, before_right}
+use Rattle.minijinja_expression_code.specs.private.Leading.{After, called_on, leading, test_in, piece_of, Finishes, FinishesIf, before_right}
 use Rattle.minijinja_expression_code.specs.private.Operating.{EndsBinary}
 use Rattle.minijinja_expression_code.proofs.Adding.{adds_then, adds_as}
 use Rattle.minijinja_meaning.proofs.FoldedCode.{folded_code, folded_none}
@@ -138,6 +138,15 @@ module _ {C F : Type 0} (f : Functions C F) where
   pub binary_finishes : (o : BinOp) (x y : Expr C) {place middle : ℕ} {a b c d : Made C} → IsWhole x → IsWhole y → middle ≡ length a.code → Adds a b (before_right (working o)) → Adds b c (expr f y) → EndsBinary f o place middle c d → Finishes f (binary o x y) place a d
   binary_finishes o x y {place} {middle} {a} {b} {c} {d} wx wy at room right ends = λ start r.
       ends x y start wx wy (record { left = a; room = b; from = r.at; left_added = r.added; at = at; room_added = room; right_added = right })
+
+  -- its right side was joined with the left one, or is added then
+  pub binary_joined : (o : BinOp) (x y : Expr C) {place : ℕ} {a b : Made C} (joined : Bool) → joined ≡ true → IsWhole x → (IsWhole x → FinishesIf f joined (binary o x y) place a b) → Finishes f (binary o x y) place a b
+  binary_joined o x y {place} {a} {b} joined e w k = subst (λ j. FinishesIf f j (binary o x y) place a b) e (k w)
+
+  pub binary_unjoined : (o : BinOp) (x y : Expr C) {place : ℕ} {a b c : Made C} (joined : Bool) → joined ≡ false → IsWhole x → (IsWhole x → FinishesIf f joined (binary o x y) place a b) → Finishes f (binary o x y) place b c → Finishes f (binary o x y) place a c
+  binary_unjoined o x y {place} {a} {b} {c} joined e w k s =
+      let same : b ≡ a = subst (λ j. FinishesIf f j (binary o x y) place a b) e (k w) in
+      subst (λ m. Finishes f (binary o x y) place m c) same s
 
 -- what a call is made on is whole where the called expression is
 callee_whole : {C : Type 0} (e l : Expr C) → called_on (callee e) ≡ Some l → IsWhole e → IsWhole l

@@ -1,21 +1,21 @@
 -- Operators while their code is being made: what folds, and what stands in its place.
 use Rattle.std.proofs.Common.{◌≡◌, ℕ, ◌+◌, ◌-◌, ◌^◌, min, ◌<◌, ◌≤◌, List, [], ◌∷◌, ◌++◌, length, map, take, drop, Option, Some, None, refl, sym, ap, ◌∙◌, arith, append_assoc, length-append, subst}
 use Rattle.std.specs.Option.{option_map}
-use Rattle.std.specs.Prelude.{true, false, is_some, slice_set}
+use Rattle.std.specs.Prelude.{Bool, true, false, is_some, slice_set}
 use Rattle.std.proofs.lemmas.List.{take-map, take-take, map-append, take-append-le}
 use Rattle.std.proofs.Math.Seq.{take-append_seam, drop-append_seam}
 use Rattle.minijinja_value.specs.Values.{Functions}
 use Rattle.minijinja_tree.specs.BinOps.{BinOp, concat}
 use Rattle.minijinja_tree.specs.Folding.{fold, if_some, fold_unary, fold_binary}
 use Rattle.minijinja_tree.specs.Operators.{Working, Makes, Divides, IfTrue, IfFalse, compute, working}
-use Rattle.minijinja_tree.specs.Tree.{Expr, UnaryOp, unary, binary}
+use Rattle.minijinja_tree.specs.Tree.{Expr, UnaryOp, binary, constant, unary}
 use Rattle.minijinja_tree.specs.WellFormed.{IsWhole}
 use Rattle.minijinja_meaning.specs.Code.{Instr, Load}
 use Rattle.minijinja_meaning.specs.Layout.{expr, unary_instr, operation}
 use Rattle.minijinja_meaning.specs.Pieces.{behind, Piece, nothing, one, ◌▸◌, skipping}
-use Rattle.minijinja_expression_code.specs.private.Leading.{After, Finishes, before_right}
+use Rattle.minijinja_expression_code.specs.private.Leading.{After, Finishes, FinishesIf, before_right}
 use Rattle.minijinja_expression_code.specs.private.Making.{Made, here_of, hole, capped, reach, Adds, alone, between, is_lazy, jump_of, operator_of}
-use Rattle.minijinja_expression_code.specs.private.Constants.{TakesConstants, are_both, both_loaded}
+use Rattle.minijinja_expression_code.specs.private.Constants.{Joins, TakesConstants, are_both}
 use Rattle.minijinja_expression_code.specs.private.Operating.{Sides, EndsBinary, known_between}
 use Rattle.minijinja_meaning.proofs.FoldedCode.{folded_some, folded_none, folded_code}
 use Rattle.minijinja_meaning.proofs.Runs.{append_nil}
@@ -319,6 +319,27 @@ module _ {C F : Type 0} (f : Functions C F) where
       let k = taken (middle_within p q s) in
       let none = not_both (working concat) (alone (between start middle old.code)) (alone (between middle (length old.code) old.code)) k.0 in
       binary_added concat p q refl s (sym (none ∙ strict_known concat p q refl wp wq s)) (subst (λ m. Adds m new (one (operator_of (working concat)))) k.1 t)
+
+  constant_value : (k : C) → fold f (constant k) ≡ Some k
+  unfolding fold
+  constant_value k = refl
+
+  joined_value : (e : Expr C) (k : C) {x : C} → fold f e ≡ Some x → fold f (binary concat e (constant k)) ≡ Some (f.concat x k)
+  unfolding compute
+  joined_value e k ex = binary_of concat e (constant k) ex (constant_value k)
+
+  -- a constant on the right is joined in place of the left side, which is one
+  joined_with : (e : Expr C) (k : C) {x : C} {place : ℕ} {a b c : Made C} → After (expr f e) place a b → fold f e ≡ Some x → c ≡ record b { code = take place b.code ++ Load (f.concat x k) ∷ [] } → Adds a c (expr f (binary concat e (constant k)))
+  joined_with e k {x} {place} {a} {b} {c} s ex ec =
+      let y = f.concat x k in
+      let is : List (Instr C) = map capped ((expr f e).code (here_of a)) in
+      let left : take place b.code ≡ a.code = ap (λ l. take place l) s.added.code ∙ ap (λ n. take n (a.code ++ is)) s.at ∙ take-append_seam a.code is in
+      adds_as (sym (folded_some _ (joined_value e k ex)))
+      (loads_instead y (take place b.code ++ Load y ∷ []) (loads_nameless x (folded_code f e x ex) s.added) (ap (λ l. l ++ Load y ∷ []) left) ec)
+
+  pub joins_finish : (old new : Made C) (k : C) (place : ℕ) (joined : Bool) → Joins f place k joined old new → (e : Expr C) → IsWhole e → FinishesIf f joined (binary concat e (constant k)) place old new
+  joins_finish old new k place true j e w = λ start s. joined_with e k s (sym (operand_alone e w s) ∙ sym j.1) j.2
+  joins_finish old new k place false j e w = j.1
 
   left_given : {o : BinOp} (p q : Expr C) (r : Option C) {start middle : ℕ} {a b : Made C} → IsWhole p → Sides f o p q start middle a b → (middle ≤ length b.code → r ≡ alone (between start middle b.code)) → fold f p ≡ r
   left_given p q r w s k = sym (k (middle_within p q s) ∙ left_alone p q w s)

@@ -10,7 +10,7 @@ use Rattle.minijinja_expressions.specs.declared.ast.Expr.{size-Expr}
 use Rattle.minijinja_meaning.specs.Layout.{expr}
 use Rattle.minijinja_expression_code.specs.private.Making.{Made, Adds}
 use Rattle.minijinja_expression_code.specs.private.Leading.{leading, piece_of, Ready, Begins, Finishes}
-use Rattle.minijinja_expression_code.specs.declared.expr.Begun.{Begun}
+use Rattle.minijinja_expression_code.specs.declared.begun.Begun.{Begun}
 use Rattle.minijinja_expression_code.proofs.Adding.{adds_nothing}
 
 module _ {C F : Type 0} (f : Functions C F) where

@@ -9,3 +9,4 @@ pub mod Making
 pub mod Constants
 pub mod Operating
 pub mod Outputs
+pub mod Waiting

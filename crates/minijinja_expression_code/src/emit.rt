@@ -4,7 +4,7 @@ ghost use Rattle.std.specs.Option.{option_map};
 ghost use Rattle.minijinja_meaning.specs.Code.{BuildMacro, Jump, Load};
 ghost use Rattle.minijinja_instructions.specs.Instructions.{instr_of};
 ghost use Rattle.minijinja_expression_code.specs.private.Making.{made_of, here_of, place_in, reach, hole, alone, between, loaded_by, with_last, Adds};
-ghost use Rattle.minijinja_expression_code.specs.private.Constants.{TakesConstants, both_loaded, last_loaded, without_last};
+ghost use Rattle.minijinja_expression_code.specs.private.Constants.{Joins, TakesConstant, TakesConstants, both_loaded, last_loaded, without_last};
 ghost use Rattle.minijinja_meaning.specs.Pieces.{start, one, id_of, noted};
 
 use crate::memory::OutOfMemory;
@@ -146,8 +146,34 @@ impl<'s, V: TemplateValue> Emitter<'s, V> {
         }) }
     {
         self.list.truncate(place);
-        self.list.push(Instruction::LoadConst(value))?;
+        self.list.reserve(1)?;
+        self.list.push_reserved(Instruction::LoadConst(value));
         Ok(())
+    }
+
+    /// Joins the constant that is loaded from a place on, if that is all that is done there, with another one, in its place.
+    /// Answers whether it did.
+    pub(crate) fn join(&mut self, place: usize, right: &V) -> Result<bool, OutOfMemory>
+        ensures { IfOk result (λ joined. Joins V.functions place (V.contents right.now) joined
+            (made_of V.contents self.old) (made_of V.contents self.new)) }
+    {
+        let Some(left) = self.take_constant(place) else {
+            return Ok(false);
+        };
+        let joined = left.concat(self.alloc, right)?;
+        self.replace(place, joined)?;
+        Ok(true)
+    }
+
+    /// Takes back the constant that is loaded from a place on, if that is all that is done there.
+    fn take_constant(&mut self, place: usize) -> Option<V>
+        ensures { TakesConstant V.contents place (made_of V.contents self.old) result
+            (made_of V.contents self.new) }
+    {
+        if self.constant(place, self.place()).is_none() {
+            return None;
+        }
+        self.pop_constant()
     }
 
     /// Takes back the constants that are loaded from one place up to another and from there on, if that is all that is done

@@ -10,23 +10,17 @@ ghost use Rattle.minijinja_expression_code.specs.private.Leading.{Begins, Finish
 ghost use Rattle.minijinja_expression_code.specs.private.Making.{made_of, Adds, given};
 
 use crate::arguments::arguments;
+use crate::begun::{Begun, Waiting};
 use crate::branches::otherwise;
 use crate::chain::compare;
 use crate::emit::Emitter;
 use crate::leading::{has_leading_operand, leading_operand, test_of};
 use crate::literals::{load_constant, load_list, load_map, load_none, load_tuple};
 use crate::memory::OutOfMemory;
-use crate::operators::{begin_right, end_binary, end_unary};
+use crate::operators::{begin_right, end_binary, end_unary, join_constant};
 use minijinja_base::value::TemplateValue;
 use minijinja_instructions::instructions::{CaptureMode, Instruction};
 use minijinja_tree::ast::{Call, CallType, Expr, Filter};
-
-/// A node whose code has begun, and the place where its code, or the jump of its test, stands.
-#[derive(Drop)]
-struct Begun<'a, 's, V: TemplateValue> {
-    node: &'a Expr<'s, V>,
-    place: usize,
-}
 
 /// Adds the code of an expression. The operands that nodes begin with are gone down to in a loop, so that a row of operators,
 /// attributes, filters or calls takes no more stack than one of them.
@@ -39,7 +33,7 @@ pub fn expression<'s, V: TemplateValue>(
     ensures { OnOk result (Adds (made_of V.contents code.old) (made_of V.contents code.new)
         (layout.expr V.functions (expr_tree V.contents expr.now))) }
 {
-    let mut begun = Vec::new(code.alloc());
+    let mut begun = Waiting::new(code.alloc());
     let mut part = expr;
     while has_leading_operand(part) {
         let place = begin(code, part)?;
@@ -98,6 +92,10 @@ fn finish<'s, V: TemplateValue>(
         Expr::UnaryOp(operation) => end_unary(code, operation.node().op, place),
         Expr::BinOp(operation) => {
             let operation = operation.node();
+            let joined = join_constant(code, operation, place)?;
+            if joined {
+                return Ok(());
+            }
             let middle = begin_right(code, operation.op)?;
             expression(code, &operation.right)?;
             end_binary(code, operation.op, place, middle)

@@ -2,6 +2,7 @@
 #![tactic(auto)]
 
 pub mod arguments;
+mod begun;
 pub mod branches;
 pub mod calls;
 mod chain;

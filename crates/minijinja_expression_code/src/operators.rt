@@ -2,16 +2,15 @@
 ghost use Rattle.std.specs.Prelude.{◌≡◌, ◌≤◌, None, Some, length, true, false, if◌then◌else◌, IfOk, OnOk};
 ghost use Rattle.std.specs.Option.{option_map};
 ghost use Rattle.minijinja_tree.specs.BinOps.{concat};
-ghost use Rattle.minijinja_tree.specs.Erasure.{unary_op, bin_op};
+ghost use Rattle.minijinja_tree.specs.Erasure.{expr_tree, unary_op, bin_op};
 ghost use Rattle.minijinja_tree.specs.Folding.{fold_binary};
 ghost use Rattle.minijinja_tree.specs.Operators.{working};
 ghost use Rattle.minijinja_tree.specs.Tree as tree;
-ghost use Rattle.minijinja_tree.specs.Tree.{Expr};
 ghost use Rattle.minijinja_tree.specs.WellFormed.{IsWhole};
 ghost use Rattle.minijinja_meaning.specs.Jumps as Jumps;
 ghost use Rattle.minijinja_meaning.specs.Layout.{unary_instr};
 ghost use Rattle.minijinja_instructions.specs.Instructions.{instr_of};
-ghost use Rattle.minijinja_expression_code.specs.private.Leading.{Finishes, before_right};
+ghost use Rattle.minijinja_expression_code.specs.private.Leading.{Finishes, FinishesIf, before_right};
 ghost use Rattle.minijinja_expression_code.specs.private.Making as spec;
 ghost use Rattle.minijinja_expression_code.specs.private.Making.{made_of, jump_of, operator_of, Adds};
 ghost use Rattle.minijinja_expression_code.specs.private.Operating.{EndsBinary, known_between};
@@ -20,7 +19,7 @@ use crate::emit::Emitter;
 use crate::memory::OutOfMemory;
 use minijinja_base::value::TemplateValue;
 use minijinja_instructions::instructions::Instruction;
-use minijinja_tree::ast::{BinOpKind, UnaryOpKind};
+use minijinja_tree::ast::{BinOp, BinOpKind, Expr, UnaryOpKind};
 
 /// Adds an operator of one side after its operand, which stands from a place on; what it makes of a constant stands in place of
 /// both.
@@ -29,7 +28,7 @@ pub(crate) fn end_unary<V: TemplateValue>(
     op: UnaryOpKind,
     place: usize,
 ) -> Result<(), OutOfMemory>
-    ensures { OnOk result ((e : Expr V.Contents) → IsWhole e → Finishes V.functions
+    ensures { OnOk result ((e : tree.Expr V.Contents) → IsWhole e → Finishes V.functions
         (tree.unary (unary_op op) e) place (made_of V.contents code.old)
         (made_of V.contents code.new)) }
 {
@@ -39,6 +38,27 @@ pub(crate) fn end_unary<V: TemplateValue>(
         }
     }
     code.add(unary_operator(op))
+}
+
+/// Joins what stands from a place on with the constant on its right, where both are constants and the operator is `~`. Answers
+/// whether it did; else nothing is added. So the right one is not copied.
+pub(crate) fn join_constant<'s, V: TemplateValue>(
+    code: &mut Emitter<'s, V>,
+    operation: &BinOp<'s, V>,
+    place: usize,
+) -> Result<bool, OutOfMemory>
+    ensures { IfOk result (λ joined. IsWhole (expr_tree V.contents operation.now.left) →
+        FinishesIf V.functions joined (tree.binary (bin_op operation.now.op)
+        (expr_tree V.contents operation.now.left) (expr_tree V.contents operation.now.right)) place
+        (made_of V.contents code.old) (made_of V.contents code.new)) }
+{
+    match operation.op {
+        BinOpKind::Concat => match &operation.right {
+            Expr::Const(right) => code.join(place, &right.node().value),
+            _ => Ok(false),
+        },
+        _ => Ok(false),
+    }
 }
 
 /// Answers where the left side of an operator ends. Where that may decide, room for a jump is left there.

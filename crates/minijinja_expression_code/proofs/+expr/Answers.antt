@@ -7,9 +7,10 @@ use Rattle.minijinja_meaning.specs.Layout.{argument_count, Count, map_count}
 use Rattle.minijinja_meaning.specs.Pieces.{one}
 use Rattle.minijinja_expression_code.specs.private.Leading.{test_in}
 use Rattle.minijinja_expression_code.specs.private.Making.{made_of, count_of}
+use Rattle.minijinja_expression_code.specs.private.Waiting.{begun_of}
 use Rattle.minijinja_expression_code.proofs.Adding.{adds_as}
 use Rattle.minijinja_expression_code.proofs.Arms.{slice_arm, unary_arm, binary_arm, if_arm, filter_arm, test_arm, call_arm, list_arm, tuple_arm, map_arm, whole_slice_stop, whole_slice_step, whole_filter, whole_test_args, whole_test_few, whole_call_args, whole_call_few, whole_list, whole_tuple, whole_pairs, whole_keys, whole_values}
-use Rattle.minijinja_expression_code.proofs.Finishing.{finishes_as, slice_finishes, binary_finishes, filter_finishes, filter_arguments, filter_applied, test_finishes, test_performed, function_finishes, method_finishes, object_finishes, list_loaded, list_finishes, tuple_loaded, tuple_finishes, map_loaded, map_finishes, leading_whole, test_whole}
+use Rattle.minijinja_expression_code.proofs.Finishing.{finishes_as, slice_finishes, binary_finishes, binary_joined, binary_unjoined, filter_finishes, filter_arguments, filter_applied, test_finishes, test_performed, function_finishes, method_finishes, object_finishes, list_loaded, list_finishes, tuple_loaded, tuple_finishes, map_loaded, map_finishes, leading_whole, test_whole}
 use Rattle.minijinja_expression_code.proofs.InOrder.{count_length, leads_whole, leads_on, leads_end, whole_here, whole_after, items_next, items_end, pairs, pairs_next, pairs_end}
 use Rattle.minijinja_expression_code.proofs.Waiting.{Rest, rest_more, rest_less, rest_whole, rest_size, rest_leaf}
 use Rattle.minijinja_expressions.specs.declared.ast.Compare.{out-Compare}
@@ -51,9 +52,9 @@ pub expr::expression-finish-requires-in-Some : goal.expr::expression-finish-requ
 expr::expression-finish-requires-in-Some g t c =
     let v = g.V.TemplateValue.contents in
     let f = g.V.TemplateValue.functions in
-    let r = subst (λ l. Rest f v (made_of v c.args.code.now) (expr_tree v c.args.expr.now) (size-Expr g.row.V.Denot g.row.V-Fault.Denot c.args.expr.now) (reverse l) (made_of v c.loop-last.code)) c.in-Some.ensures.items c.loop-last.invariant in
-    let n = rest_size f v (made_of v c.args.code.now) (expr_tree v c.args.expr.now) _ c.pop.new.self.items c.in-Some.last (made_of v c.loop-last.code) r in
-    λ κs live. (omega (arith, n, c.decreases), (search rules, (search rules, rest_whole f v (made_of v c.args.code.now) (expr_tree v c.args.expr.now) _ c.pop.new.self.items c.in-Some.last (made_of v c.loop-last.code) r)))
+    let r = subst (λ l. Rest f v (made_of v c.args.code.now) (expr_tree v c.args.expr.now) (size-Expr g.row.V.Denot g.row.V-Fault.Denot c.args.expr.now) (reverse l) (made_of v c.loop-last.code)) c.in-Some.ensures.last c.loop-last.invariant in
+    let n = rest_size f v (made_of v c.args.code.now) (expr_tree v c.args.expr.now) _ (begun_of c.pop.new.self) c.in-Some.last (made_of v c.loop-last.code) r in
+    λ κs live. (omega (arith, n, c.decreases), (search rules, (search rules, rest_whole f v (made_of v c.args.code.now) (expr_tree v c.args.expr.now) _ (begun_of c.pop.new.self) c.in-Some.last (made_of v c.loop-last.code) r)))
 
 pub expr::expression-loop-code-preserved : goal.expr::expression-loop-code-preserved
 expr::expression-loop-code-preserved g t c =
@@ -64,23 +65,23 @@ expr::expression-loop-code-preserved g t c =
     record {
       whole = leading_whole e (expr_tree v c.leading_operand-part.result.now) leads c.loop-code.invariant.whole;
       small = omega (arith, c.loop-code.invariant.small, c.leading_operand-part.ensures.smaller);
-      rest = λ later s. subst (λ l. Rest f v (made_of v c.args.code.now) (expr_tree v c.args.expr.now) (size-Expr g.row.V.Denot g.row.V-Fault.Denot c.args.expr.now) (reverse l) later) (sym c.in_ok-push.ensures.items)
-          (rest_more f v (made_of v c.args.code.now) (expr_tree v c.args.expr.now) _ c.loop-code.begun.items (record { node = c.loop-code.part; place = c.in_ok-place.place }) (expr_tree v c.leading_operand-part.result.now) (made_of v c.loop-code.code) (made_of v c.begin.new.code) c.in_ok-place.ensures leads c.loop-code.invariant.whole c.loop-code.invariant.small c.loop-code.invariant.rest later s);
+      rest = λ later s. subst (λ l. Rest f v (made_of v c.args.code.now) (expr_tree v c.args.expr.now) (size-Expr g.row.V.Denot g.row.V-Fault.Denot c.args.expr.now) (reverse l) later) (sym c.in_ok-push.ensures)
+          (rest_more f v (made_of v c.args.code.now) (expr_tree v c.args.expr.now) _ (begun_of c.loop-code.begun) (record { node = c.loop-code.part; place = c.in_ok-place.place }) (expr_tree v c.leading_operand-part.result.now) (made_of v c.loop-code.code) (made_of v c.begin.new.code) c.in_ok-place.ensures leads c.loop-code.invariant.whole c.loop-code.invariant.small c.loop-code.invariant.rest later s);
     }
 
 pub expr::expression-loop-last-init : goal.expr::expression-loop-last-init
 expr::expression-loop-last-init g t c =
     let v = g.V.TemplateValue.contents in
     let f = g.V.TemplateValue.functions in
-    rest_leaf f v (made_of v c.args.code.now) (expr_tree v c.args.expr.now) _ (reverse c.loop-code.begun.items) (expr_tree v c.loop-code.part.now) (made_of v c.loop-code.code) (made_of v c.finish.new.code) c.place-place.result
+    rest_leaf f v (made_of v c.args.code.now) (expr_tree v c.args.expr.now) _ (reverse (begun_of c.loop-code.begun)) (expr_tree v c.loop-code.part.now) (made_of v c.loop-code.code) (made_of v c.finish.new.code) c.place-place.result
     (sym c.has_leading_operand.ensures ∙ c.loop-code-test.false) c.place-place.ensures c.in_ok-finish.ensures c.loop-code.invariant.rest
 
 pub expr::expression-loop-last-preserved : goal.expr::expression-loop-last-preserved
 expr::expression-loop-last-preserved g t c =
     let v = g.V.TemplateValue.contents in
     let f = g.V.TemplateValue.functions in
-    rest_less f v (made_of v c.args.code.now) (expr_tree v c.args.expr.now) _ c.pop.new.self.items c.in-Some.last (made_of v c.loop-last.code) (made_of v c.finish-in-Some.new.code) c.in_ok-finish-2.ensures
-    (subst (λ l. Rest f v (made_of v c.args.code.now) (expr_tree v c.args.expr.now) (size-Expr g.row.V.Denot g.row.V-Fault.Denot c.args.expr.now) (reverse l) (made_of v c.loop-last.code)) c.in-Some.ensures.items c.loop-last.invariant)
+    rest_less f v (made_of v c.args.code.now) (expr_tree v c.args.expr.now) _ (begun_of c.pop.new.self) c.in-Some.last (made_of v c.loop-last.code) (made_of v c.finish-in-Some.new.code) c.in_ok-finish-2.ensures
+    (subst (λ l. Rest f v (made_of v c.args.code.now) (expr_tree v c.args.expr.now) (size-Expr g.row.V.Denot g.row.V-Fault.Denot c.args.expr.now) (reverse l) (made_of v c.loop-last.code)) c.in-Some.ensures.last c.loop-last.invariant)
 
 pub expr::finish-bound-requires-in-Slice : goal.expr::finish-bound-requires-in-Slice
 expr::finish-bound-requires-in-Slice g t c =
@@ -107,9 +108,21 @@ expr::finish-returns-in_ok-expression-in-BinOp g t c =
     let v = g.V.TemplateValue.contents in
     let f = g.V.TemplateValue.functions in
     let n = c.node-operation.result.now in
-    let w = subst IsWhole (binary_arm v c.args.node.now c.in-BinOp.operation n c.in-BinOp.is c.node-operation.ensures) c.requires in
-    ok_gives c.end_binary.result (λ s. finishes_as f c.args.place (made_of v c.args.code.now) (made_of v c.end_binary.new.code) (binary_arm v c.args.node.now c.in-BinOp.operation n c.in-BinOp.is c.node-operation.ensures)
-    (binary_finishes f (bin_op n.op) (expr_tree v n.left) (expr_tree v n.right) w.0 w.1 c.in_ok-middle-in-BinOp.ensures.middle c.in_ok-middle-in-BinOp.ensures.added c.in_ok-expression-in-BinOp.ensures s)) c.end_binary.ensures
+    let is = binary_arm v c.args.node.now c.in-BinOp.operation n c.in-BinOp.is c.node-operation.ensures in
+    let w = subst IsWhole is c.requires in
+    ok_gives c.end_binary.result (λ s. finishes_as f c.args.place (made_of v c.args.code.now) (made_of v c.end_binary.new.code) is
+    (binary_unjoined f (bin_op n.op) (expr_tree v n.left) (expr_tree v n.right) c.in_ok-joined-in-BinOp.joined c.if-joined.false w.0 c.in_ok-joined-in-BinOp.ensures
+    (binary_finishes f (bin_op n.op) (expr_tree v n.left) (expr_tree v n.right) w.0 w.1 c.in_ok-middle-in-BinOp.ensures.middle c.in_ok-middle-in-BinOp.ensures.added c.in_ok-expression-in-BinOp.ensures s))) c.end_binary.ensures
+
+pub expr::finish-returns-then-joined : goal.expr::finish-returns-then-joined
+expr::finish-returns-then-joined g t c =
+    let v = g.V.TemplateValue.contents in
+    let f = g.V.TemplateValue.functions in
+    let n = c.node-operation.result.now in
+    let is = binary_arm v c.args.node.now c.in-BinOp.operation n c.in-BinOp.is c.node-operation.ensures in
+    let w = subst IsWhole is c.requires in
+    finishes_as f c.args.place (made_of v c.args.code.now) (made_of v c.join_constant.new.code) is
+    (binary_joined f (bin_op n.op) (expr_tree v n.left) (expr_tree v n.right) c.in_ok-joined-in-BinOp.joined c.if-joined.true w.0 c.in_ok-joined-in-BinOp.ensures)
 
 pub expr::finish-returns-in-UnaryOp : goal.expr::finish-returns-in-UnaryOp
 expr::finish-returns-in-UnaryOp g t c =

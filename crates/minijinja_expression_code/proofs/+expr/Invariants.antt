@@ -5,6 +5,7 @@ use Rattle.minijinja_tree.specs.WellFormed.{IsWhole, AreWhole, IsWholeIfAny}
 use Rattle.minijinja_expressions.specs.declared.ast.Expr.{size-Expr}
 use Rattle.minijinja_meaning.specs.Layout.{expr, items, count_positional, positional, count_keyword, keyword}
 use Rattle.minijinja_expression_code.specs.private.Making.{Made, made_of, Adds, count_of}
+use Rattle.minijinja_expression_code.specs.private.Waiting.{begun_of}
 use Rattle.minijinja_expression_code.proofs.InOrder.{Leads, pairs}
 use Rattle.minijinja_expression_code.proofs.Waiting.{Rest}
 use Rattle.minijinja_expressions.specs.declared.ast.Compare.{out-Compare}
@@ -25,7 +26,7 @@ invariant-expr::expression-loop-code g l =
       whole : IsWhole (expr_tree c l.part);
       small : size-Expr g.row.V.Denot g.row.V-Fault.Denot l.part ≤ n;
       rest : (later : Made g.V.TemplateValue.Contents) → Adds (made_of c l.code) later (expr f (expr_tree c l.part)) →
-          Rest f c (made_of c l.fn.code) (expr_tree c l.fn.expr) n (reverse l.begun.items) later;
+          Rest f c (made_of c l.fn.code) (expr_tree c l.fn.expr) n (reverse (begun_of l.begun)) later;
     }
 
 abbrev pub decreases-expr::expression-loop-code : goal.decreases-expr::expression-loop-code
@@ -35,10 +36,10 @@ abbrev pub invariant-expr::expression-loop-last : goal.invariant-expr::expressio
 invariant-expr::expression-loop-last g l =
     let c = g.V.TemplateValue.contents in
     let f = g.V.TemplateValue.functions in
-    Rest f c (made_of c l.fn.code) (expr_tree c l.fn.expr) (size-Expr g.row.V.Denot g.row.V-Fault.Denot l.fn.expr) (reverse l.begun.items) (made_of c l.code)
+    Rest f c (made_of c l.fn.code) (expr_tree c l.fn.expr) (size-Expr g.row.V.Denot g.row.V-Fault.Denot l.fn.expr) (reverse (begun_of l.begun)) (made_of c l.code)
 
 abbrev pub decreases-expr::expression-loop-last : goal.decreases-expr::expression-loop-last
-decreases-expr::expression-loop-last g l = length l.begun.items
+decreases-expr::expression-loop-last g l = length (begun_of l.begun)
 
 abbrev pub invariant-expr::items-loop-expr : goal.invariant-expr::items-loop-expr
 invariant-expr::items-loop-expr g l =

@@ -1,5 +1,5 @@
 -- Nodes whose code begins with that of an operand, while it is being made.
-use Rattle.std.specs.Prelude.{◌≡◌, ℕ, length, Option, Some, None}
+use Rattle.std.specs.Prelude.{◌≡◌, ℕ, length, Option, Some, None, Bool, true, false}
 use Rattle.minijinja_value.specs.Values.{Functions}
 use Rattle.minijinja_tree.specs.Tree.{Expr, variable, constant, slice, unary, binary, compare, if_expr, filter, test, attribute, item, call, list, tuple, map, absent, present}
 use Rattle.minijinja_tree.specs.Callees.{Callee, function, method, block, object, callee}
@@ -70,6 +70,11 @@ Begins {C} f e place old new = (later : Made C) → Adds new later (piece_of f (
 -- what comes after the leading operand was added
 abbrev pub Finishes : {C F : Type 0} → Functions C F → Expr C → (place : ℕ) (old new : Made C) → Type 0
 Finishes {C} f e place old new = (start : Made C) → Ready f e place start old → Adds start new (expr f e)
+
+-- that was done; or nothing was added
+abbrev pub FinishesIf : {C F : Type 0} → Functions C F → (done : Bool) → Expr C → (place : ℕ) → (old new : Made C) → Type 0
+FinishesIf f true e place old new = Finishes f e place old new
+FinishesIf f false e place old new = new ≡ old
 
 -- what comes before the right side of an operator: a hole for its jump, where the left side may decide
 abbrev pub before_right : {C : Type 0} → Working → Piece C

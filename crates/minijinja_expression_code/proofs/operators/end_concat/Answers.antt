@@ -1,5 +1,3 @@
-use Rattle.std.proofs.Common.{◌≤◌, length}
-use Rattle.minijinja_expression_code.specs.private.Constants.{TakesConstants}
 use Rattle.minijinja_expression_code.specs.private.Making.{made_of}
 use Rattle.minijinja_expression_code.proofs.OperatorCode.{joined_given, joined_unknown}
 use Rattle.minijinja_expression_code.proofs.Results.{ok_gives}

@@ -13,6 +13,6 @@ returns g c =
     let load = LoadConst c.args.value in
     let with : List (Instr g.V.TemplateValue.Contents) → Made g.V.TemplateValue.Contents = λ code. record { code = code; filters = texts_of old.filters; tests = texts_of old.tests } in
     ap with
-    (ap (map i) (c.in_ok-push.ensures.items ∙ ap (λ l. l ++ load ∷ []) c.truncate.ensures.items)
+    (ap (map i) (c.push_reserved.ensures.items ∙ ap (λ l. l ++ load ∷ []) (c.in_ok-reserve.ensures.items ∙ c.truncate.ensures.items))
     ∙ map-append i (take c.args.place old.list.items) (load ∷ [])
     ∙ ap (λ l. l ++ i load ∷ []) (sym (take-map i c.args.place old.list.items)))
