@@ -15,7 +15,7 @@ use Rattle.minijinja_value.specs.Values.{Functions}
 use Rattle.minijinja_tree.specs.Tree.{Stmts, Block}
 use Rattle.minijinja_tree.specs.WellFormed.{AreInner}
 use Rattle.minijinja_instructions.specs.Instructions.{code_of}
-use Rattle.minijinja_instructions.specs.declared.instructions.Instructions.{Instructions}
+use Rattle.minijinja_instructions.specs.InstructionLists.{Instructions}
 use Rattle.minijinja_meaning.specs.Code.{Instr}
 use Rattle.minijinja_meaning.specs.Jumps.{LeadsWell}
 use Rattle.minijinja_meaning.specs.Laws.{Laws}

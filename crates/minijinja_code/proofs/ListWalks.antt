@@ -11,7 +11,7 @@ use Rattle.minijinja_syntax.specs.Texts.{Text}
 use Rattle.minijinja_value.specs.Values.{Functions}
 use Rattle.minijinja_tree.specs.Tree.{Stmt, template, data_text, output, assignment, for_loop, if_cond, with_block, set_block, auto_escape, filter_block, named_block, extends, include, import_all, from_import, declare, call_block, do_call, break_loop, continue_loop, Stmts, done, also, Macro, macro, Block, blocks, all_blocks, macro_blocks, names_of_blocks}
 use Rattle.minijinja_tree.specs.WellFormed.{IsInner, AreInner, IsMacro, AreDistinct}
-use Rattle.minijinja_instructions.specs.declared.instructions.Instructions.{Instructions}
+use Rattle.minijinja_instructions.specs.InstructionLists.{Instructions}
 use Rattle.minijinja_meaning.specs.Layout.{block_code}
 use Rattle.minijinja_code.specs.BlockLists.{IsBlockList, list_of, HaveLists, AddsLists}
 use Rattle.minijinja_code.specs.private.Lists.{are_any, own_block, macro_body, bodies_of, is_nesting, from_nesting}

@@ -9,7 +9,7 @@ use Rattle.minijinja_value.specs.Values.{Functions}
 use Rattle.minijinja_tree.specs.Tree.{Block}
 use Rattle.minijinja_instructions.specs.Instructions.{code_of}
 use Rattle.minijinja_instructions.specs.InstructionLists.{is_required, name_of, source_of}
-use Rattle.minijinja_instructions.specs.declared.instructions.Instructions.{Instructions}
+use Rattle.minijinja_instructions.specs.InstructionLists.{Instructions}
 use Rattle.minijinja_meaning.specs.Layout.{block_code}
 use Rattle.minijinja_meaning.specs.Units.{DoesBlock}
 use Rattle.minijinja_meaning.specs.Jumps.{LeadsWell}

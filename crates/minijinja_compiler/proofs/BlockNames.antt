@@ -15,7 +15,7 @@ use Rattle.std.proofs.lemmas.Slice.Eq.{bytes_eq-Decides}
 use Rattle.minijinja_syntax.specs.Texts.{Text}
 use Rattle.minijinja_value.specs.Values.{Functions}
 use Rattle.minijinja_tree.specs.Tree.{Block}
-use Rattle.minijinja_instructions.specs.declared.instructions.Instructions.{Instructions}
+use Rattle.minijinja_instructions.specs.InstructionLists.{Instructions}
 use Rattle.minijinja_code.specs.BlockLists.{AddsLists, list_of}
 use Rattle.minijinja_compiler.specs.Headline.{AreBlockLists}
 

@@ -24,7 +24,7 @@ use Rattle.minijinja_code.specs.Hint.{IsHint, data_bytes}
 use Rattle.minijinja_code.specs.BlockLists.{HaveLists}
 use Rattle.minijinja_code.specs.Generator.{HaveTooLong}
 use Rattle.minijinja_instructions.specs.InstructionLists.{name_of, source_of}
-use Rattle.minijinja_instructions.specs.declared.instructions.Instructions.{Instructions}
+use Rattle.minijinja_instructions.specs.InstructionLists.{Instructions}
 use Rattle.minijinja_compiler.specs.declared.compile.Compiled.{Compiled}
 
 -- each of these blocks has its list, and no other list is there

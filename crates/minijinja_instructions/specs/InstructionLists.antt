@@ -5,19 +5,23 @@ use Rattle.minijinja_syntax.specs.Errors.{kind_of}
 use Rattle.minijinja_syntax.specs.declared.error.Error.{Error}
 use Rattle.minijinja_syntax.specs.declared.error.ErrorKind.TheVariants.{OutOfMemory, TooManyInstructions}
 use Rattle.minijinja_instructions.specs.declared.instructions.Instruction.{Instruction}
-use Rattle.minijinja_instructions.specs.declared.instructions.Instructions.{Instructions}
+use Rattle.minijinja_instructions.specs.declared.instructions.InstructionList.{InstructionList}
 
-abbrev pub instructions_of : {V F : Type 0} → Instructions V F → List (Instruction V F)
+-- a list of the instructions of a unit of code
+abbrev pub Instructions : Type 0 → Type 0 → Type 0
+Instructions V F = InstructionList (Instruction V F)
+
+abbrev pub instructions_of : {I : Type 0} → InstructionList I → List I
 instructions_of code = code.instructions.items
 
-abbrev pub name_of : {V F : Type 0} → Instructions V F → Text
+abbrev pub name_of : {I : Type 0} → InstructionList I → Text
 name_of code = code.name.now
 
-abbrev pub source_of : {V F : Type 0} → Instructions V F → Text
+abbrev pub source_of : {I : Type 0} → InstructionList I → Text
 source_of code = code.source.now
 
 -- whether it is that of a block that another template has to override
-abbrev pub is_required : {V F : Type 0} → Instructions V F → Bool
+abbrev pub is_required : {I : Type 0} → InstructionList I → Bool
 is_required code = code.is_required_block
 
 -- an instruction is refused for want of memory or of room

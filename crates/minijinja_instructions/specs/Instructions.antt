@@ -12,7 +12,7 @@ use Rattle.minijinja_instructions.specs.declared.instructions.CompareOp.{Compare
 use Rattle.minijinja_instructions.specs.declared.instructions.CompareOp.TheVariants as compare_op
 use Rattle.minijinja_instructions.specs.declared.instructions.Instruction.{Instruction}
 use Rattle.minijinja_instructions.specs.declared.instructions.Instruction.TheVariants.{EmitRaw, StoreLocal, Lookup, GetAttr, SetAttr, GetItem, Slice, LoadConst, BuildMap, BuildKwargs, MergeKwargs, BuildList, BuildTuple, UnpackList, UnpackLists, Add, Sub, Mul, Div, IntDiv, Rem, Pow, Neg, Eq, Ne, Gt, Gte, Lt, Lte, Not, StringConcat, In, CompareAndPreserve, ApplyFilter, PerformTest, Emit, PushLoop, PushWith, Iterate, PushDidNotIterate, PopFrame, PopLoopFrame, Jump, JumpIfFalse, JumpIfFalseOrPop, JumpIfTrueOrPop, PushAutoEscape, PopAutoEscape, BeginCapture, EndCapture, CallFunction, CallMethod, CallObject, DupTop, DiscardTop, FastSuper, FastRecurse, Swap, CallBlock, LoadBlocks, Include, ExportLocals, Enclose, GetClosure, BuildMacro, Return, IsUndefined}
-use Rattle.minijinja_instructions.specs.declared.instructions.Instructions.{Instructions}
+use Rattle.minijinja_instructions.specs.InstructionLists.{Instructions}
 
 -- a comparison of a chain
 abbrev pub compared_by : CompareOp → cmp.CompareOp

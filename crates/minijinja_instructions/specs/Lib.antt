@@ -1,2 +1,3 @@
 pub mod InstructionLists
 pub mod Instructions
+pub mod Lending

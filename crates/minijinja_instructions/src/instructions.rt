@@ -190,14 +190,20 @@ pub enum Instruction<'s, V: TemplateValue = Value> {
 
 /// A list of instructions, with the name and the text of the source that they come from. It has fewer than 2^32.
 #[derive(Drop)]
-pub struct Instructions<'s, V: TemplateValue = Value> {
-    pub(crate) instructions: Vec<Instruction<'s, V>>,
+pub struct InstructionList<'s, I> {
+    pub(crate) instructions: Vec<I>,
     pub(crate) name: &'s str,
     pub(crate) source: &'s str,
     pub(crate) is_required_block: bool,
 }
 
-impl<'s, V: TemplateValue> Instructions<'s, V> {
+/// A list of the instructions of a unit of code.
+pub type Instructions<'s, V = Value> = InstructionList<'s, Instruction<'s, V>>;
+
+impl<'s, I> InstructionList<'s, I> {
+    ghost use Rattle.std.specs.Borrow.{sem};
+    ghost use Rattle.minijinja_instructions.specs.Lending.{lends_instruction};
+
     /// An empty list, which takes no memory yet.
     pub fn new(alloc: Global, name: &'s str, source: &'s str) -> Self
         ensures empty { instructions_of result ≡ [] }
@@ -205,7 +211,7 @@ impl<'s, V: TemplateValue> Instructions<'s, V> {
         ensures name { name_of result ≡ name.now }
         ensures source { source_of result ≡ source.now }
     {
-        Instructions {
+        InstructionList {
             instructions: Vec::new(alloc),
             name,
             source,
@@ -249,24 +255,28 @@ impl<'s, V: TemplateValue> Instructions<'s, V> {
     }
 
     /// The instruction at an index, from 0, or none where the list has ended.
-    pub fn get(&self, index: u32) -> Option<&Instruction<'s, V>>
+    pub fn get(&self, index: u32) -> Option<&I>
         ensures { option_copied result ≡ slice_get (instructions_of self.now) index }
     {
         self.instructions.get(index as usize)
     }
 
-    /// The instruction at an index, from 0, to be changed, or none where the list has ended.
-    pub fn get_mut(&mut self, index: u32) -> Option<&mut Instruction<'s, V>>
-        ensures { option_copied_mut result ≡ slice_get (instructions_of self.old) index }
+    /// The instruction at an index, from 0, to be changed, or none where the list has ended. What is written stands at the
+    /// index, and all else in the list stays.
+    pub fn get_mut(&mut self, index: u32) -> Option<&mut I>
+        ensures* writes_back { sem 𝓛 (lends_instruction I.row self.entry index result) }
+        ensures value { option_copied_mut result ≡ slice_get (instructions_of self.old) index }
     {
         self.instructions.get_mut(index as usize)
     }
 
     /// Adds an instruction and answers its index. Refused are memory, and the instruction with which the list would reach
     /// 2^32; the list is unchanged then.
-    pub fn add(&mut self, instruction: Instruction<'s, V>) -> Result<u32, Error<'s>>
+    pub fn add(&mut self, instruction: I) -> Result<u32, Error<'s>>
+    where
+        I: Drop,
         ensures added { IfOk result
-            (λ _. instructions_of self.new ≡ instructions_of self.old ++ instruction.entry ∷ []) }
+            (λ _. instructions_of self.new ≡ instructions_of self.old ++ instruction ∷ []) }
         ensures index { IfOk result (λ i. i ≡ length (instructions_of self.old)) }
         ensures unchanged { OnErr result (instructions_of self.new ≡ instructions_of self.old) }
         ensures causes { IfErr result IsAddError }
@@ -285,11 +295,8 @@ impl<'s, V: TemplateValue> Instructions<'s, V> {
 }
 
 /// Adds an instruction to a list, with the same refusals.
-fn push_within<'s, V: TemplateValue>(
-    list: &mut Vec<Instruction<'s, V>>,
-    instruction: Instruction<'s, V>,
-) -> Result<(), Error<'static>>
-    ensures added { OnOk result (list.new.items ≡ list.old.items ++ instruction.entry ∷ []) }
+fn push_within<I: Drop>(list: &mut Vec<I>, instruction: I) -> Result<(), Error<'static>>
+    ensures added { OnOk result (list.new.items ≡ list.old.items ++ instruction ∷ []) }
     ensures unchanged { OnErr result (list.new.items ≡ list.old.items) }
     ensures fits { OnOk result (length list.new.items < 2 ^ 32) }
     ensures causes { IfErr result IsAddError }

@@ -5,7 +5,7 @@ ghost use Rattle.minijinja_syntax.specs.Errors.{kind_of, span_of};
 ghost use Rattle.minijinja_syntax.specs.declared.error.ErrorKind.TheVariants.{TooManyInstructions};
 ghost use Rattle.minijinja_instructions.specs.InstructionLists.{instructions_of, is_required, name_of, source_of};
 
-use crate::instructions::{Instruction, Instructions};
+use crate::instructions::{Instruction, InstructionList, Instructions};
 use minijinja_base::error::{Detail, Error, ErrorKind};
 use minijinja_base::value::TemplateValue;
 
@@ -39,7 +39,7 @@ pub fn listed<'s, V: TemplateValue>(
     ensures name { name_of result ≡ name.now }
     ensures source { source_of result ≡ source.now }
 {
-    Instructions {
+    InstructionList {
         instructions,
         name,
         source,

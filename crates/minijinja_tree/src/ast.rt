@@ -31,39 +31,47 @@ pub enum Stmt<'s, V: TemplateValue = Value> {
     Do(Spanned<Do<'s, V>>),
 }
 
-/// The last statement of a false body goes in a loop, so that a row of `elif` takes no more stack than one of them.
+/// Written out, so that whoever lets a statement go calls this, and how each kind of node is let go is proved here alone.
 impl<'s, V: TemplateValue> Drop for Stmt<'s, V> {
     #[cycle(stmt)]
-    fn drop(mut self) {
-        loop {
-            match self {
-                Stmt::IfCond(condition) => {
-                    let IfCond { mut false_body, .. } = condition.into_node();
-                    match false_body.pop() {
-                        Some(last) => self = last,
-                        None => return,
-                    }
-                }
-                Stmt::Template(_template) => return,
-                Stmt::EmitExpr(_output) => return,
-                Stmt::EmitRaw(_data) => return,
-                Stmt::ForLoop(_loop) => return,
-                Stmt::WithBlock(_block) => return,
-                Stmt::Set(_assignment) => return,
-                Stmt::SetBlock(_block) => return,
-                Stmt::AutoEscape(_block) => return,
-                Stmt::FilterBlock(_block) => return,
-                Stmt::Block(_block) => return,
-                Stmt::Import(_import) => return,
-                Stmt::FromImport(_import) => return,
-                Stmt::Extends(_name) => return,
-                Stmt::Include(_name) => return,
-                Stmt::Macro(_declared) => return,
-                Stmt::CallBlock(_call) => return,
-                Stmt::Continue(_jump) => return,
-                Stmt::Break(_jump) => return,
-                Stmt::Do(_call) => return,
-            }
+    fn drop(self) {
+        match self {
+            Stmt::Template(_) => {}
+            Stmt::EmitExpr(_) => {}
+            Stmt::EmitRaw(_) => {}
+            Stmt::ForLoop(_) => {}
+            Stmt::IfCond(_) => {}
+            Stmt::WithBlock(_) => {}
+            Stmt::Set(_) => {}
+            Stmt::SetBlock(_) => {}
+            Stmt::AutoEscape(_) => {}
+            Stmt::FilterBlock(_) => {}
+            Stmt::Block(_) => {}
+            Stmt::Import(_) => {}
+            Stmt::FromImport(_) => {}
+            Stmt::Extends(_) => {}
+            Stmt::Include(_) => {}
+            Stmt::Macro(_) => {}
+            Stmt::CallBlock(_) => {}
+            Stmt::Continue(_) => {}
+            Stmt::Break(_) => {}
+            Stmt::Do(_) => {}
+        }
+    }
+}
+
+impl<'s, V: TemplateValue> Stmt<'s, V> {
+    ghost use Rattle.std.specs.Prelude.{◌≡◌, IfErr, IfOk};
+    ghost use Rattle.minijinja_tree.specs.declared.ast.Stmt.TheVariants as kinds;
+
+    /// The condition that the statement is, or the statement.
+    fn into_condition(self) -> Result<Spanned<IfCond<'s, V>>, Self>
+        ensures condition { IfOk result (λ condition. self.entry ≡ kinds.IfCond condition) }
+        ensures other { IfErr result (λ other. other ≡ self.entry) }
+    {
+        match self {
+            Stmt::IfCond(condition) => Ok(condition),
+            other => Err(other),
         }
     }
 }
@@ -102,11 +110,31 @@ pub struct ForLoop<'s, V: TemplateValue = Value> {
 
 /// A condition: `{% if expr %}`. An `elif` is a false body that holds one condition.
 #[cycle(stmt)]
-#[derive(Drop)]
 pub struct IfCond<'s, V: TemplateValue = Value> {
     pub expr: Expr<'s, V>,
     pub true_body: Vec<Stmt<'s, V>>,
     pub false_body: Vec<Stmt<'s, V>>,
+}
+
+/// A condition that ends a false body goes in a loop, so that a row of `elif` takes no more stack than one of them.
+impl<'s, V: TemplateValue> Drop for IfCond<'s, V> {
+    #[cycle(stmt)]
+    fn drop(mut self) {
+        loop {
+            let IfCond {
+                expr: _test,
+                true_body: _true_body,
+                mut false_body,
+            } = self;
+            let Some(last) = false_body.pop() else {
+                return;
+            };
+            match last.into_condition() {
+                Ok(condition) => self = condition.into_node(),
+                Err(_other) => return,
+            }
+        }
+    }
 }
 
 /// A scope with variables of its own: `{% with target = expr %}`.

@@ -8,7 +8,7 @@ use Rattle.minijinja_meaning.specs.Code.{Instr}
 use Rattle.minijinja_meaning.specs.Pieces.{Here}
 use Rattle.minijinja_expression_code.specs.private.Making.{made_of, here_of}
 use Rattle.minijinja_code.specs.declared.codegen.CodeGenerator.{CodeGenerator}
-use Rattle.minijinja_instructions.specs.declared.instructions.Instructions.{Instructions}
+use Rattle.minijinja_instructions.specs.InstructionLists.{Instructions}
 
 -- the instructions so far, over what values hold
 abbrev pub generated : {V F C : Type 0} → (V → C) → CodeGenerator V F → List (Instr C)

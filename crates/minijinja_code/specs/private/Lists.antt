@@ -8,7 +8,7 @@ use Rattle.minijinja_tree.specs.Tree as tree
 use Rattle.minijinja_tree.specs.Tree.{template, data_text, output, assignment, for_loop, if_cond, with_block, set_block, auto_escape, filter_block, named_block, extends, include, import_all, from_import, declare, call_block, do_call, break_loop, continue_loop, Stmts, done, also, Macro, macro, Block, stmts_of}
 use Rattle.minijinja_tree.specs.declared.ast.Block.{Block as BlockNode}
 use Rattle.minijinja_tree.specs.declared.ast.Stmt.{Stmt}
-use Rattle.minijinja_instructions.specs.declared.instructions.Instructions.{Instructions}
+use Rattle.minijinja_instructions.specs.InstructionLists.{Instructions}
 use Rattle.minijinja_code.specs.declared.codegen.lists.Lists.{Lists}
 
 -- the lists so far, by name, and the name and the text of the source
