@@ -113,37 +113,15 @@ fn a_node_is_made_with_ample_memory(rt: HostRuntime) -> Result<(), Fail> {
     Ok(())
 }
 
-/// Adds the code that assigns to a name.
-fn compile_target(
-    alloc: Global,
-    generator: &mut CodeGenerator<'static, Value>,
-) -> Result<(), Error<'static>>
-    ensures ready { OnOk result (refusal_of generator.new ≡ None) }
-{
-    let target = Expr::Var(target(alloc)?);
-    generator.compile_assignment(&target)
-}
-
-/// Adds the code of a template in the default syntax.
-fn compile_template(
-    alloc: Global,
-    generator: &mut CodeGenerator<'static, Value>,
-    text: &'static str,
-) -> Result<(), Error<'static>>
-    ensures ready { OnOk result (refusal_of generator.new ≡ None) }
-{
-    let tree = parse(alloc, text, "name", &SyntaxConfig::default())?;
-    generator.compile_stmt(&tree)
-}
-
 /// The code of an expression, of an assignment of its value and of a template, with the hint and how many blocks there are.
 fn code_of_each(
     alloc: Global,
 ) -> Result<(Instructions<'static, Value>, usize, usize), Error<'static>> {
     let mut generator = CodeGenerator::new(alloc, "name", "source");
-    compile_expression(alloc, &mut generator, "1")?;
-    compile_target(alloc, &mut generator)?;
-    compile_template(alloc, &mut generator, "abc{{ x }}")?;
+    generator.compile_expr(&parse_expr::<Value>(alloc, "1")?)?;
+    generator.compile_assignment(&Expr::Var(target(alloc)?))?;
+    let syntax = SyntaxConfig::default();
+    generator.compile_stmt(&parse(alloc, "abc{{ x }}", "name", &syntax)?)?;
     let hint = generator.buffer_size_hint();
     let (code, blocks) = generator.finish();
     Ok((code, hint, blocks.len()))
