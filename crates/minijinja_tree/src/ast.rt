@@ -32,27 +32,49 @@ pub enum Stmt<'s, V: TemplateValue = Value> {
 }
 
 /// Written out, so that whoever lets a statement go calls this, and how each kind of node is let go is proved here alone.
+/// A node that holds statements is taken off the heap, and its parts go by themselves: a box goes by a call that is handed how
+/// what it holds is let go, which would make each of these kinds a function of the cycle.
 impl<'s, V: TemplateValue> Drop for Stmt<'s, V> {
     #[cycle(stmt)]
     fn drop(self) {
         match self {
-            Stmt::Template(_) => {}
+            Stmt::Template(spanned) => {
+                let _node = spanned.into_node();
+            }
             Stmt::EmitExpr(_) => {}
             Stmt::EmitRaw(_) => {}
-            Stmt::ForLoop(_) => {}
-            Stmt::IfCond(_) => {}
-            Stmt::WithBlock(_) => {}
+            Stmt::ForLoop(spanned) => {
+                let _node = spanned.into_node();
+            }
+            Stmt::IfCond(spanned) => {
+                let _node = spanned.into_node();
+            }
+            Stmt::WithBlock(spanned) => {
+                let _node = spanned.into_node();
+            }
             Stmt::Set(_) => {}
-            Stmt::SetBlock(_) => {}
-            Stmt::AutoEscape(_) => {}
-            Stmt::FilterBlock(_) => {}
-            Stmt::Block(_) => {}
+            Stmt::SetBlock(spanned) => {
+                let _node = spanned.into_node();
+            }
+            Stmt::AutoEscape(spanned) => {
+                let _node = spanned.into_node();
+            }
+            Stmt::FilterBlock(spanned) => {
+                let _node = spanned.into_node();
+            }
+            Stmt::Block(spanned) => {
+                let _node = spanned.into_node();
+            }
             Stmt::Import(_) => {}
             Stmt::FromImport(_) => {}
             Stmt::Extends(_) => {}
             Stmt::Include(_) => {}
-            Stmt::Macro(_) => {}
-            Stmt::CallBlock(_) => {}
+            Stmt::Macro(spanned) => {
+                let _node = spanned.into_node();
+            }
+            Stmt::CallBlock(spanned) => {
+                let _node = spanned.into_node();
+            }
             Stmt::Continue(_) => {}
             Stmt::Break(_) => {}
             Stmt::Do(_) => {}
