@@ -183,32 +183,37 @@ pub enum Detail<'s> {
 
 impl fmt::Display for Detail<'_> {
     fn fmt<W: fmt::Write>(&self, f: &mut fmt::Formatter<W>) -> fmt::Result {
-        match self {
-            Detail::InvalidDelimiter => write!(f, "invalid delimiter"),
-            Detail::UnexpectedCharacter => write!(f, "unexpected character"),
-            Detail::UnterminatedString => write!(f, "unexpected end of string"),
-            Detail::BadEscape => write!(f, "invalid string escape"),
-            Detail::MissingDigits => write!(f, "a number has no digits"),
-            Detail::DigitOutOfRange => write!(f, "a digit is out of the number's radix"),
-            Detail::TrailingUnderscore => write!(f, "'_' may not occur at end of number"),
-            Detail::IntegerTooLarge => write!(f, "integer too large"),
-            Detail::FloatLiteral => write!(f, "float literals are not supported"),
-            Detail::UnexpectedEnd(wanted) => write!(
-                f,
-                "unexpected end of input, expected {wanted}"
-            ),
-            Detail::UnexpectedToken(wanted) => write!(f, "unexpected token, expected {wanted}"),
-            Detail::UnknownStatement(word) => write!(f, "unknown statement {word}"),
-            Detail::ReservedName(name) => write!(f, "cannot assign to reserved name {name}"),
-            Detail::TooDeep => write!(f, "template exceeds maximum recursion limits"),
-            Detail::TooManyArguments => write!(f, "too many arguments in function call"),
-            Detail::PlainAfterKeyword => write!(f, "non-keyword arg after keyword arg"),
-            Detail::OutsideLoop(word) => write!(f, "'{word}' must be placed inside a loop"),
-            Detail::NotACall => write!(f, "expected call expression"),
-            Detail::OutOfMemory => write!(f, "out of memory"),
-            Detail::SourceTooLong => write!(f, "source too long"),
-            Detail::TooManyInstructions => write!(f, "too many instructions"),
-        }
+        f.write_str(match self {
+            Detail::InvalidDelimiter => "invalid delimiter",
+            Detail::UnexpectedCharacter => "unexpected character",
+            Detail::UnterminatedString => "unexpected end of string",
+            Detail::BadEscape => "invalid string escape",
+            Detail::MissingDigits => "a number has no digits",
+            Detail::DigitOutOfRange => "a digit is out of the number's radix",
+            Detail::TrailingUnderscore => "'_' may not occur at end of number",
+            Detail::IntegerTooLarge => "integer too large",
+            Detail::FloatLiteral => "float literals are not supported",
+            Detail::UnexpectedEnd(wanted) => {
+                return write!(f, "unexpected end of input, expected {wanted}");
+            }
+            Detail::UnexpectedToken(wanted) => {
+                return write!(f, "unexpected token, expected {wanted}");
+            }
+            Detail::UnknownStatement(word) => return write!(f, "unknown statement {word}"),
+            Detail::ReservedName(name) => {
+                return write!(f, "cannot assign to reserved name {name}");
+            }
+            Detail::TooDeep => "template exceeds maximum recursion limits",
+            Detail::TooManyArguments => "too many arguments in function call",
+            Detail::PlainAfterKeyword => "non-keyword arg after keyword arg",
+            Detail::OutsideLoop(word) => {
+                return write!(f, "'{word}' must be placed inside a loop");
+            }
+            Detail::NotACall => "expected call expression",
+            Detail::OutOfMemory => "out of memory",
+            Detail::SourceTooLong => "source too long",
+            Detail::TooManyInstructions => "too many instructions",
+        })
     }
 }
 
