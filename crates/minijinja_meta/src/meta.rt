@@ -195,7 +195,8 @@ fn choice_beside<'s, V: TemplateValue>(
 ) -> Result<(), AllocError>
     ensures { OnOk result (Notes names.old names.new
         (λ y. mentions_beside y (tree.if_expr (expr_tree V.contents choice.now.test_expr)
-        (expr_tree V.contents choice.now.true_expr) (optional_of V.contents choice.now.false_expr)))) }
+        (expr_tree V.contents choice.now.true_expr)
+        (optional_of V.contents choice.now.false_expr)))) }
 {
     expression(names, &choice.test_expr)?;
     match choice.false_expr {
@@ -410,7 +411,8 @@ fn taken_as<'s, V: TemplateValue>(
 ) -> Result<(), AllocError>
     requires { IsLogged names.old }
     ensures { OnOk result (Walks names.old names.new
-        (to_target (tree.stored_as (expr_tree V.contents taken.now.0, optional_of V.contents taken.now.1)))) }
+        (to_target (tree.stored_as
+        (expr_tree V.contents taken.now.0, optional_of V.contents taken.now.1)))) }
 {
     match &taken.1 {
         Some(alias) => target(names, alias),
@@ -442,7 +444,8 @@ fn parameter<'s, V: TemplateValue>(
 ) -> Result<(), AllocError>
     requires { IsLogged names.old }
     ensures { OnOk result (Walking names.old names.new
-        (to_parameters (drop place (tree.parameters (map (expr_tree V.contents) declared.now.args.items)
+        (to_parameters (drop place (tree.parameters
+        (map (expr_tree V.contents) declared.now.args.items)
         (map (expr_tree V.contents) declared.now.defaults.items))))
         (to_parameters (drop (place + 1) (tree.parameters
         (map (expr_tree V.contents) declared.now.args.items)
@@ -464,7 +467,8 @@ fn defaulted<'s, V: TemplateValue>(
 ) -> Result<(), AllocError>
     requires { IsLogged names.old }
     ensures { OnOk result (Walks names.old names.new
-        (λ w. through (expr_tree V.contents default.now) (to_target (expr_tree V.contents arg.now) w))) }
+        (λ w. through (expr_tree V.contents default.now)
+        (to_target (expr_tree V.contents arg.now) w))) }
 {
     expression(names, default)?;
     target(names, arg)

@@ -200,8 +200,8 @@ fn template_of<'s, 'c, V: TemplateValue, S: OfParts<'s, V>>(
     tokens: &mut TokenStream<'s, 'c>,
     depth: usize,
 ) -> Result<S, Refusal>
-    ensures { Reads (S.node V.Contents V.contents) (reads (template_at V.functions depth) tokens.old)
-        result tokens.new }
+    ensures { Reads (S.node V.Contents V.contents)
+        (reads (template_at V.functions depth) tokens.old) result tokens.new }
 {
     let made = PhantomData;
     statements::template(TreeStatements { nodes, made }, tokens, depth)

@@ -45,7 +45,8 @@ fn is_root<V: TemplateValue>(stmt: &Stmt<'_, V>) -> bool
 
 #[cycle(inner)]
 fn are_inner<V: TemplateValue>(stmts: &[Stmt<'_, V>], in_loop: bool, in_macro: bool) -> bool
-    ensures { result ≡ tests.are_inner in_loop in_macro (stmts_of (map (stmt_tree V.contents) stmts.now)) }
+    ensures { result ≡ tests.are_inner in_loop in_macro
+        (stmts_of (map (stmt_tree V.contents) stmts.now)) }
 {
     for stmt in stmts {
         if !is_inner(stmt, in_loop, in_macro) {
@@ -134,8 +135,8 @@ fn has_loop_bodies<V: TemplateValue>(
     in_loop: bool,
     in_macro: bool,
 ) -> bool
-    ensures { result ≡
-        (tests.are_inner true in_macro (stmts_of (map (stmt_tree V.contents) repeated.now.body.items))
+    ensures { result ≡ (tests.are_inner true in_macro
+        (stmts_of (map (stmt_tree V.contents) repeated.now.body.items))
         && tests.are_inner in_loop in_macro
         (stmts_of (map (stmt_tree V.contents) repeated.now.else_body.items))) }
 {
