@@ -20,6 +20,7 @@ pub mod SomeCut
 pub mod Kept
 pub mod Slices
 pub mod Order
+pub mod Pairs
 pub mod Examples
 mod Occurrences
 mod Stretches

@@ -1,6 +1,6 @@
 -- What a tokenizer answers of the tokens that are to come.
-use Rattle.std.specs.Prelude.{◌≡◌, ◌⊎◌, List, [], ◌∷◌, ◌++◌, map, Option, Some, None, Result, Ok, Err}
-use Rattle.minijinja_syntax.specs.Tokens.{Tok, tok_of, string, int128}
+use Rattle.std.specs.Prelude.{◌≡◌, ◌⊎◌, List, [], ◌∷◌, Option, Some, None, Result, Ok, Err}
+use Rattle.minijinja_syntax.specs.Tokens.{Tok, string, int128}
 use Rattle.std.specs.Borrow.{Bor}
 use Rattle.std.specs.Option.{option_map}
 use Rattle.minijinja_syntax.specs.Errors.{kind_of, name_of, span_of, IsOutOfMemory}
