@@ -1,9 +1,6 @@
 -- The block that a statement is, by its node.
 use Rattle.std.proofs.Common.{◌≡◌, ◌≤◌, ◌^◌, List, [], ◌∷◌, length, refl, sym, ap, ◌∙◌, subst, arith, Result, Ok, Err, zero}
 use Rattle.std.specs.Prelude.{false, IfErr, IsErrAnd}
-use Rattle.minijinja_syntax.specs.Errors.{kind_of}
-use Rattle.minijinja_syntax.specs.declared.error.Error.{Error}
-use Rattle.minijinja_syntax.specs.declared.error.ErrorKind.TheVariants.{TooManyInstructions}
 use Rattle.minijinja_value.specs.Values.{Functions}
 use Rattle.minijinja_expressions.specs.declared.ast.Spanned.{Spanned}
 use Rattle.minijinja_tree.specs.Erasure.{stmt_tree}
@@ -51,11 +48,11 @@ pub block_inner : {V F C : Type 0} (c : V → C) (s : Stmt V F) (b : Spanned (Bl
 block_inner c s b n is at w = named_inner w.in_loop (block_tree c n) (subst (MayStand w.in_loop) (block_arm c s b n is at) w.stands)
 
 -- one of one block is too long
-pub one_long : {X C L F : Type 0} (f : Functions C F) (b : Block C L) (bs : List (Block C L)) (r : Result X Error) → bs ≡ b ∷ [] → IfErr r (λ e. kind_of e ≡ TooManyInstructions → 2 ^ 32 ≤ length (block_code f b.body)) → IfErr r (λ e. kind_of e ≡ TooManyInstructions → HaveTooLong f bs)
-one_long f b bs (Ok x) is h = tt
-one_long f b bs (Err e) is h = λ k. subst (HaveTooLong f) (sym is) (zero, b, omega arith, refl, h k)
+pub one_long : {X E C L F : Type 0} (Says : E → Type 0) (f : Functions C F) (b : Block C L) (bs : List (Block C L)) (r : Result X E) → bs ≡ b ∷ [] → IfErr r (λ e. Says e → 2 ^ 32 ≤ length (block_code f b.body)) → IfErr r (λ e. Says e → HaveTooLong f bs)
+one_long Says f b bs (Ok x) is h = tt
+one_long Says f b bs (Err e) is h = λ k. subst (HaveTooLong f) (sym is) (zero, b, omega arith, refl, h k)
 
 -- what holds of an error holds of the refusal that passes it on
-pub passed_on : {X : Type 0} (P : Error → Type 0) (r : Result X Error) (x : Error) → IsErrAnd r (λ e. e ≡ x) → P x → IfErr r P
+pub passed_on : {X E : Type 0} (P : E → Type 0) (r : Result X E) (x : E) → IsErrAnd r (λ e. e ≡ x) → P x → IfErr r P
 passed_on P (Ok y) x h p = tt
 passed_on P (Err e) x h p = subst P (sym h) p

@@ -22,7 +22,7 @@ ghost use Rattle.minijinja_meaning.specs.Pieces.{start};
 
 mod lists;
 
-use crate::codegen::lists::{Lists, add_lists};
+use crate::codegen::lists::{Lists, Refusal, Source, add_lists};
 use minijinja_base::error::Error;
 use minijinja_base::tokens::Span;
 use minijinja_base::value::{TemplateValue, Value};
@@ -41,6 +41,7 @@ use std::collections::BTreeMap;
 /// Makes the instructions of trees. After a refusal it answers that refusal from then on.
 #[derive(Drop)]
 pub struct CodeGenerator<'s, V: TemplateValue = Value> {
+    source: Source<'s>,
     code: Emitter<'s, V>,
     lists: Lists<'s, V>,
     raw_template_bytes: usize,
@@ -59,12 +60,12 @@ impl<'s, V: TemplateValue> CodeGenerator<'s, V> {
         ensures source { text_of result ≡ source.now }
     {
         CodeGenerator {
-            code: Emitter::new(alloc),
-            lists: Lists {
-                file,
-                source,
-                blocks: BTreeMap::new(alloc),
+            source: Source {
+                name: file,
+                text: source,
             },
+            code: Emitter::new(alloc),
+            lists: BTreeMap::new(alloc),
             raw_template_bytes: 0,
             refusal: None,
         }
@@ -208,13 +209,14 @@ impl<'s, V: TemplateValue> CodeGenerator<'s, V> {
         ensures name { name_of result.0 ≡ file_of self.entry }
         ensures source { source_of result.0 ≡ text_of self.entry }
     {
-        let CodeGenerator { code, lists, .. } = self;
-        let Lists {
-            file,
+        let CodeGenerator {
             source,
-            blocks,
-        } = lists;
-        (listed(code.into_list(), file, source, false), blocks)
+            code,
+            lists,
+            ..
+        } = self;
+        let code = listed(code.into_list(), source.name, source.text, false);
+        (code, lists)
     }
 
     /// Adds the list of each block of a statement; a refusal is kept.
@@ -238,13 +240,13 @@ impl<'s, V: TemplateValue> CodeGenerator<'s, V> {
         ensures source { text_of self.new ≡ text_of self.old }
     {
         let alloc = self.code.alloc();
-        match add_lists(&mut self.lists, alloc, stmt) {
-            Ok(()) => Ok(()),
-            Err(error) => {
-                self.keep(error);
-                Err(error)
-            }
-        }
+        let error = match add_lists(&mut self.lists, alloc, self.source, stmt) {
+            Ok(()) => return Ok(()),
+            Err(Refusal::TooMany) => too_many(),
+            Err(Refusal::OutOfMemory) => Error::from(AllocError),
+        };
+        self.keep(error);
+        Err(error)
     }
 
     /// Keeps a refusal, which comes again from then on.

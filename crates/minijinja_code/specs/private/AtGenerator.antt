@@ -20,14 +20,14 @@ here_so_far c g = here_of (made_of c g.code)
 
 -- the name and the text of the source
 abbrev pub file_of : {V F : Type 0} → CodeGenerator V F → Text
-file_of g = g.lists.file.now
+file_of g = g.source.name.now
 
 abbrev pub text_of : {V F : Type 0} → CodeGenerator V F → Text
-text_of g = g.lists.source.now
+text_of g = g.source.text.now
 
 -- the blocks' lists, by name
 abbrev pub blocks_of : {V F : Type 0} → CodeGenerator V F → BTreeMap (Bor Text) (Instructions V F)
-blocks_of g = g.lists.blocks
+blocks_of g = g.lists
 
 -- the bytes of the data nodes so far, where they number under 2 ^ 64
 abbrev pub counted_bytes : {V F : Type 0} → CodeGenerator V F → ℕ

@@ -1,25 +1,11 @@
 -- The lists of blocks while they are being made.
 use Rattle.std.specs.Prelude.{Bool, true, false, List, [], ◌∷◌, map, reverse, if◌then◌else◌}
 use Rattle.std.specs.Borrow.{Bor}
-use Rattle.std.specs.BTreeMap.{BTreeMap}
-use Rattle.minijinja_syntax.specs.Texts.{Text}
 use Rattle.minijinja_tree.specs.Erasure.{stmt_tree}
 use Rattle.minijinja_tree.specs.Tree as tree
 use Rattle.minijinja_tree.specs.Tree.{template, data_text, output, assignment, for_loop, if_cond, with_block, set_block, auto_escape, filter_block, named_block, extends, include, import_all, from_import, declare, call_block, do_call, break_loop, continue_loop, Stmts, done, also, Macro, macro, Block, stmts_of}
 use Rattle.minijinja_tree.specs.declared.ast.Block.{Block as BlockNode}
 use Rattle.minijinja_tree.specs.declared.ast.Stmt.{Stmt}
-use Rattle.minijinja_instructions.specs.InstructionLists.{Instructions}
-use Rattle.minijinja_code.specs.declared.codegen.lists.Lists.{Lists}
-
--- the lists so far, by name, and the name and the text of the source
-abbrev pub lists_of : {V F : Type 0} → Lists V F → BTreeMap (Bor Text) (Instructions V F)
-lists_of l = l.blocks
-
-abbrev pub file_in : {V F : Type 0} → Lists V F → Text
-file_in l = l.file.now
-
-abbrev pub text_in : {V F : Type 0} → Lists V F → Text
-text_in l = l.source.now
 
 -- the block that a node is
 abbrev pub block_tree : {V F C : Type 0} → (V → C) → BlockNode V F → Block C (Unit {0})

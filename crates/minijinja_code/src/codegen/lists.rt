@@ -1,37 +1,78 @@
 //! The lists of blocks.
 ghost use Rattle.std.specs.Prelude.{IsTrue, ◌≡◌, ◌≤◌, ◌^◌, ◌∷◌, [], ◌++◌, false, length, map, IfErr, IfOk, OnOk};
-ghost use Rattle.minijinja_syntax.specs.Errors.{kind_of};
-ghost use Rattle.minijinja_syntax.specs.declared.error.ErrorKind.TheVariants.{TooManyInstructions};
 ghost use Rattle.minijinja_tree.specs.Erasure.{stmt_tree};
 ghost use Rattle.minijinja_tree.specs.Tree.{blocks, stmts_of};
 ghost use Rattle.minijinja_tree.specs.WellFormed.{AreInner, IsWellFormed};
-ghost use Rattle.minijinja_instructions.specs.InstructionLists.{IsAddError};
 ghost use Rattle.minijinja_instructions.specs.Instructions.{instr_of};
 ghost use Rattle.minijinja_code.specs.BlockLists.{AddsLists};
-ghost use Rattle.minijinja_code.specs.Generator.{HaveTooLong, IsUnplaced};
-ghost use Rattle.minijinja_code.specs.private.Lists.{block_tree, bodies_of, file_in, from_nesting, is_nesting, lists_of, own_block, rows_of, text_in};
+ghost use Rattle.minijinja_code.specs.Generator.{HaveTooLong};
+ghost use Rattle.minijinja_code.specs.declared.codegen.lists.Refusal.TheVariants.{TooMany};
+ghost use Rattle.minijinja_code.specs.private.Lists.{block_tree, bodies_of, from_nesting, is_nesting, own_block, rows_of};
 ghost use Rattle.minijinja_statement_code.specs.private.Statements.{StandsSomewhere};
 ghost use Rattle.minijinja_expression_code.specs.private.Making.{capped};
 ghost use Rattle.minijinja_meaning.specs.Layout as layout;
 
-use minijinja_base::error::Error;
 use minijinja_base::value::TemplateValue;
 use minijinja_expression_code::emit::Emitter;
-use minijinja_expression_code::memory::OutOfMemory;
+use minijinja_expression_code::memory;
 use minijinja_instructions::instructions::{Instruction, Instructions};
-use minijinja_instructions::lists::{LIMIT, listed, too_many};
+use minijinja_instructions::lists::{LIMIT, listed};
 use minijinja_statement_code::stmt::statements;
 use minijinja_statement_parts::turn::Turn;
 use minijinja_tree::ast::{Block, Stmt};
-use std::alloc::{AllocError, Global};
+use std::alloc::{AllocError, AllocFailed, Global};
 use std::collections::BTreeMap;
 
-/// The lists of the blocks of a source with this name and text, by the names of the blocks.
-#[derive(Drop)]
-pub(super) struct Lists<'s, V: TemplateValue> {
-    pub(super) file: &'s str,
-    pub(super) source: &'s str,
-    pub(super) blocks: BTreeMap<&'s str, Instructions<'s, V>>,
+/// The lists of blocks, by the names of the blocks.
+pub(super) type Lists<'s, V> = BTreeMap<&'s str, Instructions<'s, V>>;
+
+/// The name and the text of a source.
+#[derive(Clone, Copy)]
+pub(super) struct Source<'s> {
+    pub(super) name: &'s str,
+    pub(super) text: &'s str,
+}
+
+/// Why a list is not made.
+#[derive(Clone, Copy)]
+pub(super) enum Refusal {
+    /// Memory was refused.
+    OutOfMemory,
+    /// The list would have 2^32 instructions or more.
+    TooMany,
+}
+
+impl From<AllocError> for Refusal {
+    ghost use Rattle.std.specs.Prelude.{◌≡◌};
+    ghost use Rattle.minijinja_code.specs.declared.codegen.lists.Refusal.TheVariants.{OutOfMemory};
+
+    ghost from_gives = { λ _ r. r ≡ OutOfMemory };
+
+    fn from(_error: AllocError) -> Self {
+        Refusal::OutOfMemory
+    }
+}
+
+impl<T: Drop> From<AllocFailed<T>> for Refusal {
+    ghost use Rattle.std.specs.Prelude.{◌≡◌};
+    ghost use Rattle.minijinja_code.specs.declared.codegen.lists.Refusal.TheVariants.{OutOfMemory};
+
+    ghost from_gives = { λ _ r. r ≡ OutOfMemory };
+
+    fn from(_error: AllocFailed<T>) -> Self {
+        Refusal::OutOfMemory
+    }
+}
+
+impl From<memory::OutOfMemory> for Refusal {
+    ghost use Rattle.std.specs.Prelude.{◌≡◌};
+    ghost use Rattle.minijinja_code.specs.declared.codegen.lists.Refusal.TheVariants.{OutOfMemory};
+
+    ghost from_gives = { λ _ r. r ≡ OutOfMemory };
+
+    fn from(_error: memory::OutOfMemory) -> Self {
+        Refusal::OutOfMemory
+    }
 }
 
 /// Adds the list of each block of a statement. The bodies are gone through in a loop, so that one in another takes no more
@@ -39,29 +80,25 @@ pub(super) struct Lists<'s, V: TemplateValue> {
 pub(super) fn add_lists<'s, V: TemplateValue>(
     lists: &mut Lists<'s, V>,
     alloc: Global,
+    source: Source<'s>,
     stmt: &Stmt<'s, V>,
-) -> Result<(), Error<'s>>
+) -> Result<(), Refusal>
     requires { IsWellFormed (stmt_tree V.contents stmt.now) }
-    ensures added { OnOk result (AddsLists V.functions V.contents (text_in lists.old)
-        (file_in lists.old) (blocks (stmt_tree V.contents stmt.now)) (lists_of lists.old)
-        (lists_of lists.new)) }
-    ensures causes { IfErr result IsAddError }
-    ensures unplaced { IfErr result IsUnplaced }
-    ensures too_many { IfErr result (λ e. kind_of e ≡ TooManyInstructions → HaveTooLong V.functions
+    ensures added { OnOk result (AddsLists V.functions V.contents source.entry.text.now
+        source.entry.name.now (blocks (stmt_tree V.contents stmt.now)) lists.old lists.new) }
+    ensures too_many { IfErr result (λ refusal. refusal ≡ TooMany → HaveTooLong V.functions
         (blocks (stmt_tree V.contents stmt.now))) }
-    ensures name { file_in lists.new ≡ file_in lists.old }
-    ensures source { text_in lists.new ≡ text_in lists.old }
 {
     if is_flat(stmt) {
         return Ok(());
     }
     let mut rows = Vec::new(alloc);
-    add_list_of(lists, alloc, stmt)?;
+    add_list_of(lists, alloc, source, stmt)?;
     push_bodies(&mut rows, stmt)?;
     while let Some(row) = rows.pop() {
         if let Some((stmt, rest)) = nesting(row).split_first() {
             push_row(&mut rows, rest)?;
-            add_list_of(lists, alloc, stmt)?;
+            add_list_of(lists, alloc, source, stmt)?;
             push_bodies(&mut rows, stmt)?;
         }
     }
@@ -172,21 +209,17 @@ fn push_row<'a, 's, V: TemplateValue>(
 fn add_list_of<'s, V: TemplateValue>(
     lists: &mut Lists<'s, V>,
     alloc: Global,
+    source: Source<'s>,
     stmt: &Stmt<'s, V>,
-) -> Result<(), Error<'s>>
+) -> Result<(), Refusal>
     requires { StandsSomewhere (stmt_tree V.contents stmt.now) }
-    ensures added { OnOk result (AddsLists V.functions V.contents (text_in lists.old)
-        (file_in lists.old) (own_block (stmt_tree V.contents stmt.now)) (lists_of lists.old)
-        (lists_of lists.new)) }
-    ensures causes { IfErr result IsAddError }
-    ensures unplaced { IfErr result IsUnplaced }
-    ensures too_many { IfErr result (λ e. kind_of e ≡ TooManyInstructions → HaveTooLong V.functions
+    ensures added { OnOk result (AddsLists V.functions V.contents source.entry.text.now
+        source.entry.name.now (own_block (stmt_tree V.contents stmt.now)) lists.old lists.new) }
+    ensures too_many { IfErr result (λ refusal. refusal ≡ TooMany → HaveTooLong V.functions
         (own_block (stmt_tree V.contents stmt.now))) }
-    ensures name { file_in lists.new ≡ file_in lists.old }
-    ensures source { text_in lists.new ≡ text_in lists.old }
 {
     match stmt {
-        Stmt::Block(block) => add_list(lists, alloc, block.node()),
+        Stmt::Block(block) => add_list(lists, alloc, source, block.node()),
         _ => Ok(()),
     }
 }
@@ -195,28 +228,21 @@ fn add_list_of<'s, V: TemplateValue>(
 fn add_list<'s, V: TemplateValue>(
     lists: &mut Lists<'s, V>,
     alloc: Global,
+    source: Source<'s>,
     block: &Block<'s, V>,
-) -> Result<(), Error<'s>>
+) -> Result<(), Refusal>
     requires { AreInner false (block_tree V.contents block.now).body }
-    ensures added { OnOk result (AddsLists V.functions V.contents (text_in lists.old)
-        (file_in lists.old) (block_tree V.contents block.now ∷ []) (lists_of lists.old)
-        (lists_of lists.new)) }
-    ensures causes { IfErr result IsAddError }
-    ensures unplaced { IfErr result IsUnplaced }
-    ensures too_many { IfErr result (λ e. kind_of e ≡ TooManyInstructions → 2 ^ 32 ≤ length
+    ensures added { OnOk result (AddsLists V.functions V.contents source.entry.text.now
+        source.entry.name.now (block_tree V.contents block.now ∷ []) lists.old lists.new) }
+    ensures too_many { IfErr result (λ refusal. refusal ≡ TooMany → 2 ^ 32 ≤ length
         (layout.block_code V.functions (block_tree V.contents block.now).body)) }
-    ensures name { file_in lists.new ≡ file_in lists.old }
-    ensures source { text_in lists.new ≡ text_in lists.old }
 {
-    let instructions = match body_code(alloc, &block.body) {
-        Ok(instructions) => instructions,
-        Err(OutOfMemory) => return Err(Error::from(AllocError)),
-    };
+    let instructions = body_code(alloc, &block.body)?;
     if instructions.len() >= LIMIT {
-        return Err(too_many());
+        return Err(Refusal::TooMany);
     }
-    let list = listed(instructions, lists.file, lists.source, block.required);
-    lists.blocks.insert(block.name, list)?;
+    let list = listed(instructions, source.name, source.text, block.required);
+    lists.insert(block.name, list)?;
     Ok(())
 }
 
@@ -224,7 +250,7 @@ fn add_list<'s, V: TemplateValue>(
 fn body_code<'s, V: TemplateValue>(
     alloc: Global,
     body: &[Stmt<'s, V>],
-) -> Result<Vec<Instruction<'s, V>>, OutOfMemory>
+) -> Result<Vec<Instruction<'s, V>>, memory::OutOfMemory>
     requires { AreInner false (stmts_of (map (stmt_tree V.contents) body.now)) }
     ensures { IfOk result (λ code. map (instr_of V.contents) code.items ≡ map capped
         (layout.block_code V.functions (stmts_of (map (stmt_tree V.contents) body.now)))) }

@@ -5,7 +5,7 @@ use Rattle.minijinja_meaning.specs.Laws.{Laws}
 use Rattle.minijinja_meaning.specs.Layout.{block_code}
 use Rattle.minijinja_tree.proofs.Rows.{body_of}
 use Rattle.minijinja_expression_code.specs.private.Making.{capped}
-use Rattle.minijinja_code.specs.private.Lists.{block_tree, file_in, lists_of, text_in}
+use Rattle.minijinja_code.specs.private.Lists.{block_tree}
 use Rattle.minijinja_code.proofs.ListParts.{list_added, others_stay}
 use Rattle.minijinja_code.proofs.codegen.lists.add_list.Goals as goal
 
@@ -16,10 +16,10 @@ returns-clause-added g c =
     let laws : Laws f = record { truth = g.met.V.TemplateValue.is_true_of_bool; count = g.met.V.TemplateValue.as_count_of_u64; one_more = g.met.V.TemplateValue.add_one } in
     let b = block_tree v c.args.block.now in
     let list = c.listed-list.result in
-    let old = lists_of c.args.lists.now in
+    let old = c.args.lists.now in
     let new = c.insert.new.self in
     let few : length (code_of v list) < 2 ^ 32 = omega (arith, length-map list.instructions.items (instr_of v), ap length c.listed-list.ensures.instructions) in
-    let is : code_of v list ≡ map capped (block_code f b.body) = ap (map (instr_of v)) c.listed-list.ensures.instructions ∙ c.in-Ok.ensures ∙ ap (λ xs. map capped (block_code f (body_of v xs))) c.deref.ensures.value in
-    list_added f v (text_in c.args.lists.now) (file_in c.args.lists.now) laws b list old new c.requires is few
+    let is : code_of v list ≡ map capped (block_code f b.body) = ap (map (instr_of v)) c.listed-list.ensures.instructions ∙ c.in_ok-instructions.ensures ∙ ap (λ xs. map capped (block_code f (body_of v xs))) c.deref.ensures.value in
+    list_added f v c.args.source.text.now c.args.source.name.now laws b list old new c.requires is few
     c.listed-list.ensures.required c.listed-list.ensures.name c.listed-list.ensures.source c.in_ok-insert.ensures.updates.1
     (others_stay c.args.block.now.name.now old new _ c.in_ok-insert.ensures.updates)
