@@ -1,8 +1,8 @@
 -- Where two bytes stand one after the other.
-use Rattle.std.proofs.Common.{◌≡◌, ℕ, zero, suc, ◌+◌, ◌-◌, ◌<◌, ◌≤◌, List, [], ◌∷◌, length, drop, ap, refl, sym, ◌∙◌, arith, length-drop, get_or, get_or-drop, None, ⊎_elim}
-use Rattle.std.proofs.lemmas.Bool.{cases_lt, eqb-true, eq-eqb}
+use Rattle.std.proofs.Common.{◌≡◌, ℕ, zero, suc, ◌+◌, ◌-◌, ◌<◌, ◌≤◌, List, [], ◌∷◌, length, drop, ap, refl, sym, ◌∙◌, arith, length-drop, get_or, get_or-drop, None}
+use Rattle.std.proofs.lemmas.Bool.{eqb-true, eq-eqb}
 use Rattle.memchr.specs.Find.{IsFirstByte, NoneBefore, Nowhere, OccursAt, Passes, is_byte}
-use Rattle.memchr.proofs.lemmas.FindLemmas.{Nowhere-more}
+use Rattle.memchr.proofs.lemmas.FindLemmas.{Nowhere-more, Nowhere-then}
 
 module _ (hay : List ℕ) (a b : ℕ) where
   -- at this place
@@ -31,19 +31,13 @@ module _ (hay : List ℕ) (a b : ℕ) where
     within k onwards o = let l = ap length is ∙ length-drop at hay in omega (arith, l, o.fits)
 
     pub none_up_to : (ahead : ℕ) → Nowhere PairAt 0 at → NoneBefore (Passes (is_byte a) rest) 0 (length rest) ahead → Nowhere PairAt 0 (at + ahead)
-    none_up_to ahead none first = λ k low high o. ⊎_elim
-        (λ (before : k < at). none k low before o)
-        (λ (onwards : at ≤ k). first.before (k - at) (omega arith) (omega (arith, high, onwards)) (passes k onwards o))
-        (cases_lt k at)
+    none_up_to ahead none first = Nowhere-then none (λ k onwards high o. first.before (k - at) (omega arith) (omega (arith, high, onwards)) (passes k onwards o))
 
     pub first_is : (ahead : ℕ) → Passes (is_byte a) rest ahead → get_or hay (at + ahead) 0 ≡ a
     first_is ahead p = sym (byte_is ahead) ∙ eqb-true _ _ p
 
     pub none_at_all : Nowhere PairAt 0 at → IsFirstByte (is_byte a) rest None → Nowhere PairAt 0 (length hay + 1)
-    none_at_all none no_more = λ k low high o. ⊎_elim
-        (λ (before : k < at). none k low before o)
-        (λ (onwards : at ≤ k). no_more (k - at) (omega arith) (within k onwards o) (passes k onwards o))
-        (cases_lt k at)
+    none_at_all none no_more = Nowhere-then none (λ k onwards high o. no_more (k - at) (omega arith) (within k onwards o) (passes k onwards o))
 
   pub none_here : (p : ℕ) → Nowhere PairAt 0 p → (p + 1 < length hay → get_or hay (p + 1) 0 ≡ b → ⊥) → Nowhere PairAt 0 (p + 1)
   none_here p none other = Nowhere-more none (λ o. other (let f = o.fits in omega (arith, f)) (o.reads 1 (omega arith)))
