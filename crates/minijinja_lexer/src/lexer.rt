@@ -9,7 +9,7 @@ ghost use Rattle.minijinja_lexer.specs.private.States.{StateFits, Steps, Takes, 
 ghost use Rattle.minijinja_lexer.specs.TextTokens.{text_of, tokens_of_template, tokens_of_expression};
 
 use crate::cursor::Cursor;
-use crate::fault::refusal;
+use crate::fault::{refuse, refuse_for_memory};
 use crate::inside::step_inside;
 use crate::outside::step_outside;
 use crate::source::text_of;
@@ -19,7 +19,7 @@ use minijinja_syntax::error::Error;
 pub use minijinja_syntax::syntax::StartMarker;
 use minijinja_syntax::syntax::SyntaxConfig;
 use minijinja_syntax::tokens::{Span, Token};
-use std::alloc::{AllocError, Global};
+use std::alloc::Global;
 use std::marker::Model;
 
 /// A step from a state.
@@ -128,23 +128,42 @@ impl<'s, 'c> Tokenizer<'s, 'c> {
         ensures filename { self.new.filename ≡ self.old.filename }
         ensures source { self.new.source ≡ self.old.source }
     {
-        let step = next_step(self.alloc, self.syntax, &mut self.cursor, self.state);
-        match step {
+        let mut answer = Ok(None);
+        self.next_token_into(&mut answer);
+        answer
+    }
+
+    /// As [`Tokenizer::next_token`], in the place of an answer, which is let go. So the token is made where it stays, and
+    /// not copied.
+    pub fn next_token_into(&mut self, answer: &mut Result<Option<(Token<'s>, Span)>, Error<'s>>)
+        ensures answers { Answers self.old.stream answer.new self.new.stream }
+        ensures between { IfOk answer.new
+            (λ token. IfSome token (λ t. IsBetweenChars self.old.source t.1)) }
+        ensures text { IfOk answer.new (λ token. IfSome token
+            (λ t. IsTokenText self.old.syntax self.old.source (tok_of t.0) t.1)) }
+        ensures cause { IfErr answer.new (λ e. IsTokenizerKind (kind_of e)) }
+        ensures named { IfErr answer.new
+            (λ e. kind_of e ≢ OutOfMemory → IsNamed self.old.filename e) }
+        ensures syntax { self.new.syntax ≡ self.old.syntax }
+        ensures filename { self.new.filename ≡ self.old.filename }
+        ensures source { self.new.source ≡ self.old.source }
+    {
+        match next_step(self.alloc, self.syntax, &mut self.cursor, self.state) {
             Step::Token(token, span, state) => {
                 self.state = state;
-                Ok(Some((token, span)))
+                *answer = Ok(Some((token, span)));
             }
             Step::Over => {
                 self.state = State::Over;
-                Ok(None)
+                *answer = Ok(None);
             }
             Step::Failed(fault, span) => {
                 self.state = State::Failed(fault, span);
-                Err(refusal(fault, self.filename, span))
+                refuse(fault, self.filename, span, answer);
             }
             Step::NoMemory => {
                 self.state = State::NoMemory;
-                Err(Error::from(AllocError))
+                refuse_for_memory(answer);
             }
         }
     }

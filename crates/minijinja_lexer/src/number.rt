@@ -148,7 +148,8 @@ fn number_len(radix: u32, text: &str) -> usize
 
 /// The value of the number at the front and its length, or why it is refused and how many bytes on.
 #[tactic(auto, unfolding(crate::specs::Numbers::number))]
-#[inline(never)]
+// In place: what a call fills would be set to zero for each token.
+#[inline(always)]
 pub(crate) fn number(behind_dot: bool, text: &str) -> Result<(u128, usize), (Fault, usize)>
     requires digit { IsTrue (is_ascii_digit (slice_index text.now 0)) }
     ensures value { number_view result ≡ spec.number behind_dot text.now }

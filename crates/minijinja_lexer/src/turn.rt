@@ -159,7 +159,8 @@ fn delimiter_close(
 }
 
 /// A line end or the end of the text, after whitespace other than `\r` and `\n`.
-#[inline(never)]
+// In place: what a call fills would be set to zero for each token.
+#[inline(always)]
 fn line_close(text: &str, at: usize) -> Option<Close>
     requires { IsCharBoundary text.now at }
     ensures value { option_map close_view result ≡ spec.line_close text.now at }

@@ -193,12 +193,14 @@ impl<'s, 'c> Tokens for TokenStream<'s, 'c> {
             return Err(Refusal::Ended(wanted));
         };
         self.last_span = *span;
-        let following = self.tokenizer.next_token();
-        match mem::replace(&mut self.current, following) {
-            Ok(Some(taken)) if self.is_ready() => Ok(taken),
-            Ok(Some(_)) => Err(Refusal::OutOfMemory),
-            _ => Err(Refusal::Ended(wanted)),
+        let Ok(Some(taken)) = mem::replace(&mut self.current, Ok(None)) else {
+            return Err(Refusal::Ended(wanted));
+        };
+        self.tokenizer.next_token_into(&mut self.current);
+        if !self.is_ready() {
+            return Err(Refusal::OutOfMemory);
         }
+        Ok(taken)
     }
 
     /// Refuses as [`Tokens::take`] does.
@@ -212,7 +214,7 @@ impl<'s, 'c> Tokens for TokenStream<'s, 'c> {
             return Err(Refusal::Ended(wanted));
         };
         self.last_span = *span;
-        self.current = self.tokenizer.next_token();
+        self.tokenizer.next_token_into(&mut self.current);
         if !self.is_ready() {
             return Err(Refusal::OutOfMemory);
         }
