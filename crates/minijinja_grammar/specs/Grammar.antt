@@ -134,13 +134,16 @@ module _ {C : Type 0} (expr : Form (Expr C)) where
   unfoldable pub exprs : List (Expr C) → Form (List (Expr C))
   exprs = items begins_expr also
 
+  -- the rest of a tuple, after the comma that follows its first item
+  abbrev pub rest_of_tuple : Span → Expr C → Form (Expr C)
+  rest_of_tuple from e = do
+    es ← exprs (e ∷ [])
+    next paren_close
+    spanned from (tuple (exprs_of es))
+
   -- after ( and an Expr: the Expr itself, or a tuple where a comma follows
   unfoldable pub rest_of_group : Span → Expr C → Form (Expr C)
-  rest_of_group from e = behind comma
-      (do
-        es ← exprs (e ∷ [])
-        next paren_close
-        spanned from (tuple (exprs_of es)))
+  rest_of_group from e = behind comma (rest_of_tuple from e)
       (do
         next paren_close
         pure e)
@@ -278,10 +281,14 @@ abbrev pub wrapped : {C : Type 0} → UnaryOp → Span → List Span → Expr C 
 wrapped o to [] e = e
 wrapped o to (s ∷ ss) e = wrapped o to ss (unary o e (expanded s to))
 
+-- any number of the mark, the last one first
+abbrev pub marks : Tok → Form (List Span)
+marks m = many (span_of_mark m) (λ ss s. pure (go_on (s ∷ ss))) []
+
 -- { op } X
 abbrev pub prefixed : {C : Type 0} → Tok → UnaryOp → Form (Expr C) → Form (Expr C)
 prefixed m o f = do
-  ss ← many (span_of_mark m) (λ ss s. pure (go_on (s ∷ ss))) []
+  ss ← marks m
   e ← f
   to ← last
   pure (wrapped o to ss e)

@@ -5,7 +5,7 @@ use Rattle.minijinja_syntax.specs.Tokens.{Tok, brace_close, bracket_close, brack
 use Rattle.minijinja_syntax.specs.declared.tokens.Span.{Span}
 use Rattle.minijinja_tree.specs.Tree.{logical_not}
 use Rattle.minijinja_tree.specs.SpannedTrees as tree
-use Rattle.minijinja_tree.specs.SpannedTrees.{Expr, Arg, positional, present, args_of, exprs_of, optional_of}
+use Rattle.minijinja_tree.specs.SpannedTrees.{Expr, positional, present, args_of, exprs_of, optional_of}
 use Rattle.minijinja_grammar.specs.Words.{begins_bare, is, not_word}
 use Rattle.minijinja_grammar.specs.Forms.{Place, Form, pure, nothing, start, either, comes, start_at, got, read_then, reads, ◌>>=◌, ◌>>◌}
 use Rattle.minijinja_grammar.specs.Grammar as form
@@ -57,12 +57,16 @@ module _ {C : Type 0} (expr : Form (Expr C)) where
 
   -- ---- what stands in parentheses or braces
 
+  pub rest_of_tuple_is : (from : Span) (e : Expr C) (p : Place) → reads (form.rest_of_tuple expr from e) p ≡
+      read_then (reads (form.exprs expr (e ∷ [])) p) (λ es q. read_then (reads (next paren_close) q) (λ _ r. got (tree.tuple (exprs_of es) (expanded from r.last)) r))
+  unfolding reads
+  rest_of_tuple_is from e p = refl
+
   pub rest_of_group_is : (from : Span) (e : Expr C) (p : Place) → reads (form.rest_of_group expr from e) p ≡
-      read_then (eaten comma p) (λ b q. if b
-      then read_then (reads (form.exprs expr (e ∷ [])) q) (λ es r. read_then (reads (next paren_close) r) (λ _ s. got (tree.tuple (exprs_of es) (expanded from s.last)) s))
+      read_then (eaten comma p) (λ b q. if b then reads (form.rest_of_tuple expr from e) q
       else read_then (reads (next paren_close) q) (λ _ r. got e r))
   unfolding reads form.rest_of_group
-  rest_of_group_is from e p = behind_is comma (form.exprs expr (e ∷ []) >>= (λ es. next paren_close >> form.spanned from (tree.tuple (exprs_of es)))) (next paren_close >> pure e) p
+  rest_of_group_is from e p = behind_is comma (form.rest_of_tuple expr from e) (next paren_close >> pure e) p
 
   pub group_is : (from : Span) (p : Place) → reads (form.group expr from) p ≡
       read_then (eaten paren_close p) (λ b q. if b then got (tree.tuple (exprs_of []) (expanded from q.last)) q

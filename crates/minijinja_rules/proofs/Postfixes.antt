@@ -1,7 +1,5 @@
 -- What repeats, a turn at a time: what follows an operand, and operators ahead of one.
-use Rattle.std.proofs.Common.{◌≡◌, ◌∙◌, ◌<◌, ◌≤◌, arith, length, Bool, true, false, List, [], ◌∷◌, ◌++◌, if◌then◌else◌, Some, None, refl, sym, ap}
-use Rattle.std.specs.Prelude.{reverse}
-use Rattle.std.proofs.lemmas.List.{reverse-append}
+use Rattle.std.proofs.Common.{◌≡◌, ◌∙◌, ◌<◌, ◌≤◌, arith, length, Bool, true, false, List, [], ◌∷◌, if◌then◌else◌, Some, None, refl, ap}
 use Rattle.minijinja_value.specs.Values.{Functions}
 use Rattle.minijinja_syntax.specs.Tokens.{Tok, minus}
 use Rattle.minijinja_syntax.specs.declared.tokens.Span.{Span}
@@ -9,12 +7,12 @@ use Rattle.minijinja_syntax.specs.Streams.{SpannedTok}
 use Rattle.minijinja_tree.specs.Tree.{UnaryOp, negation}
 use Rattle.minijinja_tree.specs.SpannedTrees.{Expr}
 use Rattle.minijinja_grammar.specs.Words.{is, begins_postfix, begins_suffix}
-use Rattle.minijinja_grammar.specs.Forms.{Place, Turn, go_on, Form, pure, one, many, comes, start_at, Read, got, short, wrong, read_then, after, held_or_wrong, read_one, read_turn, if_held, read_any, reads, ◌>>=◌}
+use Rattle.minijinja_grammar.specs.Forms.{Place, Turn, go_on, Form, pure, one, many, comes, start_at, Read, got, short, wrong, read_then, after, read_one, read_turn, if_held, read_any, reads, ◌>>=◌}
 use Rattle.minijinja_grammar.specs.Grammar as form
-use Rattle.minijinja_grammar.specs.Grammar.{next, of_kind, span_of_mark, wrapped}
+use Rattle.minijinja_grammar.specs.Grammar.{next, of_kind, wrapped}
 use Rattle.minijinja_grammar.proofs.Unrolled.{many_is}
-use Rattle.minijinja_stream.proofs.Turned.{read_no_longer}
-use Rattle.minijinja_stream.proofs.Turned.{take_shorter}
+use Rattle.minijinja_stream.proofs.Turned.{read_no_longer, take_shorter}
+use Rattle.minijinja_rules.proofs.Repeated.{spans_done}
 
 as_it_is : {A : Type 0} (o : Read A) → read_then o (λ x q. got x q) ≡ o
 as_it_is (got x q) = refl
@@ -123,81 +121,23 @@ module _ {C F : Type 0} (f : Functions C F) (expr prim : Form (Expr C)) where
 -- ---- operators ahead of an operand
 
 module _ {C : Type 0} (m : Tok) (o : UnaryOp) (f : Form (Expr C)) where
-  abbrev mark_turn : List Span → Span → Form (Turn (List Span))
-  mark_turn ss s = pure (go_on (s ∷ ss))
-
-  abbrev marks : List Span → Form (List Span)
-  marks = many (span_of_mark m) mark_turn
-
-  abbrev ended : List Span → Place → Read (Expr C)
-  ended ss q = read_then (reads f q) (λ e r. got (wrapped o r.last ss e) r)
-
-  -- those that follow, after those so far, and their operand
-  pub prefixes : List Span → Place → Read (Expr C)
-  prefixes ss p = read_then (reads (marks ss) p) ended
-
-  pub prefixed_is : (p : Place) → reads (form.prefixed m o f) p ≡ prefixes [] p
-  unfolding reads prefixes
+  pub prefixed_is : (p : Place) → reads (form.prefixed m o f) p ≡ read_then (reads (form.marks m) p) (λ ss q. read_then (reads f q) (λ e r. got (wrapped o r.last ss e) r))
+  unfolding reads
   prefixed_is p = refl
-
-  pub prefixed_done : (ss : List Span) (p : Place) → comes (is m) p.tokens ≡ false → prefixes ss p ≡ read_then (reads f p) (λ e r. got (wrapped o r.last ss e) r)
-  unfolding prefixes
-  prefixed_done ss p e = ap (λ r. read_then r ended) (many_is (span_of_mark m) mark_turn ss p ∙ go p.tokens e)
-    where
-      none : (t : SpannedTok) (ts : List SpannedTok) (b : Bool) → b ≡ false →
-          if_held (if b then Some t.1 else None) (λ h. read_turn (reads (mark_turn ss h) (after p t ts)) (λ y s. reads (marks y) s)) (got ss p) ≡ got ss p
-      none t ts true k = cc
-      none t ts false k = refl
-
-      go : (ts : List SpannedTok) → comes (is m) ts ≡ false → read_any (span_of_mark m) (λ h q. read_turn (reads (mark_turn ss h) q) (λ y s. reads (marks y) s)) ss p ts ≡ got ss p
-      go [] k = refl
-      go (t ∷ ts) k = none t ts (is m t.0) k
-
-  pub prefixed_more : (ss : List Span) (p : Place) → comes (is m) p.tokens ≡ true → prefixes ss p ≡ read_then (reads (next m) p) (λ s q. prefixes (s ∷ ss) q)
-  unfolding reads prefixes
-  prefixed_more ss p e = ap (λ r. read_then r ended) (many_is (span_of_mark m) mark_turn ss p) ∙ go p.tokens e
-    where
-      at_token : (t : SpannedTok) (ts : List SpannedTok) (b : Bool) → b ≡ true →
-          read_then (if_held (if b then Some t.1 else None) (λ h. read_turn (reads (mark_turn ss h) (after p t ts)) (λ y s. reads (marks y) s)) (got ss p)) ended ≡
-          read_then (held_or_wrong (if b then Some t.1 else None) (after p t ts)) (λ s q. prefixes (s ∷ ss) q)
-      at_token t ts true k = refl
-      at_token t ts false k = cc
-
-      go : (ts : List SpannedTok) → comes (is m) ts ≡ true →
-          read_then (read_any (span_of_mark m) (λ h q. read_turn (reads (mark_turn ss h) q) (λ y s. reads (marks y) s)) ss p ts) ended ≡
-          read_then (read_one (span_of_mark m) p ts) (λ s q. prefixes (s ∷ ss) q)
-      go [] k = cc
-      go (t ∷ ts) k = at_token t ts (is m t.0) k
 
   -- where none comes there is the operand alone
   pub prefixed_none : (p : Place) → comes (is m) p.tokens ≡ false → reads (form.prefixed m o f) p ≡ reads f p
-  prefixed_none p e = prefixed_is p ∙ prefixed_done [] p e ∙ as_it_is (reads f p)
+  prefixed_none p e = prefixed_is p ∙ ap (λ r. read_then r (λ ss q. read_then (reads f q) (λ e r. got (wrapped o r.last ss e) r))) (spans_done m [] p e) ∙ as_it_is (reads f p)
 
 module _ {C F : Type 0} (f : Functions C F) (expr prim : Form (Expr C)) where
-  abbrev pub minuses : List Span → Place → Read (Expr C)
-  minuses = prefixes minus negation (form.postfixed f expr prim)
-
-  pub minuses_are : (p : Place) → reads (form.operand f expr prim) p ≡ minuses [] p
+  pub negated_is : (p : Place) → reads (form.operand f expr prim) p ≡
+      read_then (reads (form.marks minus) p) (λ ss q. read_then (reads (form.postfixed f expr prim) q) (λ e r. got (wrapped negation r.last ss e) r))
   unfolding form.operand
-  minuses_are p = prefixed_is minus negation (form.postfixed f expr prim) p
-
-  pub minuses_done : (ss : List Span) (p : Place) → comes (is minus) p.tokens ≡ false →
-      minuses ss p ≡ read_then (reads (form.postfixed f expr prim) p) (λ e r. got (wrapped negation r.last ss e) r)
-  minuses_done ss p e = prefixed_done minus negation (form.postfixed f expr prim) ss p e
-
-  pub minuses_more : (ss : List Span) (p : Place) → comes (is minus) p.tokens ≡ true → minuses ss p ≡ read_then (reads (next minus) p) (λ s q. minuses (s ∷ ss) q)
-  minuses_more ss p e = prefixed_more minus negation (form.postfixed f expr prim) ss p e
+  negated_is p = prefixed_is minus negation (form.postfixed f expr prim) p
 
   pub operand_is : (p : Place) → comes (is minus) p.tokens ≡ false → reads (form.operand f expr prim) p ≡ reads (form.postfixed f expr prim) p
   unfolding form.operand
   operand_is p e = prefixed_none minus negation (form.postfixed f expr prim) p e
-
-  -- a `-` more, which the code puts last
-  pub minuses_turn : (whole : Read (Expr C)) (items pushed : List Span) (p q : Place) (s : Span) → whole ≡ minuses (reverse items) p → comes (is minus) p.tokens ≡ true →
-      reads (next minus) p ≡ got s q → pushed ≡ items ++ s ∷ [] → whole ≡ minuses (reverse pushed) q
-  minuses_turn whole items pushed p q s e t h k =
-      e ∙ minuses_more (reverse items) p t ∙ ap (λ r. read_then r (λ s q. minuses (s ∷ reverse items) q)) h ∙
-      ap (λ ss. minuses ss q) (sym (reverse-append items (s ∷ []))) ∙ ap (λ ss. minuses (reverse ss) q) (sym k)
 
 -- ---- how many tokens are left
 

@@ -1,5 +1,7 @@
 -- Repetitions that go on while a kind of token comes.
-use Rattle.std.proofs.Common.{◌≡◌, Bool, true, false, List, [], ◌∷◌, if◌then◌else◌, Option, Some, None, refl, ◌∙◌}
+use Rattle.std.proofs.Common.{◌≡◌, Bool, true, false, List, [], ◌∷◌, ◌++◌, if◌then◌else◌, Option, Some, None, refl, sym, ap, ◌∙◌}
+use Rattle.std.specs.Prelude.{reverse}
+use Rattle.std.proofs.lemmas.List.{reverse-append}
 use Rattle.minijinja_syntax.specs.Tokens.{Tok}
 use Rattle.minijinja_syntax.specs.Streams.{SpannedTok}
 use Rattle.minijinja_syntax.specs.declared.tokens.Span.{Span}
@@ -44,3 +46,10 @@ pub spans_more : (m : Tok) (ss : List Span) (p : Place) → comes (is m) p.token
     reads (many (span_of_mark m) (λ ss s. pure (go_on (s ∷ ss))) ss) p ≡ read_then (reads (next m) p) (λ s q. reads (many (span_of_mark m) (λ ss s. pure (go_on (s ∷ ss))) (s ∷ ss)) q)
 unfolding reads
 spans_more m ss p e = many_more (is m) (λ t. t.1) (λ ss s. pure (go_on (s ∷ ss))) ss p e
+
+-- one more, which the code puts last
+pub spans_turn : (m : Tok) (whole : Read (List Span)) (items pushed : List Span) (p q : Place) (s : Span) → whole ≡ reads (spans m (reverse items)) p → comes (is m) p.tokens ≡ true →
+    reads (next m) p ≡ got s q → pushed ≡ items ++ s ∷ [] → whole ≡ reads (spans m (reverse pushed)) q
+spans_turn m whole items pushed p q s e t h k =
+    e ∙ spans_more m (reverse items) p t ∙ ap (λ r. read_then r (λ s q. reads (spans m (s ∷ reverse items)) q)) h ∙
+    ap (λ ss. reads (spans m ss) q) (sym (reverse-append items (s ∷ []))) ∙ ap (λ ss. reads (spans m (reverse ss)) q) (sym k)

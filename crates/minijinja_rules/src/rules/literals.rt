@@ -95,12 +95,28 @@ impl<
         ensures { Parses N.Input.place N.tree (form.rest_of_group (expr_at N.functions
             self.now.depth) from (N.tree expr)) tokens.old result tokens.new }
     {
-        if !tokens.eat(Mark::Comma)? {
-            tokens.expect(Mark::ParenClose)?;
-            return Ok(expr);
+        if tokens.eat(Mark::Comma)? {
+            return self.rest_of_tuple(tokens, from, expr);
         }
+        tokens.expect(Mark::ParenClose)?;
+        Ok(expr)
+    }
+
+    /// A tuple, after the comma that follows its first item.
+    #[tactic(auto, using(crate::proofs::Following::rest_of_tuple_is))]
+    fn rest_of_tuple(
+        &self,
+        tokens: &mut N::Input,
+        from: Span,
+        first: N::Expr,
+    ) -> Result<N::Expr, Refusal>
+        requires { Nests N.Input.place N.tree N.functions self.now.depth F.pre F.post
+            self.now.expr }
+        ensures { Parses N.Input.place N.tree (form.rest_of_tuple (expr_at N.functions
+            self.now.depth) from (N.tree first)) tokens.old result tokens.new }
+    {
         let mut items = Vec::new(self.nodes.alloc());
-        items.push(expr)?;
+        items.push(first)?;
         let items = self.exprs(tokens, items)?;
         tokens.expect(Mark::ParenClose)?;
         self.spanned(tokens, from, Node::Tuple(items))

@@ -7,7 +7,7 @@ ghost use Rattle.minijinja_rules.specs.private.Nests.{Nests, Parses};
 
 use crate::nodes::{Node, Nodes};
 use crate::rules::Rules;
-use crate::rules::wrapping::wrapped;
+use crate::rules::wrapping::{marks, wrapped};
 use minijinja_base::error::Expected;
 use minijinja_base::tokens::Span;
 use minijinja_stream::marks::{Mark, Part};
@@ -37,17 +37,14 @@ impl<
     }
 
     /// As [`Rules::operand`], where a `-` comes.
-    #[tactic(auto, using(crate::proofs::Postfixes::minuses_are, crate::proofs::Postfixes::minuses_more, crate::proofs::Postfixes::minuses_done))]
+    #[tactic(auto, using(crate::proofs::Postfixes::negated_is))]
     fn negated(&self, tokens: &mut N::Input) -> Result<N::Expr, Refusal>
         requires { Nests N.Input.place N.tree N.functions self.now.depth F.pre F.post
             self.now.expr }
         ensures { Parses N.Input.place N.tree (form.operand N.functions (expr_at N.functions
             self.now.depth) (primary_at N.functions self.now.depth)) tokens.old result tokens.new }
     {
-        let mut begins = Vec::new(self.nodes.alloc());
-        while tokens.at(Mark::Minus) {
-            begins.push(tokens.expect(Mark::Minus)?)?;
-        }
+        let begins = marks(self.nodes.alloc(), tokens, Mark::Minus)?;
         let expr = self.postfixed(tokens)?;
         let to = tokens.last_span();
         Ok(wrapped(&self.nodes, UnaryOpKind::Neg, begins, to, expr)?)

@@ -13,7 +13,7 @@ ghost use Rattle.minijinja_tree.specs.Erasure.{compare_op};
 
 use crate::nodes::{Node, Nodes};
 use crate::rules::Rules;
-use crate::rules::wrapping::{comparison, wrapped};
+use crate::rules::wrapping::{comparison, marks, wrapped};
 use minijinja_base::error::Expected;
 use minijinja_base::tokens::Span;
 use minijinja_stream::marks::{Mark, Part};
@@ -70,10 +70,7 @@ impl<
             N.functions self.now.depth) (primary_at N.functions self.now.depth)) (rows level.Not))
             tokens.old result tokens.new }
     {
-        let mut begins = Vec::new(self.nodes.alloc());
-        while tokens.at(Mark::Not) {
-            begins.push(tokens.expect(Mark::Not)?)?;
-        }
+        let begins = marks(self.nodes.alloc(), tokens, Mark::Not)?;
         let before = tokens.last_span();
         let mut expr = self.level(tokens, Level::Sum)?;
         if tokens.begins(Part::Comparison) {

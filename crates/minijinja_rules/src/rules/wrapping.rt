@@ -3,12 +3,30 @@ ghost use Rattle.std.specs.Prelude.{◌≡◌, reverse, IfOk};
 ghost use Rattle.minijinja_tree.specs.Erasure.{bin_op, compare_op, unary_op};
 ghost use Rattle.minijinja_grammar.specs.Grammar as form;
 ghost use Rattle.minijinja_grammar.specs.Grammar.{compare_two};
+ghost use Rattle.minijinja_stream.specs.private.Marks.{mark_tok};
 ghost use Rattle.minijinja_rules.specs.private.Made.{operator_of};
+ghost use Rattle.minijinja_rules.specs.private.Nests.{Parses};
 
 use crate::nodes::{Node, Nodes};
 use minijinja_base::tokens::Span;
+use minijinja_stream::marks::Mark;
+use minijinja_stream::refusal::Refusal;
+use minijinja_stream::tokens::Tokens;
 use minijinja_tree::ast::{BinOpKind, CompareOpKind, UnaryOpKind};
-use std::alloc::AllocError;
+use std::alloc::{AllocError, Global};
+
+/// Takes the marks that come, and gives where each stands.
+#[tactic(auto, using(crate::proofs::Repeated::spans_turn, crate::proofs::Repeated::spans_more, crate::proofs::Repeated::spans_done))]
+pub fn marks<T: Tokens>(alloc: Global, tokens: &mut T, mark: Mark) -> Result<Vec<Span>, Refusal>
+    ensures { Parses T.place (λ v. reverse v.items) (form.marks (mark_tok mark)) tokens.old result
+        tokens.new }
+{
+    let mut begins = Vec::new(alloc);
+    while tokens.at(mark) {
+        begins.push(tokens.expect(mark)?)?;
+    }
+    Ok(begins)
+}
 
 /// An expression in operators of one side, which begin at these places, the innermost at the last, and end at one.
 pub fn wrapped<N: Nodes>(

@@ -1,5 +1,5 @@
 use Rattle.std.proofs.Common.{rules, ◌≡◌, ◌∷◌, [], ◌++◌, true, false, ℕ, ◌<◌, length, arith, refl, sym, ap, ◌∙◌, reverse, map}
-use Rattle.std.proofs.lemmas.List.{map-append, reverse-append}
+use Rattle.std.proofs.lemmas.List.{map-append}
 use Rattle.minijinja_grammar.specs.Forms.{Form, got, reads, comes, many, read_then}
 use Rattle.minijinja_grammar.specs.Grammar as form
 use Rattle.minijinja_grammar.specs.Grammar.{expanded, expr_at, of_kind, primary_at, unary_level}
@@ -11,9 +11,7 @@ use Rattle.minijinja_tree.specs.Erasure.{compare_op}
 use Rattle.minijinja_tree.specs.SpannedTrees.{Expr}
 use Rattle.minijinja_tree.specs.Tree.{logical_not}
 use Rattle.minijinja_value.specs.Values.{Functions}
-use Rattle.minijinja_stream.proofs.Turned.{read_no_longer, next_shorter}
-use Rattle.minijinja_stream.proofs.Turned.{skip_shorter}
-use Rattle.minijinja_rules.proofs.Repeated.{spans_done, spans_more}
+use Rattle.minijinja_stream.proofs.Turned.{read_no_longer, skip_shorter}
 use Rattle.minijinja_rules.proofs.Climbed.{binary_is, comparing_is, level_is, first_is, rest_ends, rest_goes_on, first_no_longer, heights}
 use Rattle.minijinja_rules.proofs.Compared.{op_shorter, comparison_shorter, chain_is, chain_done, chain_more, chain_longer, comparisons_are, negation_is, operation_shorter}
 use Rattle.minijinja_rules.proofs.rules.Rules.+level.Goals.{first-else-has_not-via-then-has_not+else-at, first-else-has_not-via-else-has_not, negation-then-begins+in_ok-expr-2, negation-else-begins}
@@ -158,81 +156,56 @@ level-returns g t c =
     let o = operand g.N.Nodes.functions c.args.self.now.depth in
     c.loop-operator.invariant.same ∙ rest_ends o c.args.level c.current_span-from.result c.last_span-before.result (v c.loop-operator.expr) (g.N.Input.Tokens.place c.loop-operator.tokens) (sym c.in_default.ensures)
 
-pub negation-returns-in_err-expect : goal.negation-returns-in_err-expect
-negation-returns-in_err-expect g t c =
-    let v = g.N.Nodes.tree in
+pub negation-returns-in_err-begins : goal.negation-returns-in_err-begins
+negation-returns-in_err-begins g t c =
     let s = sum g.N.Nodes.functions c.args.self.now.depth in
-    let ss = reverse c.loop-begins.begins.items in
     let n = negation_is s (g.N.Input.Tokens.place c.args.tokens.now) in
-    let k : comes (is not_word) (g.N.Input.Tokens.place c.loop-begins.tokens).tokens ≡ true = sym c.at.ensures ∙ c.loop-begins-test.true in
-    let e = c.loop-begins.invariant.same ∙ spans_more not_word ss (g.N.Input.Tokens.place c.loop-begins.tokens) k in
-    rw (n, e) (search rules)
+    rw n (search rules)
 
-pub negation-loop-begins-smaller : goal.negation-loop-begins-smaller
-negation-loop-begins-smaller g t c =
-    next_shorter not_word (g.N.Input.Tokens.place c.loop-begins.tokens) (g.N.Input.Tokens.place c.expect.new.self) _ c.in_ok-expect.ensures
-
-pub negation-loop-begins-preserved : goal.negation-loop-begins-preserved
-negation-loop-begins-preserved g t c =
-    let v = g.N.Nodes.tree in
-    let s = sum g.N.Nodes.functions c.args.self.now.depth in
-    let ss = reverse c.loop-begins.begins.items in
-    let n = negation_is s (g.N.Input.Tokens.place c.args.tokens.now) in
-    let k : comes (is not_word) (g.N.Input.Tokens.place c.loop-begins.tokens).tokens ≡ true = sym c.at.ensures ∙ c.loop-begins-test.true in
-    let e = c.loop-begins.invariant.same ∙ spans_more not_word ss (g.N.Input.Tokens.place c.loop-begins.tokens) k in
-    let less = next_shorter not_word (g.N.Input.Tokens.place c.loop-begins.tokens) (g.N.Input.Tokens.place c.expect.new.self) _ c.in_ok-expect.ensures in
-    record {
-      same = e ∙ rw (c.in_ok-expect.ensures, c.in_ok-push.ensures.items, reverse-append) refl;
-      fewer = omega (arith, less, c.loop-begins.invariant.fewer);
-    }
+pub negation-level-requires : goal.negation-level-requires
+negation-level-requires g t c κs within =
+    let less = read_no_longer (form.marks not_word) (g.N.Input.Tokens.place c.args.tokens.now) (g.N.Input.Tokens.place c.marks.new.tokens) _ c.in_ok-begins.ensures in
+    (omega (arith, less, c.decreases), (search rules, search rules))
 
 pub negation-returns-in_err-expr : goal.negation-returns-in_err-expr
 negation-returns-in_err-expr g t c =
-    let v = g.N.Nodes.tree in
     let s = sum g.N.Nodes.functions c.args.self.now.depth in
-    let ss = reverse c.loop-begins.begins.items in
     let n = negation_is s (g.N.Input.Tokens.place c.args.tokens.now) in
-    let k : comes (is not_word) (g.N.Input.Tokens.place c.loop-begins.tokens).tokens ≡ false = sym c.at.ensures ∙ c.loop-begins-test.false in
-    let e = c.loop-begins.invariant.same ∙ spans_done not_word ss (g.N.Input.Tokens.place c.loop-begins.tokens) k in
-    rw (n, e) (search rules)
+    rw (n, c.in_ok-begins.ensures) (search rules)
 
 pub negation-comparisons-requires : goal.negation-comparisons-requires
 negation-comparisons-requires g t c κs within =
     let s = sum g.N.Nodes.functions c.args.self.now.depth in
-    let less = read_no_longer s (g.N.Input.Tokens.place c.loop-begins.tokens) (g.N.Input.Tokens.place c.level.new.tokens) _ c.in_ok-expr.ensures in
+    let fewer = read_no_longer (form.marks not_word) (g.N.Input.Tokens.place c.args.tokens.now) (g.N.Input.Tokens.place c.marks.new.tokens) _ c.in_ok-begins.ensures in
+    let less = read_no_longer s (g.N.Input.Tokens.place c.marks.new.tokens) (g.N.Input.Tokens.place c.level.new.tokens) _ c.in_ok-expr.ensures in
     let b : comes begins_comparison (g.N.Input.Tokens.place c.level.new.tokens).tokens ≡ true = sym c.begins.ensures ∙ c.if-begins.true in
-    (omega (arith, less, c.loop-begins.invariant.fewer, c.decreases), (search rules, search rules))
+    (omega (arith, less, fewer, c.decreases), (search rules, search rules))
 
 pub negation-returns-in_err-expr-2 : goal.negation-returns-in_err-expr-2
 negation-returns-in_err-expr-2 g t c =
     let v = g.N.Nodes.tree in
     let s = sum g.N.Nodes.functions c.args.self.now.depth in
-    let ss = reverse c.loop-begins.begins.items in
     let n = negation_is s (g.N.Input.Tokens.place c.args.tokens.now) in
-    let k : comes (is not_word) (g.N.Input.Tokens.place c.loop-begins.tokens).tokens ≡ false = sym c.at.ensures ∙ c.loop-begins-test.false in
-    let e = c.loop-begins.invariant.same ∙ spans_done not_word ss (g.N.Input.Tokens.place c.loop-begins.tokens) k in
-    let h : reads s (g.N.Input.Tokens.place c.loop-begins.tokens) ≡ got (v c.in_ok-expr.expr) (g.N.Input.Tokens.place c.level.new.tokens) = c.in_ok-expr.ensures in
+    let h : reads s (g.N.Input.Tokens.place c.marks.new.tokens) ≡ got (v c.in_ok-expr.expr) (g.N.Input.Tokens.place c.level.new.tokens) = c.in_ok-expr.ensures in
     let b : comes begins_comparison (g.N.Input.Tokens.place c.level.new.tokens).tokens ≡ true = sym c.begins.ensures ∙ c.if-begins.true in
-    rw (n, e, h, b, ← c.last_span-before.ensures) (search rules)
+    rw (n, c.in_ok-begins.ensures, h, b, ← c.last_span-before.ensures) (search rules)
 
 pub negation-returns : goal.negation-returns
 negation-returns g t c =
     let v = g.N.Nodes.tree in
     let s = sum g.N.Nodes.functions c.args.self.now.depth in
-    let ss = reverse c.loop-begins.begins.items in
+    let ss = reverse c.in_ok-begins.begins.items in
     let n = negation_is s (g.N.Input.Tokens.place c.args.tokens.now) in
-    let k : comes (is not_word) (g.N.Input.Tokens.place c.loop-begins.tokens).tokens ≡ false = sym c.at.ensures ∙ c.loop-begins-test.false in
-    let e = c.loop-begins.invariant.same ∙ spans_done not_word ss (g.N.Input.Tokens.place c.loop-begins.tokens) k in
-    let h : reads s (g.N.Input.Tokens.place c.loop-begins.tokens) ≡ got (v c.in_ok-expr.expr) (g.N.Input.Tokens.place c.level.new.tokens) = c.in_ok-expr.ensures in
+    let h : reads s (g.N.Input.Tokens.place c.marks.new.tokens) ≡ got (v c.in_ok-expr.expr) (g.N.Input.Tokens.place c.level.new.tokens) = c.in_ok-expr.ensures in
     let made : v c.in_ok-wrapped.field-0 ≡ form.wrapped logical_not (g.N.Input.Tokens.place c.if-begins.tokens).last ss (v c.if-begins.expr) =
     c.in_ok-wrapped.ensures.tree ∙ ap (λ u. form.wrapped logical_not u ss (v c.if-begins.expr)) c.last_span-to.ensures in
     elim c.if-begins.branch [
       | negation-then-begins+in_ok-expr-2 w ↦
           let b : comes begins_comparison (g.N.Input.Tokens.place c.level.new.tokens).tokens ≡ true = sym c.begins.ensures ∙ w.if-begins.true in
-          rw (n, e, h, b, ← c.last_span-before.ensures, w.in_ok-expr-2.ensures, made, w.tokens-is, w.expr-is) refl
+          rw (n, c.in_ok-begins.ensures, h, b, ← c.last_span-before.ensures, w.in_ok-expr-2.ensures, made, w.tokens-is, w.expr-is) refl
       | negation-else-begins w ↦
           let b : comes begins_comparison (g.N.Input.Tokens.place c.level.new.tokens).tokens ≡ false = sym c.begins.ensures ∙ w.if-begins.false in
-          rw (n, e, h, b, made, w.tokens-is, w.expr-is) refl
+          rw (n, c.in_ok-begins.ensures, h, b, made, w.tokens-is, w.expr-is) refl
     ]
 
 pub operation-returns-in_default : goal.operation-returns-in_default

@@ -1,10 +1,10 @@
 -- A call before which no token was taken goes down, and any other has fewer tokens left.
-use Rattle.std.proofs.Common.{◌≡◌, ◌∷◌, [], ◌+◌, ◌≤◌, length, reverse, map}
-use Rattle.minijinja_grammar.specs.Forms.{go_on, pure, reads, many}
+use Rattle.std.proofs.Common.{◌≡◌, ◌∷◌, [], ◌+◌, ◌≤◌, length, map}
+use Rattle.minijinja_grammar.specs.Forms.{reads, many}
 use Rattle.minijinja_grammar.specs.Grammar as form
-use Rattle.minijinja_grammar.specs.Grammar.{expr_at, of_kind, primary_at, span_of_mark, unary_level}
+use Rattle.minijinja_grammar.specs.Grammar.{expr_at, of_kind, primary_at, unary_level}
 use Rattle.minijinja_grammar.specs.private.Climbing.{level_of, rest_of}
-use Rattle.minijinja_grammar.specs.Words.{begins_comparison, not_word}
+use Rattle.minijinja_grammar.specs.Words.{begins_comparison}
 use Rattle.minijinja_stream.specs.private.Levels.{rows}
 use Rattle.minijinja_stream.specs.declared.operators.Level.TheVariants as level
 use Rattle.minijinja_tree.specs.Erasure.{compare_op}
@@ -43,16 +43,6 @@ invariant-level-loop-operator g l =
 
 abbrev pub decreases-level-loop-operator : goal.decreases-level-loop-operator
 decreases-level-loop-operator g l = length (g.N.Input.Tokens.place l.tokens).tokens
-
-abbrev pub invariant-negation-loop-begins : goal.invariant-negation-loop-begins
-invariant-negation-loop-begins g l = record {
-  same : reads (many (span_of_mark not_word) (λ ss s. pure (go_on (s ∷ ss))) []) (g.N.Input.Tokens.place l.fn.tokens) ≡
-      reads (many (span_of_mark not_word) (λ ss s. pure (go_on (s ∷ ss))) (reverse l.begins.items)) (g.N.Input.Tokens.place l.tokens);
-  fewer : length (g.N.Input.Tokens.place l.tokens).tokens ≤ length (g.N.Input.Tokens.place l.fn.tokens).tokens;
-}
-
-abbrev pub decreases-negation-loop-begins : goal.decreases-negation-loop-begins
-decreases-negation-loop-begins g l = length (g.N.Input.Tokens.place l.tokens).tokens
 
 abbrev pub invariant-chain-loop-tokens : goal.invariant-chain-loop-tokens
 invariant-chain-loop-tokens g l =

@@ -1,9 +1,10 @@
-use Rattle.std.proofs.Common.{◌∙◌, map}
+use Rattle.std.proofs.Common.{rules, ◌∙◌, sym, map}
 use Rattle.minijinja_syntax.specs.Tokens.{comma}
 use Rattle.minijinja_grammar.specs.Forms.{reads}
 use Rattle.minijinja_grammar.specs.Grammar as form
 use Rattle.minijinja_grammar.specs.Grammar.{expr_at}
 use Rattle.minijinja_rules.proofs.Entries.{exprs_also, exprs_last, item_shorter, map_pushed}
+use Rattle.minijinja_rules.proofs.Steps.{exprs_done, exprs_more}
 use Rattle.minijinja_rules.proofs.rules.Rules.exprs.Goals as goal
 
 pub returns-then-not-branch : goal.returns-then-not-branch
@@ -29,3 +30,20 @@ loop-items-preserved g c =
     (exprs_also expr (map v c.loop-items.items.items) (map v c.push.new.self.items)
     (g.N.Input.Tokens.place c.loop-items.tokens) (g.N.Input.Tokens.place c.nested.new.tokens) (g.N.Input.Tokens.place c.eat.new.self) (v e) c.in_ok-eat.field-0 c.loop-items-test.ensures c.in_ok-nested.ensures
     c.in_ok-eat.ensures c.if-not-branch.false (map_pushed v c.loop-items.items.items c.push.new.self.items e c.in_ok-push.ensures.items))
+
+pub returns-in_err-nested : goal.returns-in_err-nested
+returns-in_err-nested g c =
+    let v = g.N.Nodes.tree in
+    let e = c.loop-items.invariant ∙ exprs_more (expr_at g.N.Nodes.functions c.args.self.now.depth) (map v c.loop-items.items.items) (g.N.Input.Tokens.place c.loop-items.tokens) (sym c.loop-items-test.ensures) in
+    rw e (search rules)
+
+pub returns-in_err-eat : goal.returns-in_err-eat
+returns-in_err-eat g c =
+    let v = g.N.Nodes.tree in
+    let e = c.loop-items.invariant ∙ exprs_more (expr_at g.N.Nodes.functions c.args.self.now.depth) (map v c.loop-items.items.items) (g.N.Input.Tokens.place c.loop-items.tokens) (sym c.loop-items-test.ensures) in
+    rw (e, c.in_ok-nested.ensures) (search rules)
+
+pub returns : goal.returns
+returns g c =
+    let v = g.N.Nodes.tree in
+    c.loop-items.invariant ∙ exprs_done (expr_at g.N.Nodes.functions c.args.self.now.depth) (map v c.loop-items.items.items) (g.N.Input.Tokens.place c.loop-items.tokens) (sym c.loop-items-test.ensures)

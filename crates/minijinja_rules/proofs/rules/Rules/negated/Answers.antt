@@ -1,18 +1,16 @@
-use Rattle.std.proofs.Common.{sym, ◌∙◌}
-use Rattle.minijinja_syntax.specs.Tokens.{minus}
-use Rattle.minijinja_grammar.specs.Forms.{reads}
-use Rattle.minijinja_grammar.specs.Grammar as form
+use Rattle.std.proofs.Common.{rules}
 use Rattle.minijinja_grammar.specs.Grammar.{expr_at, primary_at}
-use Rattle.minijinja_rules.proofs.Postfixes.{minuses_turn}
-use Rattle.minijinja_stream.proofs.Turned.{next_shorter}
+use Rattle.minijinja_rules.proofs.Postfixes.{negated_is}
 use Rattle.minijinja_rules.proofs.rules.Rules.negated.Goals as goal
 
-pub loop-begins-smaller : goal.loop-begins-smaller
-loop-begins-smaller g c = next_shorter minus (g.N.Input.Tokens.place c.loop-begins.tokens) (g.N.Input.Tokens.place c.expect.new.self) c.in_ok-expect.field-0 c.in_ok-expect.ensures
+pub returns-in_err-begins : goal.returns-in_err-begins
+returns-in_err-begins g c =
+    rw (negated_is g.N.Nodes.functions (expr_at g.N.Nodes.functions c.args.self.now.depth) (primary_at g.N.Nodes.functions c.args.self.now.depth) (g.N.Input.Tokens.place c.args.tokens.now)) (search rules)
 
-pub loop-begins-preserved : goal.loop-begins-preserved
-loop-begins-preserved g c =
-    let f = g.N.Nodes.functions in
-    let d = c.args.self.now.depth in
-    minuses_turn f (expr_at f d) (primary_at f d) (reads (form.operand f (expr_at f d) (primary_at f d)) (g.N.Input.Tokens.place c.args.tokens.now)) c.loop-begins.begins.items c.push.new.self.items (g.N.Input.Tokens.place c.loop-begins.tokens) (g.N.Input.Tokens.place c.expect.new.self) c.in_ok-expect.field-0
-    c.loop-begins.invariant (sym c.at.ensures ∙ c.loop-begins-test.true) c.in_ok-expect.ensures c.in_ok-push.ensures.items
+pub returns-in_err-expr : goal.returns-in_err-expr
+returns-in_err-expr g c =
+    rw (negated_is g.N.Nodes.functions (expr_at g.N.Nodes.functions c.args.self.now.depth) (primary_at g.N.Nodes.functions c.args.self.now.depth) (g.N.Input.Tokens.place c.args.tokens.now), c.in_ok-begins.ensures) (search rules)
+
+pub returns : goal.returns
+returns g c =
+    rw (negated_is g.N.Nodes.functions (expr_at g.N.Nodes.functions c.args.self.now.depth) (primary_at g.N.Nodes.functions c.args.self.now.depth) (g.N.Input.Tokens.place c.args.tokens.now), c.in_ok-begins.ensures, c.in_ok-expr.ensures, ← c.last_span-to.ensures) (search rules)
