@@ -72,11 +72,11 @@ module _ {C F : Type 0} (f : Functions C F) where
   test_finishes e x args s t = λ start r. after_then (adds_then s t) r
 
   -- of a method, the piece of its object
-  method_base : (e o : Expr C) (x : Text) → callee e ≡ method o x → base f e ≡ expr f o
+  pub method_base : (e o : Expr C) (x : Text) → callee e ≡ method o x → base f e ≡ expr f o
   method_base (attribute a y) o x h = ap (expr f) (attribute_method a o y x h)
   method_base e o x h = absurd (cc)
 
-  object_is : (e o : Expr C) → callee e ≡ object o → e ≡ o
+  pub object_is : (e o : Expr C) → callee e ≡ object o → e ≡ o
   object_is (attribute (variable z) y) o h = absurd (no_object (bytes_eq z (codes "self")) (variable z) o y h)
   object_is (attribute a y) o h = absurd (cc)
   object_is e o h = cc

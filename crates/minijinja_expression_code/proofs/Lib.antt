@@ -7,6 +7,7 @@ pub mod Calling
 pub mod ChainCode
 pub mod ChainEnds
 pub mod ChainFolds
+pub mod ChainLast
 pub mod ChainTurns
 pub mod Constants
 pub mod FilterChains
@@ -18,3 +19,4 @@ pub mod Outputs
 pub mod Results
 pub mod Waiting
 pub mod CallerArguments
+pub mod CallerStarts

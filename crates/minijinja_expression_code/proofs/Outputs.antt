@@ -1,6 +1,6 @@
 -- What outputs and assignments take apart.
-use Rattle.std.proofs.Common.{◌≡◌, ◌≤◌, List, [], ◌∷◌, length, refl, ap, ◌∙◌, subst, arith}
-use Rattle.std.specs.Prelude.{false, codes, bytes_eq}
+use Rattle.std.proofs.Common.{◌≡◌, ◌≤◌, List, [], ◌∷◌, length, get_or, refl, sym, ap, ◌∙◌, subst, arith}
+use Rattle.std.specs.Prelude.{Bool, true, false, codes, bytes_eq}
 use Rattle.minijinja_syntax.specs.Texts.{Text}
 use Rattle.minijinja_tree.specs.Erasure.{expr_tree, compare_tree, arg_tree, args_of}
 use Rattle.minijinja_tree.specs.Tree as tree
@@ -9,7 +9,7 @@ use Rattle.minijinja_expressions.specs.declared.ast.CallArg.TheBlock as block
 use Rattle.minijinja_expressions.specs.declared.ast.Expr.{Expr}
 use Rattle.minijinja_expressions.specs.declared.ast.Expr.TheVariants as expr
 use Rattle.minijinja_expressions.specs.declared.ast.Expr.TheVariants.{Compare'}
-use Rattle.minijinja_meaning.specs.Calls.{Recursion, Plain, written_loop, written_function, written}
+use Rattle.minijinja_meaning.specs.Calls.{Recursion, Plain, written_loop, written_super, written_function, written}
 use Rattle.minijinja_meaning.proofs.StatementSimulation.{WrittenWhole, written_whole}
 
 compare_plain : {V F C : Type 0} (c : V → C) (q : block.the_data-4 V F) → written (compare_tree c q) ≡ Plain
@@ -45,3 +45,20 @@ other_plain c x (block.Kwarg y e ∷ []) h n = refl
 other_plain c x (block.PosSplat e ∷ []) h n = refl
 other_plain c x (block.KwargSplat e ∷ []) h n = refl
 other_plain c x (a ∷ b ∷ rest) h n = absurd (omega (arith, h))
+
+-- with none, what is not `super` is not
+pub none_written : {V F C : Type 0} (c : V → C) (x : Text) (args : List (block.the_data V F)) (b : Bool) → length args ≡ 0 → bytes_eq x (codes "super") ≡ b → written_function x (args_of c args) ≡ written_super b Plain
+none_written c x [] b h n = ap (λ a. written_super a Plain) n
+none_written c x (a ∷ rest) b h n = absurd (omega (arith, h))
+
+loop_written : {V F C : Type 0} (c : V → C) (x : Text) (a : block.the_data V F) → bytes_eq x (codes "loop") ≡ true → written_function (codes "loop") (args_of c (a ∷ [])) ≡ written_function x (args_of c (a ∷ []))
+loop_written c x (block.Pos e) n = sym (ap (λ b. written_loop b (expr_tree c e)) n)
+loop_written c x (block.Kwarg y e) n = refl
+loop_written c x (block.PosSplat e) n = refl
+loop_written c x (block.KwargSplat e) n = refl
+
+-- with one, `loop` writes what is written of that one
+pub one_written : {V F C : Type 0} (c : V → C) (x : Text) (a : block.the_data V F) (args : List (block.the_data V F)) → length args ≡ 1 → a ≡ get_or args 0 a → bytes_eq x (codes "loop") ≡ true → written_function (codes "loop") (args_of c (a ∷ [])) ≡ written_function x (args_of c args)
+one_written c x a [] h e n = absurd (omega (arith, h))
+one_written {V} {F} c x a (b ∷ []) h e n = ap (λ (d : block.the_data V F). written_function (codes "loop") (args_of c (d ∷ []))) e ∙ loop_written c x b n
+one_written c x a (b ∷ d ∷ rest) h e n = absurd (omega (arith, h))

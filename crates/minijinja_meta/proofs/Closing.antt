@@ -1,9 +1,9 @@
 -- Names in order of their bytes, each once, are told by which they are.
-use Rattle.std.proofs.Common.{◌≡◌, refl, sym, ap, ap₂, ◌∙◌, subst, true, false}
+use Rattle.std.proofs.Common.{◌≡◌, refl, sym, ap, ap₂, ◌∙◌, true, false}
 use Rattle.std.specs.Prelude.{Bool, not, ◌&&◌, ◌||◌, List, [], ◌∷◌, map}
 use Rattle.std.specs.Borrow.{Bor}
 use Rattle.std.specs.BTreeMap.{is_at}
-use Rattle.std.specs.BTreeSet.{BTreeSet, keys, insert_key, IsOrdered}
+use Rattle.std.specs.BTreeSet.{keys, insert_key, IsOrdered}
 use Rattle.std.specs.Cmp.Lexicographic.{slice_cmp}
 use Rattle.std.specs.List.{list_any, AllByRecursion}
 use Rattle.std.specs.List.Sorted.{IsStrictlySortedBy}
@@ -18,7 +18,7 @@ use Rattle.minijinja_syntax.specs.Texts.{Text}
 use Rattle.minijinja_tree.specs.FreeNames.{Way, end, free, in_order}
 use Rattle.minijinja_meta.specs.declared.meta.Names.{Names}
 use Rattle.minijinja_meta.specs.private.FoundNames.{has, among, log, finds, IsLogged, Walks}
-use Rattle.minijinja_meta.proofs.Logging.{same-text, text-comm, texts, true-false}
+use Rattle.minijinja_meta.proofs.Logging.{same-text, texts, true-false}
 
 abbrev order : Text → Text → Ordering
 order x y = slice_cmp nat_cmp x y

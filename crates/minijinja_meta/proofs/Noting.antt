@@ -4,11 +4,11 @@ use Rattle.std.specs.Prelude.{Bool, not, ◌&&◌, ◌||◌, List, Option, Some,
 use Rattle.std.specs.Borrow.{Bor}
 use Rattle.std.proofs.lemmas.List.{at_drop_more, at_drop_all}
 use Rattle.minijinja_syntax.specs.Texts.{Text}
-use Rattle.minijinja_tree.specs.Erasure.{expr_tree, exprs_of, comparisons_of, args_of, arg_tree, compare_op}
+use Rattle.minijinja_tree.specs.Erasure.{expr_tree, exprs_of, comparisons_of, args_of, arg_tree}
 use Rattle.minijinja_tree.specs.Tree.{no_args, Args}
 use Rattle.minijinja_meta.specs.declared.meta.Names.{Names}
 use Rattle.minijinja_meta.specs.private.FoundNames.{among, Notes}
-use Rattle.minijinja_meta.specs.private.Mentions.{mentions, mentions_all, mentions_any, mentions_args, mentions_beside, mentions_compared, mentions_if_some}
+use Rattle.minijinja_meta.specs.private.Mentions.{mentions, mentions_all, mentions_args, mentions_beside, mentions_compared, mentions_if_some}
 use Rattle.minijinja_tree.specs.private.WellFormedTests.{long_side}
 use Rattle.minijinja_meta.proofs.Mentioning.{mentions-sides}
 use Rattle.minijinja_expressions.specs.Sizes.{size_of}

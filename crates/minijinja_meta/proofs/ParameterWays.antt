@@ -1,12 +1,12 @@
 -- The way through the arguments of a macro and the names of an import, one at a time.
-use Rattle.std.proofs.Common.{◌≡◌, ℕ, zero, suc, ◌+◌, ◌-◌, ◌<◌, ◌≤◌, ◌++◌, List, [], ◌∷◌, refl, sym, ap, ap₂, ◌∙◌, subst, arith, length, drop, take, get_or, map, add-one, length-append}
+use Rattle.std.proofs.Common.{◌≡◌, ℕ, zero, suc, ◌+◌, ◌<◌, ◌≤◌, ◌++◌, List, [], ◌∷◌, refl, sym, ap, ap₂, ◌∙◌, arith, length, drop, take, get_or, map, add-one, length-append}
 use Rattle.std.specs.Prelude.{Option, Some, None, Result, Ok, Err, OnOk, option_map, slice_get, reverse}
 use Rattle.std.specs.Borrow.{Bor}
 use Rattle.std.proofs.lemmas.List.{append-nil, reverse-append, at_drop_more}
 use Rattle.std.proofs.lemmas.Option.{slice_get-map}
 use Rattle.minijinja_tree.specs.Erasure.{expr_tree, optional_of, names_of, assignments_of}
 use Rattle.minijinja_tree.specs.FreeNames.{Way, through, through_if_any, to_target, to_parameters, to_names, to_assignments}
-use Rattle.minijinja_tree.specs.Tree.{Expr, Optional, absent, present, Parameter, defaulted, parameters, stored_as}
+use Rattle.minijinja_tree.specs.Tree.{Expr, Optional, absent, present, defaulted, parameters, stored_as}
 use Rattle.minijinja_meta.specs.declared.meta.Names.{Names}
 use Rattle.minijinja_meta.specs.private.FoundNames.{log, finds, IsLogged, Walks, Walking}
 use Rattle.minijinja_expressions.specs.declared.ast.Expr.{Expr as Node}

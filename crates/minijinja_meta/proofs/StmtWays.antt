@@ -1,21 +1,20 @@
 -- The way through a row of conditions, a condition at a time.
-use Rattle.std.proofs.Common.{◌≡◌, ℕ, ◌+◌, ◌<◌, ◌≤◌, ◌++◌, List, [], ◌∷◌, refl, sym, ap, ◌∙◌, subst, arith, append_assoc, true, false, length, take, drop, get_or}
+use Rattle.std.proofs.Common.{◌≡◌, ℕ, ◌+◌, ◌<◌, ◌++◌, List, [], refl, sym, ap, ◌∙◌, arith, append_assoc, true, false, length, take, drop, get_or}
 use Rattle.std.specs.Prelude.{Bool, not, ◌&&◌, ◌||◌, Option, Some, None, IsSome, IfSome, option_map}
 use Rattle.std.specs.Borrow.{Bor}
 use Rattle.std.specs.Str.{bytes_eq}
-use Rattle.std.proofs.lemmas.List.{append-nil, at_drop_more, at_drop_all}
+use Rattle.std.proofs.lemmas.List.{append-nil, at_drop_more}
 use Rattle.std.proofs.lemmas.List.Folds.{list_any-append}
 use Rattle.minijinja_syntax.specs.Texts.{Text}
 use Rattle.minijinja_tree.specs.Erasure.{stmt_tree}
-use Rattle.minijinja_tree.specs.FreeNames.{Way, end, region, free, through, through_stmt, through_stmts}
+use Rattle.minijinja_tree.specs.FreeNames.{Way, end, region, free, through_stmt, through_stmts}
 use Rattle.minijinja_tree.specs.Tree.{Stmt, if_cond, Stmts, done, also}
 use Rattle.minijinja_tree.specs.declared.ast.Stmt.{Stmt as Node}
 use Rattle.minijinja_meta.specs.declared.meta.Names.{Names}
-use Rattle.minijinja_meta.specs.private.FoundNames.{has, among, log, finds, IsLogged, Walks, Walking}
+use Rattle.minijinja_meta.specs.private.FoundNames.{has, among, log, finds, IsLogged, Walks}
 use Rattle.minijinja_meta.specs.private.Mentions.{mentions}
 use Rattle.minijinja_tree.specs.private.Sizes.{stmt_size}
 use Rattle.minijinja_meta.specs.private.Ways.{beside_way, way_of}
-use Rattle.minijinja_tree.specs.private.BlockNames.{many}
 use Rattle.minijinja_tree.specs.private.WellFormedTests.{otherwise, only}
 use Rattle.minijinja_meta.proofs.Mentioning.{met-through}
 use Rattle.minijinja_tree.proofs.Rows.{body_of}

@@ -1,13 +1,11 @@
 -- The way through a target, a list at a time.
-use Rattle.std.proofs.Common.{◌≡◌, ℕ, suc, ◌+◌, ◌*◌, ◌<◌, ◌++◌, List, [], ◌∷◌, refl, sym, ap, ◌∙◌, subst, arith, true, false, length}
-use Rattle.std.specs.Prelude.{Bool, Option, Some, None, IsSome, ◌↔◌, Result, Ok, Err, OnOk, option_to_list}
+use Rattle.std.proofs.Common.{◌≡◌, suc, ◌+◌, ◌*◌, ◌<◌, ◌++◌, List, [], ◌∷◌, refl, sym, ap, ◌∙◌, arith, true, false, length}
+use Rattle.std.specs.Prelude.{Option, Some, None, IsSome, ◌↔◌, Result, Ok, Err, OnOk, option_to_list}
 use Rattle.std.specs.Borrow.{Bor}
-use Rattle.std.specs.List.{IsFirstAndRest}
 use Rattle.std.proofs.lemmas.List.{append-nil}
-use Rattle.minijinja_syntax.specs.Texts.{Text}
 use Rattle.minijinja_tree.specs.Erasure.{expr_tree, exprs_of}
-use Rattle.minijinja_tree.specs.FreeNames.{Way, through, stores, to_target, to_targets}
-use Rattle.minijinja_tree.specs.Tree.{Expr, variable, constant, slice, unary, binary, compare, if_expr, filter, test, attribute, item, call, list, tuple, map, Exprs, no_more, more}
+use Rattle.minijinja_tree.specs.FreeNames.{Way, through, to_target, to_targets}
+use Rattle.minijinja_tree.specs.Tree.{Expr, variable, list, Exprs}
 use Rattle.minijinja_meta.specs.declared.meta.Names.{Names}
 use Rattle.minijinja_meta.specs.private.FoundNames.{log, finds, IsLogged, Walks, Walking}
 use Rattle.minijinja_meta.specs.private.TargetRows.{rows_to, rows_count, target_count, targets_count}

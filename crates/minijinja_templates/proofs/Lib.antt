@@ -9,3 +9,4 @@ pub mod Blocks
 pub mod Imports
 pub mod Params
 pub mod Keywords
+pub mod Loops

@@ -9,8 +9,8 @@ use Rattle.minijinja_expression_code.specs.private.Leading.{test_in}
 use Rattle.minijinja_expression_code.specs.private.Making.{made_of, count_of}
 use Rattle.minijinja_expression_code.specs.private.Waiting.{begun_of}
 use Rattle.minijinja_expression_code.proofs.Adding.{adds_as}
-use Rattle.minijinja_expression_code.proofs.Arms.{slice_arm, unary_arm, binary_arm, if_arm, filter_arm, test_arm, call_arm, list_arm, tuple_arm, map_arm, whole_slice_stop, whole_slice_step, whole_filter, whole_test_args, whole_test_few, whole_call_args, whole_call_few, whole_list, whole_tuple, whole_pairs, whole_keys, whole_values}
-use Rattle.minijinja_expression_code.proofs.Finishing.{finishes_as, slice_finishes, binary_finishes, binary_joined, binary_unjoined, filter_finishes, filter_arguments, filter_applied, test_finishes, test_performed, function_finishes, method_finishes, object_finishes, list_loaded, list_finishes, tuple_loaded, tuple_finishes, map_loaded, map_finishes, leading_whole, test_whole}
+use Rattle.minijinja_expression_code.proofs.Arms.{whole_if_test, whole_if_true, whole_if_false, compare_arm, attribute_arm, item_arm, whole_slice_start, whole_right, whole_key, whole_compare, slice_arm, unary_arm, binary_arm, if_arm, filter_arm, test_arm, call_arm, list_arm, tuple_arm, map_arm, whole_slice_stop, whole_slice_step, whole_filter, whole_test_args, whole_test_few, whole_call_args, whole_call_few, whole_list, whole_tuple, whole_pairs, whole_keys, whole_values}
+use Rattle.minijinja_expression_code.proofs.Finishing.{constant_finishes, variable_finishes, attribute_finishes, item_finishes, block_finishes, finishes_as, slice_finishes, binary_finishes, binary_joined, binary_unjoined, filter_finishes, filter_arguments, filter_applied, test_finishes, test_performed, function_finishes, method_finishes, object_finishes, list_loaded, list_finishes, tuple_loaded, tuple_finishes, map_loaded, map_finishes, leading_whole, test_whole}
 use Rattle.minijinja_expression_code.proofs.InOrder.{count_length, leads_whole, leads_on, leads_end, whole_here, whole_after, items_next, items_end, pairs, pairs_next, pairs_end}
 use Rattle.minijinja_expression_code.proofs.Waiting.{Rest, rest_more, rest_less, rest_whole, rest_size, rest_leaf}
 use Rattle.minijinja_expressions.specs.declared.ast.Compare.{out-Compare}
@@ -671,3 +671,75 @@ expr::finish-arguments-requires-in-Object g t c =
     let v = g.V.TemplateValue.contents in
     let f = g.V.TemplateValue.functions in
     λ κs live. (search (rules, the_lemmas), (search rules, (search rules, (whole_call_args v c.args.node.now c.in-Call.call c.node-call.result.now c.deref-in-Object.result.now c.in-Call.is c.node-call.ensures c.deref-in-Object.ensures.value c.requires, (whole_call_few v c.args.node.now c.in-Call.call c.node-call.result.now c.deref-in-Object.result.now c.in-Call.is c.node-call.ensures c.deref-in-Object.ensures.value c.requires, omega arith)))))
+
+pub expr::finish-bound-requires : goal.expr::finish-bound-requires
+expr::finish-bound-requires g t c =
+    let v = g.V.TemplateValue.contents in
+    λ κs live. (search (rules, the_lemmas), (search rules, (search rules, whole_slice_start v c.args.node.now c.in-Slice.slice c.node-slice.result.now c.in-Slice.is c.node-slice.ensures c.requires)))
+
+pub expr::finish-expression-requires : goal.expr::finish-expression-requires
+expr::finish-expression-requires g t c =
+    let v = g.V.TemplateValue.contents in
+    λ κs live. (search (rules, the_lemmas), (search rules, (search rules, whole_right v c.args.node.now c.in-BinOp.operation c.node-operation.result.now c.in-BinOp.is c.node-operation.ensures c.requires)))
+
+pub expr::finish-expression-requires-in-GetItem : goal.expr::finish-expression-requires-in-GetItem
+expr::finish-expression-requires-in-GetItem g t c =
+    let v = g.V.TemplateValue.contents in
+    λ κs live. (search (rules, the_lemmas), (search rules, (search rules, whole_key v c.args.node.now c.in-GetItem.item c.node-in-GetItem.result.now c.in-GetItem.is c.node-in-GetItem.ensures c.requires)))
+
+pub expr::finish-compare-requires : goal.expr::finish-compare-requires
+expr::finish-compare-requires g t c =
+    let v = g.V.TemplateValue.contents in
+    λ κs live. (search (rules, the_lemmas), (search rules, (search rules, whole_compare v c.args.node.now c.in-Compare.chain c.node-in-Compare.result.now c.in-Compare.is c.node-in-Compare.ensures c.requires)))
+
+pub expr::finish-returns-in-Compare : goal.expr::finish-returns-in-Compare
+expr::finish-returns-in-Compare g t c =
+    let v = g.V.TemplateValue.contents in
+    let f = g.V.TemplateValue.functions in
+    ok_gives c.compare.result (finishes_as f c.args.place (made_of v c.args.code.now) (made_of v c.compare.new.code) (compare_arm v c.args.node.now c.in-Compare.chain c.node-in-Compare.result.now c.in-Compare.is c.node-in-Compare.ensures)) c.compare.ensures
+
+pub expr::finish-returns-in-GetAttr : goal.expr::finish-returns-in-GetAttr
+expr::finish-returns-in-GetAttr g t c =
+    let v = g.V.TemplateValue.contents in
+    let f = g.V.TemplateValue.functions in
+    let n = c.node-in-GetAttr.result.now in
+    ok_gives c.add-in-GetAttr.result (λ s. finishes_as f c.args.place (made_of v c.args.code.now) (made_of v c.add-in-GetAttr.new.self) (attribute_arm v c.args.node.now c.in-GetAttr.attribute n c.in-GetAttr.is c.node-in-GetAttr.ensures)
+    (attribute_finishes f (expr_tree v n.expr) n.name.now s)) c.add-in-GetAttr.ensures
+
+pub expr::finish-returns-in_ok-expression-in-GetItem : goal.expr::finish-returns-in_ok-expression-in-GetItem
+expr::finish-returns-in_ok-expression-in-GetItem g t c =
+    let v = g.V.TemplateValue.contents in
+    let f = g.V.TemplateValue.functions in
+    let n = c.node-in-GetItem.result.now in
+    ok_gives c.add-in-GetItem.result (λ s. finishes_as f c.args.place (made_of v c.args.code.now) (made_of v c.add-in-GetItem.new.self) (item_arm v c.args.node.now c.in-GetItem.item n c.in-GetItem.is c.node-in-GetItem.ensures)
+    (item_finishes f (expr_tree v n.expr) (expr_tree v n.subscript_expr) c.in_ok-expression-in-GetItem.ensures s)) c.add-in-GetItem.ensures
+
+pub expr::finish-returns-in-Block : goal.expr::finish-returns-in-Block
+expr::finish-returns-in-Block g t c =
+    let v = g.V.TemplateValue.contents in
+    let f = g.V.TemplateValue.functions in
+    let n = c.node-call.result.now in
+    ok_gives c.capture_block.result (λ s. finishes_as f c.args.place (made_of v c.args.code.now) (made_of v c.capture_block.new.code) (call_arm v c.args.node.now c.in-Call.call n c.in-Call.is c.node-call.ensures)
+    (block_finishes f (expr_tree v n.expr) (args_of v n.args.items) c.in-Block.name.now (sym c.in-Block.ensures.callee) s)) c.capture_block.ensures
+
+pub expr::finish-returns-in-Var : goal.expr::finish-returns-in-Var
+expr::finish-returns-in-Var g t c =
+    let v = g.V.TemplateValue.contents in
+    let f = g.V.TemplateValue.functions in
+    let is : expr_tree v c.args.node.now ≡ tree.variable c.node.result.now.id.now = rw (c.in-Var.is, c.node.ensures) refl in
+    ok_gives c.add.result (λ s. finishes_as f c.args.place (made_of v c.args.code.now) (made_of v c.add.new.self) is (variable_finishes f c.node.result.now.id.now s)) c.add.ensures
+
+pub expr::finish-otherwise-requires : goal.expr::finish-otherwise-requires
+expr::finish-otherwise-requires g t c =
+    let v = g.V.TemplateValue.contents in
+    let e = c.args.node.now in
+    let n = c.node-in-IfExpr.result.now in
+    λ κs live. (search (rules, the_lemmas), (search rules, (search rules, (whole_if_test v e c.in-IfExpr.choice n c.in-IfExpr.is c.node-in-IfExpr.ensures c.requires, (whole_if_true v e c.in-IfExpr.choice n c.in-IfExpr.is c.node-in-IfExpr.ensures c.requires, whole_if_false v e c.in-IfExpr.choice n c.in-IfExpr.is c.node-in-IfExpr.ensures c.requires)))))
+
+pub expr::finish-returns-in-Const : goal.expr::finish-returns-in-Const
+expr::finish-returns-in-Const g t c =
+    let v = g.V.TemplateValue.contents in
+    let f = g.V.TemplateValue.functions in
+    let n = c.node-in-Const.result.now in
+    let is : expr_tree v c.args.node.now ≡ tree.constant (v n.value) = rw (c.in-Const.is, c.node-in-Const.ensures) refl in
+    ok_gives c.load_constant.result (λ s. finishes_as f c.args.place (made_of v c.args.code.now) (made_of v c.load_constant.new.code) is (constant_finishes f (v n.value) s)) c.load_constant.ensures

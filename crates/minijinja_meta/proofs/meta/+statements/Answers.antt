@@ -1,16 +1,18 @@
-use Rattle.std.proofs.Common.{◌≡◌, List, [], ◌∷◌, Some, None, refl, ap₂, ◌<◌, length, map, arith, sym, ap, subst, ◌∙◌}
+use Rattle.std.proofs.Common.{rules, ◌≡◌, List, [], ◌∷◌, Some, None, refl, ap₂, ◌<◌, ◌≤◌, length, map, arith, sym, ap, subst, ◌∙◌}
 use Rattle.std.specs.Prelude.{codes}
+use Rattle.std.proofs.lemmas.List.{at_drop_all}
 use Rattle.minijinja_tree.specs.Nodes.{node_of}
-use Rattle.minijinja_tree.specs.Erasure.{args_of, expr_tree, macro_tree, optional_of, assignments_of, stmt_tree}
+use Rattle.minijinja_tree.specs.Erasure.{args_of, expr_tree, macro_tree, optional_of, assignments_of, names_of, stmt_tree}
 use Rattle.minijinja_tree.specs.FreeNames.{Way, end, in_row, through_if_any, region, stores, through, through_stmts, to_assignments, to_filter, to_parameters, to_target}
-use Rattle.minijinja_tree.specs.Tree.{Stmt, stmts_of, done, template, call, call_block, do_call, set_block, auto_escape, filter_block, declare, output, for_loop, if_cond, with_block, named_block, extends, include, parameters}
+use Rattle.minijinja_tree.specs.Tree.{Stmt, stmts_of, done, template, call, call_block, do_call, assignment, set_block, auto_escape, filter_block, declare, output, for_loop, if_cond, with_block, named_block, extends, include, import_all, from_import, parameters}
 use Rattle.minijinja_meta.specs.private.FoundNames.{Walks}
 use Rattle.minijinja_tree.specs.private.BlockNames.{many}
 use Rattle.minijinja_tree.specs.private.WellFormedTests.{only_item}
 use Rattle.minijinja_meta.specs.private.Ways.{beside_way, in_region, within_macro}
 use Rattle.minijinja_tree.proofs.Rows.{body_of, call_in, macro_in, call_block_is, template_is, set_block_is, auto_escape_is, filter_block_is, declare_is, for_loop_is, if_cond_is, with_block_is, block_is}
-use Rattle.minijinja_meta.proofs.StmtWays.{row-goes-on, row-ends, beside-whole, next-stmt}
-use Rattle.minijinja_meta.proofs.Walking.{walks-as, walks-nothing, walks-on, walks-through, then-walks, then-through, walking-goes-on, region-ends}
+use Rattle.minijinja_tree.proofs.StmtSizes.{stmt-within, next-stmt-smaller}
+use Rattle.minijinja_meta.proofs.StmtWays.{row-begins, row-goes-on, row-ends, beside-whole, next-stmt}
+use Rattle.minijinja_meta.proofs.Walking.{walks-as, walks-nothing, walks-on, walks-through, then-walks, then-through, walking-begins, walking-goes-on, walking-ends, region-ends}
 use Rattle.minijinja_meta.proofs.meta.+statements.Goals as goal
 
 pub with_block-returns : goal.with_block-returns
@@ -259,3 +261,56 @@ branches-returns-in-None g t c =
     walks-as c.body-in-None.result s c.body-in-None.new.names _ _ (ap (λ f w. through e (yes (region (through_stmts f end) w))) (sym others))
     (then-walks c.body-in-None.result s c.body.new.names c.body-in-None.new.names (λ w. through e (yes w)) no both
     (walks-as c.body-in-None.result c.body.new.names c.body-in-None.new.names _ _ (ap (λ xs. in_region (through_stmts (body_of v xs))) c.deref-in-None.ensures.value) c.body-in-None.ensures))
+
+pub statements-loop-stmt-init : goal.statements-loop-stmt-init
+statements-loop-stmt-init g t c = walking-begins c.args.names.now _ c.requires
+
+pub statements-returns : goal.statements-returns
+statements-returns g t c =
+    let v = g.V.TemplateValue.contents in
+    let xs = c.args.stmts.now in
+    let i = c.loop-stmt.stmt-index in
+    let past : length xs ≤ i = omega arith in
+    walking-ends c.args.names.now c.loop-stmt.names _ _ c.loop-stmt.invariant (λ w. at_drop_all (λ ys. through_stmts (body_of v ys) w) xs i past)
+
+pub statement-returns-in-Some : goal.statement-returns-in-Some
+statement-returns-in-Some g t c = c.row.ensures
+
+pub row-loop-rest-init : goal.row-loop-rest-init
+row-loop-rest-init g t c = row-begins g.V.TemplateValue.contents c.args.names.now c.args.stmt c.requires.logged
+
+pub row-loop-rest-smaller : goal.row-loop-rest-smaller
+row-loop-rest-smaller g t c = next-stmt-smaller c.args.stmt.now c.loop-rest.rest c.otherwise-rest.result c.in-Some.part c.in-Some.is c.otherwise-rest.ensures.smaller
+
+pub body-returns : goal.body-returns
+body-returns g t c =
+    let body = through_stmts (body_of g.V.TemplateValue.contents c.args.stmts.now) in
+    region-ends c.args.names.now c.statements.new.names c.end.new.self body c.mark-mark.result c.requires c.in_ok-statements.ensures c.mark-mark.ensures c.end.ensures.logged c.end.ensures.free c.end.ensures.log
+
+pub single-returns-in-Set : goal.single-returns-in-Set
+single-returns-in-Set g t c =
+    let v = g.V.TemplateValue.contents in
+    walks-as c.set.result c.args.names.now c.set.new.names _ _
+    (ap (λ n. beside_way (assignment (expr_tree v n.target) (expr_tree v n.expr))) c.node-in-Set.ensures ∙ ap (λ s. beside_way (stmt_tree v s)) (sym c.in-Set.is)) c.set.ensures
+
+pub single-returns-in-Import : goal.single-returns-in-Import
+single-returns-in-Import g t c =
+    let v = g.V.TemplateValue.contents in
+    walks-as c.import_all.result c.args.names.now c.import_all.new.names _ _
+    (ap (λ n. beside_way (import_all (expr_tree v n.expr) (expr_tree v n.name))) c.node-in-Import.ensures ∙ ap (λ s. beside_way (stmt_tree v s)) (sym c.in-Import.is)) c.import_all.ensures
+
+pub single-returns-in-FromImport : goal.single-returns-in-FromImport
+single-returns-in-FromImport g t c =
+    let v = g.V.TemplateValue.contents in
+    walks-as c.from_import.result c.args.names.now c.from_import.new.names _ _
+    (ap (λ n. beside_way (from_import (expr_tree v n.expr) (names_of v n.names.items))) c.node-in-FromImport.ensures ∙ ap (λ s. beside_way (stmt_tree v s)) (sym c.in-FromImport.is)) c.from_import.ensures
+
+pub row-single-requires : goal.row-single-requires
+row-single-requires g t c κs within =
+    let deep = stmt-within c.args.stmt.now c.loop-rest.rest c.loop-rest.rest c.in-Some.part c.in-Some.is c.loop-rest.invariant.lower in
+    (omega (arith, deep, c.decreases), (search rules, (search rules, c.loop-rest.invariant.logged)))
+
+pub for_loop-filtered-requires : goal.for_loop-filtered-requires
+for_loop-filtered-requires g t c =
+    let first = walks-through c.args.names.now c.expression.new.names c.requires (expr_tree g.V.TemplateValue.contents c.args.repeated.now.iter) c.in_ok-expression.ensures in
+    first.logged

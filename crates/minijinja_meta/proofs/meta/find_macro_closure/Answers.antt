@@ -1,9 +1,9 @@
-use Rattle.std.proofs.Common.{map, ap, sym, subst, ◌∙◌}
+use Rattle.std.proofs.Common.{map, ap, subst, ◌∙◌}
 use Rattle.std.specs.BTreeSet.{keys, IsOrdered}
 use Rattle.std.specs.Ordering.{nat_cmp}
 use Rattle.std.specs.Cmp.Lexicographic.{slice_cmp}
 use Rattle.minijinja_tree.specs.Erasure.{expr_tree}
-use Rattle.minijinja_tree.specs.FreeNames.{Way, through_stmts, to_parameters}
+use Rattle.minijinja_tree.specs.FreeNames.{through_stmts, to_parameters}
 use Rattle.minijinja_tree.specs.Tree.{parameters}
 use Rattle.minijinja_meta.specs.private.FoundNames.{Walks}
 use Rattle.minijinja_meta.proofs.Closing.{found-is}

@@ -1,5 +1,5 @@
 use Rattle.std.proofs.Common.{◌≡◌, ◌<◌, ◌++◌, [], ◌∷◌, sym, ap, subst, ◌∙◌}
-use Rattle.std.specs.Prelude.{Some, None}
+use Rattle.std.specs.Prelude.{Some}
 use Rattle.minijinja_tree.specs.Erasure.{expr_tree, exprs_of}
 use Rattle.minijinja_meta.specs.private.TargetRows.{rows_count}
 use Rattle.minijinja_tree.specs.private.WellFormedTests.{items_of}
@@ -41,3 +41,6 @@ returns-in-None-clause-fewer g c =
     let first : c.args.row.now ≡ c.in-Some.expr.now ∷ c.in-Some.rest.now = c.in-Some.ensures.cases.0 in
     whenever c.single_target.result _
     (subst (λ l. rows_count v l < rows_count v (rs ++ c.args.row ∷ [])) (sym c.in_ok-push.ensures.items) (single-fewer v rs c.args.row c.in-Some.expr.now c.in-Some.rest first c.in-None.ensures.items))
+
+pub single_target-requires : goal.single_target-requires
+single_target-requires g c = record { logged = c.requires; single = sym c.in-None.ensures.items }

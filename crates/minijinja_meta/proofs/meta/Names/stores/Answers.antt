@@ -1,4 +1,4 @@
-use Rattle.std.proofs.Common.{refl, sym, ◌∙◌}
+use Rattle.std.proofs.Common.{refl}
 use Rattle.minijinja_meta.proofs.Storing.{new-stored-walks, stored-walks, added-new, added-held, unless-new}
 use Rattle.minijinja_meta.proofs.meta.Names.stores.Goals as goal
 

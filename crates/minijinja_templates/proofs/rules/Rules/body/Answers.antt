@@ -1,4 +1,4 @@
-use Rattle.std.proofs.Common.{◌≡◌, true, ◌∷◌, ◌++◌, [], Some, map, arith, refl, sym, ap, ◌∙◌}
+use Rattle.std.proofs.Common.{rules, ◌≡◌, true, false, ◌∷◌, ◌++◌, [], Some, None, map, arith, refl, sym, ap, ◌∙◌}
 use Rattle.std.proofs.lemmas.List.{map-append}
 use Rattle.std.specs.Option.{option_map}
 use Rattle.minijinja_syntax.specs.Streams.{SpannedTok}
@@ -8,7 +8,7 @@ use Rattle.minijinja_stream.specs.private.Marks.{ends_view}
 use Rattle.minijinja_stream.proofs.Turned.{take_shorter}
 use Rattle.minijinja_templates.specs.private.Bodies.{part_at, rest_of_body}
 use Rattle.minijinja_templates.specs.private.Parses.{context_of}
-use Rattle.minijinja_templates.proofs.Bodies.{body_more, part_no_longer}
+use Rattle.minijinja_templates.proofs.Bodies.{body_done, body_is, body_more, part_no_longer}
 use Rattle.minijinja_templates.proofs.rules.Rules.body.Goals as goal
 
 pub loop-ends-smaller : goal.loop-ends-smaller
@@ -40,3 +40,59 @@ loop-ends-preserved g c =
     let k : part_at f x d ends t q ≡ got (Some (v c.in-Some.part)) r = c.in_ok-part.ensures ∙ ap (λ o. got (option_map v o) r) c.in-Some.is in
     let pushed : ss ++ v c.in-Some.part ∷ [] ≡ map v c.push.new.self.items = rw (c.in_ok-push-in-Some.ensures.items, map-append) refl in
     c.loop-ends.invariant ∙ body_more f x d ends ss p e ∙ rw (h, k) refl ∙ ap (λ us. reads (rest_of_body f x d ends us) r) pushed
+
+pub returns-in_err-token : goal.returns-in_err-token
+returns-in_err-token g c =
+    let f = g.S.Statements.functions in
+    let x = context_of c.args.self.now.context in
+    let d = c.args.self.now.depth in
+    let ends = ends_view c.args.ends in
+    let p = g.S.Input.Tokens.place c.loop-ends.tokens in
+    let ss = map g.S.Statements.stmt c.loop-ends.parts.items in
+    let e : comes begins_part p.tokens ≡ true = sym c.begins.ensures ∙ c.loop-ends-test.true in
+    let i = body_is f x d ends (g.S.Input.Tokens.place c.args.tokens.now) ∙ c.loop-ends.invariant ∙ body_more f x d ends ss p e in
+    rw i (search rules)
+
+pub returns-in_err-part : goal.returns-in_err-part
+returns-in_err-part g c =
+    let f = g.S.Statements.functions in
+    let x = context_of c.args.self.now.context in
+    let d = c.args.self.now.depth in
+    let ends = ends_view c.args.ends in
+    let p = g.S.Input.Tokens.place c.loop-ends.tokens in
+    let q = g.S.Input.Tokens.place c.take.new.self in
+    let t : SpannedTok = (g.S.Input.Tokens.tok c.in_ok-token.token, c.in_ok-token.span) in
+    let ss = map g.S.Statements.stmt c.loop-ends.parts.items in
+    let e : comes begins_part p.tokens ≡ true = sym c.begins.ensures ∙ c.loop-ends-test.true in
+    let h : reads (one Some) p ≡ got t q = c.in_ok-token.ensures in
+    let i = body_is f x d ends (g.S.Input.Tokens.place c.args.tokens.now) ∙ c.loop-ends.invariant ∙ body_more f x d ends ss p e in
+    rw (i, h) (search rules)
+
+pub returns-in-None : goal.returns-in-None
+returns-in-None g c =
+    let v = g.S.Statements.stmt in
+    let f = g.S.Statements.functions in
+    let x = context_of c.args.self.now.context in
+    let d = c.args.self.now.depth in
+    let ends = ends_view c.args.ends in
+    let p = g.S.Input.Tokens.place c.loop-ends.tokens in
+    let q = g.S.Input.Tokens.place c.take.new.self in
+    let r = g.S.Input.Tokens.place c.part.new.tokens in
+    let t : SpannedTok = (g.S.Input.Tokens.tok c.in_ok-token.token, c.in_ok-token.span) in
+    let ss = map v c.loop-ends.parts.items in
+    let e : comes begins_part p.tokens ≡ true = sym c.begins.ensures ∙ c.loop-ends-test.true in
+    let h : reads (one Some) p ≡ got t q = c.in_ok-token.ensures in
+    let k : part_at f x d ends t q ≡ got None r = c.in_ok-part.ensures ∙ ap (λ o. got (option_map v o) r) c.in-None.is in
+    let i = body_is f x d ends (g.S.Input.Tokens.place c.args.tokens.now) ∙ c.loop-ends.invariant ∙ body_more f x d ends ss p e in
+    rw (i, h, k) refl
+
+pub returns : goal.returns
+returns g c =
+    let f = g.S.Statements.functions in
+    let x = context_of c.args.self.now.context in
+    let d = c.args.self.now.depth in
+    let ends = ends_view c.args.ends in
+    let p = g.S.Input.Tokens.place c.loop-ends.tokens in
+    let ss = map g.S.Statements.stmt c.loop-ends.parts.items in
+    let e : comes begins_part p.tokens ≡ false = sym c.begins.ensures ∙ c.loop-ends-test.false in
+    body_is f x d ends (g.S.Input.Tokens.place c.args.tokens.now) ∙ c.loop-ends.invariant ∙ body_done f x d ends ss p e

@@ -1,5 +1,5 @@
-use Rattle.std.proofs.Common.{rules, ◌≡◌, ◌∷◌, ◌++◌, [], true, false, map, reverse, arith, refl, sym, ap, ◌∙◌}
-use Rattle.std.proofs.lemmas.List.{map-append, reverse-append}
+use Rattle.std.proofs.Common.{rules, ◌≡◌, ◌∷◌, ◌++◌, [], true, false, length, map, reverse, arith, refl, sym, ap, ◌∙◌}
+use Rattle.std.proofs.lemmas.List.{map-append, nil_from_length, reverse-append}
 use Rattle.minijinja_syntax.specs.Tokens.{comma, paren_close}
 use Rattle.minijinja_grammar.specs.Forms.{got, read_then, reads}
 use Rattle.minijinja_grammar.specs.Grammar.{next}
@@ -53,3 +53,20 @@ loop-outer-preserved g c =
       e ∙ rw (h, b) refl ∙ ap (λ x. after_whole c.args.dotted os x r) (sym c.in_ok-whole.ensures),
       omega (arith, eaten_no_longer comma q r false b, next_shorter paren_close p q _ h, c.loop-outer.invariant.1),
     )
+
+pub returns-in_err-expect : goal.returns-in_err-expect
+returns-in_err-expect g c =
+    let v = g.S.Statements.tree in
+    let o = opened v c.in-Some.outer in
+    let os = reverse (map (opened v) c.pop.new.self.items) in
+    let popped : reverse (map (opened v) c.loop-outer.enclosing.items) ≡ o ∷ os = rw (c.in-Some.ensures.items, map-append, reverse-append) refl in
+    let p = g.S.Input.Tokens.place c.loop-outer.tokens in
+    let e = c.loop-outer.invariant.0 ∙ ap (λ xs. after_whole c.args.dotted xs (v c.loop-outer.whole) p) popped ∙ ended_step c.args.dotted o os (v c.loop-outer.whole) p in
+    rw e (search rules)
+
+pub returns : goal.returns
+returns g c =
+    let v = g.S.Statements.tree in
+    let n : length c.loop-outer.enclosing.items ≡ 0 = omega (arith, c.in_default.ensures.cases.0, c.loop-outer.enclosing.ok.0) in
+    let none : reverse (map (opened v) c.loop-outer.enclosing.items) ≡ [] = ap (λ xs. reverse (map (opened v) xs)) (nil_from_length _ n) in
+    c.loop-outer.invariant.0 ∙ ap (λ xs. after_whole c.args.dotted xs (v c.loop-outer.whole) (g.S.Input.Tokens.place c.loop-outer.tokens)) none
