@@ -83,7 +83,7 @@ marked_neither : (y : Family) (bs : Option (List Bracket)) → marked y Neither 
 unfolding marked
 marked_neither y bs = refl
 
--- a scope that begins in a capture and ends behind it
+-- a scope that begins in a capture and ends after it
 across : (y : Family) (bs : Option (List Bracket)) → marked y (Closes Scope) (marked y (Closes Capture) (marked y (Opens Scope) (marked y (Opens Capture) bs))) ≡ bs
 unfolding marked
 across ScopesAndLoops bs = closed_again Scope bs

@@ -36,7 +36,7 @@ named true p = refl
 named false p = refl
 
 module _ {C F : Type 0} (f : Functions C F) (laws : Laws f) (code : List (Instr C)) (to : Stretch) where
-  -- what lies on the operands behind a loop
+  -- what lies on the operands after a loop
   abbrev pub left_on : (has_else came : Bool) → List C → List C
   left_on has_else came ops = (if has_else then f.of_bool (not came) ∷ [] else []) ++ ops
 

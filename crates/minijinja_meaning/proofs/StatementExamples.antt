@@ -140,7 +140,7 @@ do_code : layout (do_call (name (codes "f")) no_args) ≡ Call CallFunction (cod
 unfolding layout
 do_code = refl
 
--- {% for x in y recursive %}{{ loop(x) }}{% else %}n{% endfor %}: its unit is entered at its start and is over behind its end
+-- {% for x in y recursive %}{{ loop(x) }}{% else %}n{% endfor %}: its unit is entered at its start and is over after its end
 abbrev recursive : Tree
 recursive = for_loop tt x y absent true (only (output (call (name (codes "loop")) (pos x no_args)))) (only (data_text (codes "n")))
 

@@ -331,7 +331,7 @@ abbrev pub making : {C L F : Type 0} → Functions C F → Macro C L → Piece C
 making f (macro n x args defaults body) runs entry =
     skipping Jump runs ▸ enclosing (enclosed (macro n x args defaults body)) ▸ one (Do GetClosure [] 0) ▸ one (Load (argument_names f args)) ▸ one (BuildMacro x entry (macro_flags (macro n x args defaults body)))
 
--- a piece that begins with a jump past what may be entered behind that jump, of the place where it is entered, on which no length
+-- a piece that begins with a jump past what may be entered after that jump, of the place where it is entered, on which no length
 -- depends
 abbrev pub entered : {C : Type 0} → (ℕ → Piece C) → Piece C
 entered p = record { past = (p 0).past; code = λ h. (p (behind 1 h).place).code h }

@@ -288,7 +288,7 @@ unfoldable pub all_turns : {N C F S : Type 0} → Turn N C F S → (came : Bool)
 unfolding turns
 all_turns turn came s w = turns (length w.answers) turn came s w
 
--- the turns to come are the next one and then those behind it: what bounds them, the answers left, is never met
+-- the turns to come are the next one and then those after it: what bounds them, the answers left, is never met
 abbrev pub HasNoBound : {N C F S : Type 0} → Turn N C F S → Type 0
 HasNoBound {N} {C} turn =
     (came : Bool) (s : _) (w : World (Event N C) C) →

@@ -7,23 +7,23 @@ use Rattle.minijinja_meaning.specs.Pieces.{Here, behind, start, nothing, Piece, 
 use Rattle.minijinja_meaning.specs.Layout as layout
 use Rattle.minijinja_meaning.specs.Layout.{expr, base, target, assignments, passing, looping, taking, up_to_caller}
 
--- where a loop starts: behind what gives its items
+-- where a loop starts: after what gives its items
 abbrev pub loop_start : {C F : Type 0} → Functions C F → (target iterable : Expr C) → Optional C → Here → Here
 loop_start f e v only h = (passing f e only (expr f v)).past h
 
--- where the body of a loop that starts here begins: behind its start, the question for an item, and its target
+-- where the body of a loop that starts here begins: after its start, the question for an item, and its target
 abbrev pub body_start : {C F : Type 0} → Functions C F → (target : Expr C) → Here → Here
 body_start f e h = (target f e).past (behind 1 (behind 1 h))
 
--- what stands behind a loop that starts here
+-- what stands after a loop that starts here
 abbrev pub loop_past : {C L F : Type 0} → Functions C F → (target : Expr C) → Stmts C L → Stmts C L → Here → Here
 loop_past f e body else_body h = (looping f e false (are_any else_body) (layout.stmts f [] body)).past h
 
--- where what a macro runs begins, whose code stands here: behind the jump past it
+-- where what a macro runs begins, whose code stands here: after the jump past it
 abbrev pub macro_entry : Here → Here
 macro_entry h = behind 1 h
 
--- where its body begins: behind what stores its arguments
+-- where its body begins: after what stores its arguments
 abbrev pub macro_body_start : {C F : Type 0} → Functions C F → (args defaults : List (Expr C)) → Here → Here
 macro_body_start f args defaults h = (taking f (parameters args defaults)).past (macro_entry h)
 

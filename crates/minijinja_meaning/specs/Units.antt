@@ -13,7 +13,7 @@ use Rattle.minijinja_meaning.specs.Code.{Instr}
 use Rattle.minijinja_meaning.specs.Correct.{Entry, Does, a_statement}
 
 pub data InnerUnit (C : Type 0) : Type 0 where
-  -- a recursive loop: the place where it starts and the one behind its end, its target, its body, and whether an else body follows
+  -- a recursive loop: the place where it starts and the one after its end, its target, its body, and whether an else body follows
   RecursiveLoop : (start end : ℕ) → Expr C → Stmts C ℕ → (has_else : Bool) → InnerUnit C
   -- what a macro runs: the place where that begins, its arguments, the last one first, and its body
   MacroBody : (start : ℕ) → List (Parameter C) → Stmts C ℕ → InnerUnit C

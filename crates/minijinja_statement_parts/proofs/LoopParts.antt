@@ -15,7 +15,7 @@ use Rattle.minijinja_expression_code.proofs.Adding.{adds_nothing, adds_then, add
 use Rattle.minijinja_expression_code.proofs.Branching.{set_at, ending_at, opened, choice_added}
 use Rattle.minijinja_statement_parts.proofs.Filling.{ends_length}
 
--- a place behind another
+-- a place after another
 behind_sum : (h : Here) (m n k : ℕ) → k ≡ m + n → behind n (behind m h) ≡ behind k h
 behind_sum h m n k e = ap (λ p. record { place = p; filters = h.filters; tests = h.tests }) (let same : h.place + m + n ≡ h.place + k = omega (arith, e) in same)
 
