@@ -111,6 +111,22 @@ module _ {C F : Type 0} (f : Functions C F) where
         adds = λ later s. k.adds later (adds_nested (target f e) (targets f es) more_rows (b.adds (targets f es ▸ more_rows) later s));
       })
 
+  -- each turn leaves less to go through
+  pub less_turns : (rows rest : List (Exprs C)) → rows ≡ no_more ∷ rest → row_turns rest < row_turns rows
+  less_turns rows rest is = let e : row_turns rows ≡ suc (0 + row_turns rest) = ap row_turns is in omega (arith, e)
+
+  pub next_turns : {now next : Made C} (rows rest new : List (Exprs C)) (e : tree.Expr C) (es parts : Exprs C) → rows ≡ more e es ∷ rest → new ≡ parts ∷ es ∷ rest → Begins f e parts now next → row_turns new < row_turns rows
+  next_turns rows rest new e es parts is en b =
+      let before : row_turns rows ≡ suc (turns e + all_turns es + row_turns rest) = ap row_turns is in
+      let later : row_turns new ≡ suc (all_turns parts + suc (all_turns es + row_turns rest)) = ap row_turns en in
+      omega (arith, before, later, b.fewer)
+
+  pub stored_turns : {now next : Made C} (rows rest new : List (Exprs C)) (e : tree.Expr C) (es : Exprs C) → rows ≡ more e es ∷ rest → new ≡ es ∷ rest → Begins f e no_more now next → row_turns new < row_turns rows
+  stored_turns rows rest new e es is en b =
+      let before : row_turns rows ≡ suc (turns e + all_turns es + row_turns rest) = ap row_turns is in
+      let later : row_turns new ≡ suc (all_turns es + row_turns rest) = ap row_turns en in
+      omega (arith, before, later, b.fewer)
+
   -- a name or an attribute is stored at once
   pub stored : {old new : Made C} (e : tree.Expr C) → 1 < turns e → Adds old new (target f e) → Begins f e no_more old new
   stored e turn s = record { are_targets = tt; fewer = turn; adds = λ p later t. adds_then s t }
