@@ -72,16 +72,18 @@ pub fn statement<'s, V: TemplateValue>(
         Stmt::Import(import) => import_all(code, import.node()),
         Stmt::FromImport(import) => from_import(code, import.node()),
         Stmt::Macro(declared) => {
-            macro_value(code, turn, declared.node())?;
-            code.add(Instruction::StoreLocal(declared.node().name))
+            let declared = declared.node();
+            macro_value(code, turn, declared)?;
+            code.add(Instruction::StoreLocal(declared.name))
         }
         Stmt::CallBlock(block) => {
             let block = block.node();
-            let Some(counts) = begin_call(code, block.call.node())? else {
+            let call = block.call.node();
+            let Some(counts) = begin_call(code, call)? else {
                 return code.add(Instruction::Emit);
             };
             macro_value(code, turn, block.macro_decl.node())?;
-            end_call(code, block.call.node(), counts)?;
+            end_call(code, call, counts)?;
             code.add(Instruction::Emit)
         }
         Stmt::Do(called) => do_call(code, called.node()),

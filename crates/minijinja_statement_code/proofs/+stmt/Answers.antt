@@ -3,7 +3,6 @@ use Rattle.minijinja_tree.specs.Erasure.{args_of, expr_tree, optional_of, assign
 use Rattle.minijinja_tree.specs.Tree as tree
 use Rattle.minijinja_tree.specs.WellFormed.{AreInner, IsMacro, IsWhole}
 use Rattle.minijinja_tree.specs.declared.ast.Stmt.{the_lemmas}
-use Rattle.minijinja_tree.specs.Callees.{callee}
 use Rattle.minijinja_tree.specs.declared.ast.AutoEscape.{the_lemmas as escape_lemmas}
 use Rattle.minijinja_expressions.specs.declared.ast.Call.{Call}
 use Rattle.minijinja_tree.specs.declared.ast.CallBlock.{the_lemmas as call_lemmas}
@@ -20,12 +19,12 @@ use Rattle.minijinja_meaning.specs.Layout as layout
 use Rattle.minijinja_meaning.specs.Pieces.{one, ◌▸◌, OpenScope, OpenAutoEscape, OpenCapture}
 use Rattle.minijinja_statement_parts.specs.private.AtTurn.{around_of, open_of}
 use Rattle.minijinja_expression_code.specs.private.Branching.{leading_on}
-use Rattle.minijinja_expression_code.specs.private.Callers.{BeginsCall, behind_caller}
+use Rattle.minijinja_expression_code.specs.private.Callers.{BeginsCall}
 use Rattle.minijinja_statement_parts.specs.private.Loops.{Begins, turned}
 use Rattle.minijinja_expression_code.specs.private.Making.{made_of}
 use Rattle.minijinja_statement_code.specs.private.Statements.{MayStand}
 use Rattle.minijinja_statement_parts.specs.private.Turns.{Around, FollowsStmts}
-use Rattle.minijinja_expression_code.proofs.Adding.{adds_as, adds_then}
+use Rattle.minijinja_expression_code.proofs.Adding.{adds_then}
 use Rattle.minijinja_statement_code.proofs.Bodies.{inner_as, inner_in, inner_here, body_as, body_next, body_end, none_any, some_any, elif_size, inner_stands}
 use Rattle.minijinja_statement_code.proofs.ConditionSteps.{Choosing, none_bytes, choosing_start, choosing_next, choosing_last, choosing_none}
 use Rattle.minijinja_statement_parts.proofs.LoopSteps.{loop_follows, loop_else_follows}
@@ -405,16 +404,15 @@ stmt::statement-returns-in-FromImport g t c =
 pub stmt::statement-macro_value-requires : goal.stmt::statement-macro_value-requires
 stmt::statement-macro_value-requires g t c =
     let v = g.V.TemplateValue.contents in
-    let w = subst (MayStand (around_of c.args.turn.now).in_loop) (macro_arm v c.args.stmt.now c.in-Macro.declared c.node-in-Macro.result.now c.in-Macro.is c.node-in-Macro.ensures) c.requires in
+    let w = subst (MayStand (around_of c.args.turn.now).in_loop) (macro_arm v c.args.stmt.now c.in-Macro.declared c.node-declared.result.now c.in-Macro.is c.node-declared.ensures) c.requires in
     λ κs live. (search (rules, the_lemmas), (search rules, (search rules, w)))
 
 pub stmt::statement-returns-in_ok-macro_value-in-Macro : goal.stmt::statement-returns-in_ok-macro_value-in-Macro
 stmt::statement-returns-in_ok-macro_value-in-Macro g t c =
     let v = g.V.TemplateValue.contents in
     let f = g.V.TemplateValue.functions in
-    ok_gives c.add-in-Macro.result (λ s. stmt_as f (stmt_tree v c.args.stmt.now) (macro_arm v c.args.stmt.now c.in-Macro.declared c.node-in-Macro.result.now c.in-Macro.is c.node-in-Macro.ensures)
-    (declare_follows f (macro_tree v c.node-in-Macro.result.now) c.in_ok-macro_value-in-Macro.ensures.added c.in_ok-macro_value-in-Macro.ensures.counted
-    (adds_as (ap (λ (m : Macro g.row.V.Denot g.row.V-Fault.Denot). one (Do event.StoreLocal m.name.now 1)) (c.node-in-Macro-2.ensures ∙ sym c.node-in-Macro.ensures)) s))) c.add-in-Macro.ensures
+    ok_gives c.add-in-Macro.result (λ s. stmt_as f (stmt_tree v c.args.stmt.now) (macro_arm v c.args.stmt.now c.in-Macro.declared c.node-declared.result.now c.in-Macro.is c.node-declared.ensures)
+    (declare_follows f (macro_tree v c.node-declared.result.now) c.in_ok-macro_value-in-Macro.ensures.added c.in_ok-macro_value-in-Macro.ensures.counted s)) c.add-in-Macro.ensures
 
 pub macros::macro_value-statements-requires : goal.macros::macro_value-statements-requires
 macros::macro_value-statements-requires g t c =
@@ -440,28 +438,28 @@ pub stmt::statement-begin_call-requires : goal.stmt::statement-begin_call-requir
 stmt::statement-begin_call-requires g t c =
     let v = g.V.TemplateValue.contents in
     let w = subst (MayStand (around_of c.args.turn.now).in_loop) (call_block_arm v c.args.stmt.now c.in-CallBlock.block c.node-block.result.now c.in-CallBlock.is c.node-block.ensures) c.requires in
-    subst (λ (k : Call g.row.V.Denot g.row.V-Fault.Denot). IsWhole (tree.call (expr_tree v k.expr) (args_of v k.args.items))) (sym c.node-in-CallBlock.ensures) w.0
+    subst (λ (k : Call g.row.V.Denot g.row.V-Fault.Denot). IsWhole (tree.call (expr_tree v k.expr) (args_of v k.args.items))) (sym c.node-call.ensures) w.0
 
 pub stmt::statement-end_call-requires-clause-whole : goal.stmt::statement-end_call-requires-clause-whole
 stmt::statement-end_call-requires-clause-whole g t c =
     let v = g.V.TemplateValue.contents in
     let w = subst (MayStand (around_of c.args.turn.now).in_loop) (call_block_arm v c.args.stmt.now c.in-CallBlock.block c.node-block.result.now c.in-CallBlock.is c.node-block.ensures) c.requires in
-    subst (λ (k : Call g.row.V.Denot g.row.V-Fault.Denot). IsWhole (tree.call (expr_tree v k.expr) (args_of v k.args.items))) (sym c.node-in-CallBlock-3.ensures) w.0
+    subst (λ (k : Call g.row.V.Denot g.row.V-Fault.Denot). IsWhole (tree.call (expr_tree v k.expr) (args_of v k.args.items))) (sym c.node-call.ensures) w.0
 
 pub stmt::statement-macro_value-requires-in-CallBlock : goal.stmt::statement-macro_value-requires-in-CallBlock
 stmt::statement-macro_value-requires-in-CallBlock g t c =
     let v = g.V.TemplateValue.contents in
     let w = subst (MayStand (around_of c.args.turn.now).in_loop) (call_block_arm v c.args.stmt.now c.in-CallBlock.block c.node-block.result.now c.in-CallBlock.is c.node-block.ensures) c.requires in
-    λ κs live. (search (rules, the_lemmas, call_lemmas), (search rules, (search rules, subst (λ (m : Macro g.row.V.Denot g.row.V-Fault.Denot). IsMacro (macro_tree v m)) (sym c.node-in-CallBlock-2.ensures) w.1)))
+    λ κs live. (search (rules, the_lemmas, call_lemmas), (search rules, (search rules, subst (λ (m : Macro g.row.V.Denot g.row.V-Fault.Denot). IsMacro (macro_tree v m)) (sym c.node-in-CallBlock.ensures) w.1)))
 
 pub stmt::statement-returns-in_default : goal.stmt::statement-returns-in_default
 stmt::statement-returns-in_default g t c =
     let v = g.V.TemplateValue.contents in
     let f = g.V.TemplateValue.functions in
-    let k = c.node-in-CallBlock.result.now in
+    let k = c.node-call.result.now in
     let n = c.node-block.result.now in
     let is = call_block_arm v c.args.stmt.now c.in-CallBlock.block n c.in-CallBlock.is c.node-block.ensures
-    ∙ ap (λ (q : Call g.row.V.Denot g.row.V-Fault.Denot). tree.call_block (expr_tree v q.expr) (args_of v q.args.items) (macro_tree v (macro_in n))) (sym c.node-in-CallBlock.ensures) in
+    ∙ ap (λ (q : Call g.row.V.Denot g.row.V-Fault.Denot). tree.call_block (expr_tree v q.expr) (args_of v q.args.items) (macro_tree v (macro_in n))) (sym c.node-call.ensures) in
     let whole = subst (λ o. BeginsCall f (expr_tree v k.expr) (args_of v k.args.items) o (made_of v c.args.code.now) (made_of v c.begin_call.new.code)) c.in_default.is c.in_ok-counts-in-CallBlock.ensures in
     ok_gives c.add-in_default.result (λ s. stmt_as f (stmt_tree v c.args.stmt.now) is (block_call_follows f (expr_tree v k.expr) (args_of v k.args.items) (around_of c.args.turn.now) (macro_tree v (macro_in n)) whole s)) c.add-in_default.ensures
 
@@ -469,13 +467,11 @@ pub stmt::statement-returns-in_ok-end_call-in-CallBlock : goal.stmt::statement-r
 stmt::statement-returns-in_ok-end_call-in-CallBlock g t c =
     let v = g.V.TemplateValue.contents in
     let f = g.V.TemplateValue.functions in
-    let k = c.node-in-CallBlock.result.now in
+    let k = c.node-call.result.now in
     let n = c.node-block.result.now in
-    let m = c.node-in-CallBlock-2.result.now in
+    let m = c.node-in-CallBlock.result.now in
     let is = call_block_arm v c.args.stmt.now c.in-CallBlock.block n c.in-CallBlock.is c.node-block.ensures
-    ∙ ap (λ (q : Call g.row.V.Denot g.row.V-Fault.Denot). tree.call_block (expr_tree v q.expr) (args_of v q.args.items) (macro_tree v (macro_in n))) (sym c.node-in-CallBlock.ensures)
-    ∙ ap (λ (q : Macro g.row.V.Denot g.row.V-Fault.Denot). tree.call_block (expr_tree v k.expr) (args_of v k.args.items) (macro_tree v q)) (sym c.node-in-CallBlock-2.ensures) in
+    ∙ ap (λ (q : Call g.row.V.Denot g.row.V-Fault.Denot). tree.call_block (expr_tree v q.expr) (args_of v q.args.items) (macro_tree v (macro_in n))) (sym c.node-call.ensures)
+    ∙ ap (λ (q : Macro g.row.V.Denot g.row.V-Fault.Denot). tree.call_block (expr_tree v k.expr) (args_of v k.args.items) (macro_tree v q)) (sym c.node-in-CallBlock.ensures) in
     let begun = subst (λ o. BeginsCall f (expr_tree v k.expr) (args_of v k.args.items) o (made_of v c.args.code.now) (made_of v c.begin_call.new.code)) c.in-Some.is c.in_ok-counts-in-CallBlock.ensures in
-    let same = c.node-in-CallBlock-3.ensures ∙ sym c.node-in-CallBlock.ensures in
-    let ended = adds_as (ap (λ (q : Call g.row.V.Denot g.row.V-Fault.Denot). behind_caller (callee (expr_tree v q.expr)) (args_of v q.args.items)) same) c.in_ok-end_call-in-CallBlock.ensures in
-    ok_gives c.add-in-CallBlock.result (λ s. stmt_as f (stmt_tree v c.args.stmt.now) is (call_block_follows f (expr_tree v k.expr) (args_of v k.args.items) (macro_tree v m) begun.takes begun.added c.in_ok-macro_value-in-CallBlock.ensures.added c.in_ok-macro_value-in-CallBlock.ensures.counted ended s)) c.add-in-CallBlock.ensures
+    ok_gives c.add-in-CallBlock.result (λ s. stmt_as f (stmt_tree v c.args.stmt.now) is (call_block_follows f (expr_tree v k.expr) (args_of v k.args.items) (macro_tree v m) begun.takes begun.added c.in_ok-macro_value-in-CallBlock.ensures.added c.in_ok-macro_value-in-CallBlock.ensures.counted c.in_ok-end_call-in-CallBlock.ensures s)) c.add-in-CallBlock.ensures
