@@ -1,4 +1,4 @@
--- What a public call of a generator answers, by what it added.
+-- What a public call of a generator returns, by what it added.
 use Rattle.std.proofs.Common.{◌≡◌, ◌≤◌, ◌^◌, ◌++◌, List, Option, Some, None, Result, Ok, Err, length, subst, inl, inr}
 use Rattle.std.specs.Prelude.{IfErr, IfNone, OnOk}
 use Rattle.minijinja_syntax.specs.Errors.{kind_of}
@@ -6,18 +6,18 @@ use Rattle.minijinja_syntax.specs.declared.error.Error.{Error}
 use Rattle.minijinja_syntax.specs.declared.error.ErrorKind.TheVariants.{TooManyInstructions}
 use Rattle.minijinja_value.specs.Values.{Functions}
 use Rattle.minijinja_tree.specs.Tree.{Block}
-use Rattle.minijinja_meaning.specs.Code.{Instr}
+use Rattle.minijinja_semantics.specs.Code.{Instr}
 use Rattle.minijinja_code.specs.Generator.{HaveTooLong, OnlyWhereOneIsTooLong, OnlyWhereTooLong}
-use Rattle.minijinja_expression_code.specs.private.Making.{Made, here_of, Adds}
+use Rattle.minijinja_code_expr.specs.internal.Making.{Made, here_of, Adds}
 use Rattle.minijinja_code.proofs.Uncapped.{added_length}
-use Rattle.minijinja_meaning.specs.Pieces.{Piece}
+use Rattle.minijinja_semantics.specs.Pieces.{Piece}
 
--- what holds of the outcome of making holds where the call went well
+-- what holds of the outcome of making holds where the call succeeded
 pub outcome_ok : {X E Y D : Type 0} (A : Type 0) (r : Result X E) (o : Result Y D) (y : Y) → OnOk r (o ≡ Ok y) → OnOk o A → OnOk r A
 outcome_ok A (Ok x) o y e h = subst (λ p. OnOk p A) e h
 outcome_ok A (Err d) o y e h = tt
 
--- two facts of a call that went well
+-- two facts of a call that succeeded
 pub both_ok : {X E A B P : Type 0} (r : Result X E) → OnOk r A → OnOk r B → (A → B → P) → OnOk r P
 both_ok (Ok x) a b k = k a b
 both_ok (Err e) a b k = tt
@@ -38,7 +38,7 @@ too_long (Err e) o y a b p h s = λ k.
 wrong : {Y D : Type 0} (d : D) (y : Y) → Err d ≡ Ok y → ⊥
 wrong d y h = cc
 
--- a call that went well did not begin with a refusal
+-- a call that succeeded did not begin with a refusal
 pub never_ok : {X E Y D : Type 0} (P : Type 0) (r : Result X E) (d : D) (y : Y) → OnOk r (Err d ≡ Ok y) → OnOk r P
 never_ok P (Ok x) d y h = absurd (wrong d y h)
 never_ok P (Err e) d y h = tt
@@ -48,7 +48,7 @@ pub never_long : {X Y D : Type 0} (A P : Type 0) (r : Result X Error) (d : D) (y
 never_long A P (Ok x) d y h = tt
 never_long A P (Err e) d y h = λ k. let both = h k in absurd (wrong d y both.1)
 
--- what holds at any rate holds of a call that went well
+-- what holds at any rate holds of a call that succeeded
 pub always_ok : {X E P : Type 0} (r : Result X E) → P → OnOk r P
 always_ok (Ok x) p = p
 always_ok (Err e) p = tt

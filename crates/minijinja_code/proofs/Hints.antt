@@ -5,7 +5,7 @@ use Rattle.std.proofs.lemmas.Bool.{cases_lt}
 use Rattle.std.proofs.lemmas.Nat.{pow_pos}
 use Rattle.std.proofs.Math.Pow.{pow_mono}
 use Rattle.std.proofs.Math.Nat.{pow-suc}
-use Rattle.minijinja_statement_parts.specs.Hint.{IsHint}
+use Rattle.minijinja_code_parts.specs.Hint.{IsHint}
 
 -- the least power of two at or over x is at most every other one that is
 half_below : (k j x : ℕ) → 2 ^ k / 2 < max 1 x → x ≤ 2 ^ j → 2 ^ k ≤ 2 ^ j

@@ -5,3 +5,8 @@ pub mod ListWalks
 pub mod ListRows
 pub mod ListParts
 pub mod OwnBlocks
+pub mod Bodies
+pub mod ConditionSteps
+pub mod StatementArms
+pub mod Templates
+pub mod MacroSteps

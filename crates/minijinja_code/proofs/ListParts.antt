@@ -16,19 +16,19 @@ use Rattle.minijinja_tree.specs.Tree.{Stmts, Block}
 use Rattle.minijinja_tree.specs.WellFormed.{AreInner}
 use Rattle.minijinja_instructions.specs.Instructions.{code_of}
 use Rattle.minijinja_instructions.specs.InstructionLists.{Instructions}
-use Rattle.minijinja_meaning.specs.Code.{Instr}
-use Rattle.minijinja_meaning.specs.Jumps.{LeadsWell}
-use Rattle.minijinja_meaning.specs.Laws.{Laws}
-use Rattle.minijinja_meaning.specs.Layout.{block_code, stmts}
-use Rattle.minijinja_meaning.specs.Pieces.{leading_to, outside, start}
-use Rattle.minijinja_meaning.specs.Units.{DoesBlock}
-use Rattle.minijinja_meaning.proofs.Leads.{block_leads_well, stmts_lead}
-use Rattle.minijinja_meaning.proofs.Lengths.{exact_to, stmts_exact}
-use Rattle.minijinja_meaning.proofs.Whole.{block_does}
+use Rattle.minijinja_semantics.specs.Code.{Instr}
+use Rattle.minijinja_semantics.specs.Jumps.{LeadsWell}
+use Rattle.minijinja_semantics.specs.Laws.{Laws}
+use Rattle.minijinja_semantics.specs.Layout.{block_code, stmts}
+use Rattle.minijinja_semantics.specs.Pieces.{leading_to, outside, start}
+use Rattle.minijinja_semantics.specs.Units.{DoesBlock}
+use Rattle.minijinja_semantics.proofs.Leads.{block_leads_well, stmts_lead}
+use Rattle.minijinja_semantics.proofs.Lengths.{exact_to, stmts_exact}
+use Rattle.minijinja_semantics.proofs.Whole.{block_does}
 use Rattle.minijinja_code.specs.BlockLists.{IsBlockList, list_of, AddsLists}
-use Rattle.minijinja_statement_parts.specs.private.Turns.{Around, FollowsStmts}
-use Rattle.minijinja_expression_code.specs.private.Making.{Made, here_of, capped, Adds}
-use Rattle.minijinja_statement_parts.proofs.Rounds.{nowhere, adds_outside}
+use Rattle.minijinja_code_parts.specs.internal.EnclosingLoops.{Around, FollowsStmts}
+use Rattle.minijinja_code_expr.specs.internal.Making.{Made, here_of, capped, Adds}
+use Rattle.minijinja_code_parts.proofs.Rounds.{nowhere, adds_outside}
 use Rattle.minijinja_code.proofs.Uncapped.{uncapped}
 
 no_code : {X : Type 0} (xs : List X) → length xs ≡ 0 → xs ≡ []

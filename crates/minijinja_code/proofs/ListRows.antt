@@ -1,4 +1,4 @@
--- Rows of statements that wait.
+-- Rows of statements that are still to do.
 use Rattle.std.proofs.Common.{◌≡◌, List, [], ◌∷◌, ◌++◌, map, sym, ap, ◌∙◌}
 use Rattle.std.specs.Borrow.{Bor}
 use Rattle.std.proofs.lemmas.List.{reverse-append}

@@ -12,10 +12,10 @@ use Rattle.minijinja_value.specs.Values.{Functions}
 use Rattle.minijinja_tree.specs.Tree.{Stmt, template, data_text, output, assignment, for_loop, if_cond, with_block, set_block, auto_escape, filter_block, named_block, extends, include, import_all, from_import, declare, call_block, do_call, break_loop, continue_loop, Stmts, done, also, Macro, macro, Block, blocks, all_blocks, macro_blocks, names_of_blocks}
 use Rattle.minijinja_tree.specs.WellFormed.{IsInner, AreInner, IsMacro, AreDistinct}
 use Rattle.minijinja_instructions.specs.InstructionLists.{Instructions}
-use Rattle.minijinja_meaning.specs.Layout.{block_code}
+use Rattle.minijinja_semantics.specs.Layout.{block_code}
 use Rattle.minijinja_code.specs.BlockLists.{IsBlockList, list_of, HaveLists, AddsLists}
 use Rattle.minijinja_code.specs.private.Lists.{are_any, own_block, macro_body, bodies_of, is_nesting, from_nesting}
-use Rattle.minijinja_statement_code.specs.private.Statements.{MayStand, StandsSomewhere}
+use Rattle.minijinja_code.specs.private.Statements.{MayStand, StandsSomewhere}
 
 module _ {C L : Type 0} where
   -- the blocks in rows of statements
@@ -178,7 +178,8 @@ module _ {C L : Type 0} where
   no_block (named_block x required body) h = absurd (cc)
   no_block _ h = refl
 
-  -- what holds of the statements from one on, if it is one in which others are nested, and of those after it if it is none
+  -- what holds of the statements from one on, if it is one in which others are nested, and of those
+  -- after it if it is none
   either : (P : Stmts C L → Type 0) (s : Stmt C L) (rest : Stmts C L) (b : Bool) → is_nesting s ≡ b → P (also s rest) → (is_nesting s ≡ false → P (from_nesting rest)) → P (if b then also s rest else from_nesting rest)
   either P s rest true is here later = here
   either P s rest false is here later = later is

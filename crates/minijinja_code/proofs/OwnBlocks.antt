@@ -2,7 +2,7 @@
 use Rattle.std.proofs.Common.{◌≡◌, ◌≤◌, ◌^◌, List, [], ◌∷◌, length, refl, sym, ap, ◌∙◌, subst, arith, Result, Ok, Err, zero}
 use Rattle.std.specs.Prelude.{false, IfErr, IsErrAnd}
 use Rattle.minijinja_value.specs.Values.{Functions}
-use Rattle.minijinja_expressions.specs.declared.ast.Spanned.{Spanned}
+use Rattle.minijinja_tree_expr.specs.declared.ast.Spanned.{Spanned}
 use Rattle.minijinja_tree.specs.Erasure.{stmt_tree}
 use Rattle.minijinja_tree.specs.Nodes.{node_of}
 use Rattle.minijinja_tree.specs.Tree.{Block, named_block}
@@ -13,11 +13,11 @@ use Rattle.minijinja_tree.specs.declared.ast.Stmt.TheBlock as stmt_block
 use Rattle.minijinja_tree.specs.declared.ast.Stmt.TheOpen as layer
 use Rattle.minijinja_tree.specs.declared.ast.Stmt.TheVariants as stmt
 use Rattle.minijinja_tree.specs.declared.ast.Stmt.TheVariants.{Block', CallBlock'}
-use Rattle.minijinja_meaning.specs.Layout.{block_code}
+use Rattle.minijinja_semantics.specs.Layout.{block_code}
 use Rattle.minijinja_code.specs.Generator.{HaveTooLong}
 use Rattle.minijinja_code.specs.private.Lists.{block_tree, own_block}
-use Rattle.minijinja_statement_code.specs.private.Statements.{MayStand, StandsSomewhere}
-use Rattle.minijinja_statement_code.proofs.StatementArms.{block_arm}
+use Rattle.minijinja_code.specs.private.Statements.{MayStand, StandsSomewhere}
+use Rattle.minijinja_code.proofs.StatementArms.{block_arm}
 
 -- the node of a block
 abbrev Blocked : {V F : Type 0} → Stmt V F → Type 0

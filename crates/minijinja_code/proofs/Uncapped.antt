@@ -4,22 +4,22 @@ use Rattle.std.proofs.lemmas.List.{length-map}
 use Rattle.minijinja_value.specs.Values.{Functions}
 use Rattle.minijinja_tree.specs.Tree.{Expr, Stmt}
 use Rattle.minijinja_tree.specs.WellFormed.{IsWellFormed}
-use Rattle.minijinja_meaning.specs.Code.{Instr, BuildMacro, Jump, JumpIfFalse, JumpIfFalseOrPop, JumpIfTrueOrPop, Iterate}
-use Rattle.minijinja_meaning.specs.Jumps.{target}
-use Rattle.minijinja_meaning.specs.Layout as layout
-use Rattle.minijinja_meaning.specs.Pieces.{Piece, outside}
-use Rattle.minijinja_expression_code.specs.private.Making.{Made, here_of, capped, last_target, reach, Adds}
-use Rattle.minijinja_statement_code.specs.private.Statements.{stmt_piece}
-use Rattle.minijinja_meaning.proofs.Leads.{AllLead, Leads, entry_of, expr_leads, root_leads, target_leads}
-use Rattle.minijinja_meaning.proofs.Lengths.{Exact, exact_to, expr_exact, stmt_exact, target_exact}
-use Rattle.minijinja_meaning.proofs.Runs.{stands_behind}
+use Rattle.minijinja_semantics.specs.Code.{Instr, BuildMacro, Jump, JumpIfFalse, JumpIfFalseOrPop, JumpIfTrueOrPop, Iterate}
+use Rattle.minijinja_semantics.specs.Jumps.{jump_target}
+use Rattle.minijinja_semantics.specs.Layout as layout
+use Rattle.minijinja_semantics.specs.Pieces.{Piece, outside}
+use Rattle.minijinja_code_expr.specs.internal.Making.{Made, here_of, capped, last_target, reach, Adds}
+use Rattle.minijinja_code.specs.private.Statements.{stmt_piece}
+use Rattle.minijinja_semantics.proofs.Leads.{AllLead, Leads, entry_of, expr_leads, root_leads, target_leads}
+use Rattle.minijinja_semantics.proofs.Lengths.{Exact, exact_to, expr_exact, stmt_exact, target_exact}
+use Rattle.minijinja_semantics.proofs.Runs.{stands_behind}
 
 reach_within : (n : ℕ) → n ≤ last_target → reach n ≡ n
 reach_within n le = omega arith
 
 module _ {C : Type 0} where
   -- what names no place further on than the last one stands as it is
-  capped_within : (i : Instr C) → ((l : ℕ) → target i ≡ Some l → l ≤ last_target) → ((l : ℕ) → entry_of i ≡ Some l → l ≤ last_target) → capped i ≡ i
+  capped_within : (i : Instr C) → ((l : ℕ) → jump_target i ≡ Some l → l ≤ last_target) → ((l : ℕ) → entry_of i ≡ Some l → l ≤ last_target) → capped i ≡ i
   capped_within (Jump n) h k = ap Jump (reach_within n (h n refl))
   capped_within (JumpIfFalse n) h k = ap JumpIfFalse (reach_within n (h n refl))
   capped_within (JumpIfFalseOrPop n) h k = ap JumpIfFalseOrPop (reach_within n (h n refl))

@@ -1,15 +1,15 @@
--- What a generator's refusal says.
+-- What the refusals of a generator say.
 use Rattle.std.specs.Prelude.{◌≡◌, ◌⊎◌, ◌≤◌, ◌^◌, List, None, length}
 use Rattle.std.specs.List.{Any}
-use Rattle.minijinja_syntax.specs.Errors.{kind_of, name_of, span_of}
+use Rattle.minijinja_syntax.specs.Errors.{IsOutOfMemory, kind_of, name_of, span_of}
 use Rattle.minijinja_syntax.specs.declared.error.Error.{Error}
-use Rattle.minijinja_syntax.specs.declared.error.ErrorKind.TheVariants.{TooManyInstructions}
+use Rattle.minijinja_syntax.specs.declared.error.ErrorKind.TheVariants.{OutOfMemory, TooManyInstructions}
 use Rattle.minijinja_value.specs.Values.{Functions}
 use Rattle.minijinja_tree.specs.Tree.{Block}
-use Rattle.minijinja_meaning.specs.Code.{Instr}
-use Rattle.minijinja_meaning.specs.Layout.{block_code}
+use Rattle.minijinja_semantics.specs.Code.{Instr}
+use Rattle.minijinja_semantics.specs.Layout.{block_code}
 
--- a refusal for want of room comes only where the list would have 2 ^ 32 instructions or more
+-- a list is refused as too long only where it would have 2 ^ 32 instructions or more
 abbrev pub OnlyWhereTooLong : {C : Type 0} → Error → List (Instr C) → Type 0
 OnlyWhereTooLong e code = kind_of e ≡ TooManyInstructions → 2 ^ 32 ≤ length code
 
@@ -17,11 +17,14 @@ OnlyWhereTooLong e code = kind_of e ≡ TooManyInstructions → 2 ^ 32 ≤ lengt
 abbrev pub HaveTooLong : {C L F : Type 0} → Functions C F → List (Block C L) → Type 0
 HaveTooLong f bs = Any (λ b. 2 ^ 32 ≤ length (block_code f b.body)) bs
 
--- likewise where this list would, or that of one of these blocks
+-- code is refused as too long only where this list, or that of one of these blocks, would have 2 ^
+-- 32 instructions or more
 abbrev pub OnlyWhereOneIsTooLong : {C L F : Type 0} → Functions C F → Error → List (Instr C) → List (Block C L) → Type 0
 OnlyWhereOneIsTooLong f e code bs = kind_of e ≡ TooManyInstructions → (2 ^ 32 ≤ length code) ⊎ HaveTooLong f bs
 
--- a generator's refusal has no place in the text, since no token is at fault, and names no source
-pub record IsUnplaced (e : Error) : Type 0 where
+-- a generator's refusal has no place in the text, since no token is at fault, and no name of a
+-- source; one for memory says no more than that
+pub record HasNoPlaceOrName (e : Error) : Type 0 where
   pub no_span : span_of e ≡ None
   pub no_name : name_of e ≡ None
+  pub memory : kind_of e ≡ OutOfMemory → IsOutOfMemory e

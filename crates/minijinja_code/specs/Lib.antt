@@ -1,4 +1,5 @@
-pub use Rattle.minijinja_statement_parts.specs.Hint
+pub use Rattle.minijinja_code_parts.specs.Hint
 pub mod BlockLists
 pub mod Generator
+pub mod internal
 pub mod private

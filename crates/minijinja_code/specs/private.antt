@@ -1,3 +1,3 @@
--- What specifies private functions alone, and need not be believed; and what public types show of their private fields.
-pub mod AtGenerator
+-- What the crate says of its own private functions.
 pub mod Lists
+pub mod Statements

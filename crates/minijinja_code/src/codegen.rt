@@ -1,44 +1,45 @@
-//! The generator: it makes instructions of trees.
-ghost use Rattle.std.specs.Prelude.{◌≡◌, ◌+◌, ◌<◌, ◌≤◌, ◌^◌, ◌++◌, [], length, min, is_none, IfOk, IfErr, OnOk, IfNone, IfSome, Ok, Err, Some, None};
+//! `CodeGenerator`, which compiles trees to instructions.
+ghost use Rattle.std.specs.Prelude.{◌≡◌, ◌+◌, ◌<◌, ◌≤◌, ◌^◌, ◌++◌, [], false, length, min, is_none, IfOk, IfErr, OnOk, IfNone, IfSome, Ok, Err, Some, None};
 ghost use Rattle.std.specs.BTreeMap.{IsEmpty};
 ghost use Rattle.minijinja_tree.specs.Erasure.{expr_tree, stmt_tree};
 ghost use Rattle.minijinja_tree.specs.Tree.{blocks};
 ghost use Rattle.minijinja_tree.specs.WellFormed.{IsTarget, IsWhole, IsWellFormed};
 ghost use Rattle.minijinja_instructions.specs.Instructions.{code_of};
-ghost use Rattle.minijinja_meaning.specs.Correct.{DoesExpr, DoesStmt};
+ghost use Rattle.minijinja_semantics.specs.Correct.{DoesExpr, DoesStmt};
 ghost use Rattle.minijinja_syntax.specs.Errors.{kind_of};
 ghost use Rattle.minijinja_syntax.specs.declared.error.ErrorKind.TheVariants.{TooManyInstructions};
-ghost use Rattle.minijinja_code.specs.Generator.{HaveTooLong, IsUnplaced, OnlyWhereOneIsTooLong, OnlyWhereTooLong};
+ghost use Rattle.minijinja_code.specs.Generator.{HasNoPlaceOrName, HaveTooLong, OnlyWhereOneIsTooLong, OnlyWhereTooLong};
 ghost use Rattle.minijinja_code.specs.BlockLists.{AddsLists};
-ghost use Rattle.minijinja_statement_parts.specs.Hint.{IsHint, data_bytes};
-ghost use Rattle.minijinja_instructions.specs.InstructionLists.{IsAddError, name_of, source_of};
-ghost use Rattle.minijinja_meaning.specs.Places.{placed_stmt};
-ghost use Rattle.minijinja_meaning.specs.Units.{DoUnits};
-ghost use Rattle.minijinja_meaning.specs.Layout.{expr_code, past_expr, target_code, past_target, stmt_code, past_stmt};
-ghost use Rattle.minijinja_statement_code.specs.private.Statements.{stmt_piece};
-ghost use Rattle.minijinja_code.specs.private.AtGenerator.{generated, here_so_far, counted_bytes, blocks_of, file_of, text_of, refusal_of};
-ghost use Rattle.minijinja_expression_code.specs.private.Making.{made_of, Adds};
-ghost use Rattle.minijinja_meaning.specs.Pieces.{start};
+ghost use Rattle.minijinja_code_parts.specs.Hint.{IsHint, data_bytes};
+ghost use Rattle.minijinja_instructions.specs.InstructionLists.{IsAddError, is_required, name_of, source_of};
+ghost use Rattle.minijinja_semantics.specs.Places.{placed_stmt};
+ghost use Rattle.minijinja_semantics.specs.Units.{DoUnits};
+ghost use Rattle.minijinja_semantics.specs.Layout.{expr_code, past_expr, target_code, past_target, stmt_code, past_stmt};
+ghost use Rattle.minijinja_code.specs.private.Statements.{stmt_piece};
+ghost use Rattle.minijinja_code.specs.internal.AtGenerator.{generated, here_so_far, counted_bytes, blocks_of, file_of, text_of, refusal_of};
+ghost use Rattle.minijinja_code_expr.specs.internal.Making.{made_of, Adds};
+ghost use Rattle.minijinja_semantics.specs.Pieces.{start};
 
 mod lists;
 
-use crate::codegen::lists::{Lists, Refusal, Source, add_lists};
-use minijinja_base::error::Error;
-use minijinja_base::tokens::Span;
-use minijinja_base::value::{TemplateValue, Value};
-use minijinja_expression_code::emit::Emitter;
-use minijinja_expression_code::expr::expression;
-use minijinja_expression_code::memory::OutOfMemory;
+use crate::codegen::lists::{ListError, Lists, Source, add_lists};
+use crate::stmt::statement;
+use minijinja_code_expr::emit::Emitter;
+use minijinja_code_expr::expr::expression;
+use minijinja_code_expr::memory::OutOfMemory;
+use minijinja_code_parts::enclosing_loop::EnclosingLoop;
+use minijinja_code_parts::targets::assign;
 use minijinja_instructions::instructions::Instructions;
 use minijinja_instructions::lists::{LIMIT, listed, too_many};
-use minijinja_statement_code::stmt::statement;
-use minijinja_statement_parts::targets::assign;
-use minijinja_statement_parts::turn::Turn;
+use minijinja_syntax::error::Error;
+use minijinja_syntax::tokens::Span;
 use minijinja_tree::ast::{Expr, Stmt};
+use minijinja_value::value::{TemplateValue, Value};
 use std::alloc::{AllocError, Global};
 use std::collections::BTreeMap;
 
-/// Makes the instructions of trees. After a refusal it answers that refusal from then on.
+/// Compiles trees, one after another, to one list of instructions, and each block in them to a list
+/// of its own. Once a call has failed, every later call returns that error.
 #[derive(Drop)]
 pub struct CodeGenerator<'s, V: TemplateValue = Value> {
     source: Source<'s>,
@@ -49,7 +50,8 @@ pub struct CodeGenerator<'s, V: TemplateValue = Value> {
 }
 
 impl<'s, V: TemplateValue> CodeGenerator<'s, V> {
-    /// A generator with an empty list, for a source with this name and text. It takes no memory yet.
+    /// A generator with an empty list, for a source with this name and text. It allocates nothing
+    /// yet.
     pub fn new(alloc: Global, file: &'s str, source: &'s str) -> Self
         ensures empty { generated V.contents result ≡ [] }
         ensures here { here_so_far V.contents result ≡ start }
@@ -71,8 +73,9 @@ impl<'s, V: TemplateValue> CodeGenerator<'s, V> {
         }
     }
 
-    /// Adds the instructions of a statement. Refused are memory, and a list that would have 2^32 instructions or more; that refusal
-    /// comes again from then on.
+    /// Adds the instructions of a statement, and the list of each block in it. It fails if memory
+    /// is refused, or if a list would have 2^32 instructions or more; every later call then returns
+    /// the same error.
     pub fn compile_stmt(&mut self, stmt: &Stmt<'s, V>) -> Result<(), Error<'s>>
         requires { IsWellFormed (stmt_tree V.contents stmt.now) }
         ensures added { OnOk result (generated V.contents self.new ≡ generated V.contents self.old
@@ -80,12 +83,14 @@ impl<'s, V: TemplateValue> CodeGenerator<'s, V> {
             (here_so_far V.contents self.old)) }
         ensures past { OnOk result (here_so_far V.contents self.new ≡ past_stmt V.functions
             (stmt_tree V.contents stmt.now) (here_so_far V.contents self.old)) }
-        // Entered where they begin, they do what the statement means.
+        // Run from their start, the instructions do what the statement means, on answers that
+        // number, with the values in them, under 2^64.
         ensures does { OnOk result (DoesStmt V.functions (generated V.contents self.new)
             (length (generated V.contents self.old)) (length (generated V.contents self.new))
             (placed_stmt V.functions (stmt_tree V.contents stmt.now)
             (here_so_far V.contents self.old))) }
-        // So do those of each unit in it that can be entered by itself.
+        // So do the instructions of each unit that is run by itself: a recursive loop, or the body
+        // of a macro.
         ensures units { OnOk result (DoUnits V.functions (generated V.contents self.new)
             (stmt_tree V.contents stmt.now) (here_so_far V.contents self.old)) }
         ensures counted { OnOk result (counted_bytes self.new
@@ -93,9 +98,10 @@ impl<'s, V: TemplateValue> CodeGenerator<'s, V> {
 
         ensures few { OnOk result (length (generated V.contents self.new) < 2 ^ 32) }
 
-        // Refused are memory, and a list that would have 2 ^ 32 instructions; a refusal comes again from then on.
+        // It fails if memory is refused or a list is too long; every later call then returns that
+        // error.
         ensures causes { IfNone (refusal_of self.old) (IfErr result IsAddError) }
-        ensures unplaced { IfNone (refusal_of self.old) (IfErr result IsUnplaced) }
+        ensures unplaced { IfNone (refusal_of self.old) (IfErr result HasNoPlaceOrName) }
         ensures too_many { IfNone (refusal_of self.old) (IfErr result
             (λ e. OnlyWhereOneIsTooLong V.functions e (generated V.contents self.old
             ++ stmt_code V.functions (stmt_tree V.contents stmt.now)
@@ -104,7 +110,8 @@ impl<'s, V: TemplateValue> CodeGenerator<'s, V> {
         ensures again { IfSome (refusal_of self.old) (λ e. result ≡ Err e) }
         ensures ready { OnOk result (refusal_of self.new ≡ None) }
 
-        // Each block in it has its list, by its name. What has another name is left as it was.
+        // Each block in the statement has a list, under its name. Lists under other names stay as
+        // they were.
         ensures blocks { OnOk result (AddsLists V.functions V.contents (text_of self.old)
             (file_of self.old) (blocks (stmt_tree V.contents stmt.now)) (blocks_of self.old)
             (blocks_of self.new)) }
@@ -124,7 +131,8 @@ impl<'s, V: TemplateValue> CodeGenerator<'s, V> {
         }
     }
 
-    /// Adds the instructions of an expression, which leave its value on top. The refusals are those of `compile_stmt`.
+    /// Adds the instructions of an expression, which leave its value on top of the operands. It
+    /// fails as `compile_stmt` does.
     pub fn compile_expr(&mut self, expr: &Expr<'s, V>) -> Result<(), Error<'s>>
         requires { IsWhole (expr_tree V.contents expr.now) }
         ensures added { OnOk result (generated V.contents self.new ≡ generated V.contents self.old
@@ -133,12 +141,13 @@ impl<'s, V: TemplateValue> CodeGenerator<'s, V> {
         ensures few { OnOk result (length (generated V.contents self.new) < 2 ^ 32) }
         ensures past { OnOk result (here_so_far V.contents self.new ≡ past_expr V.functions
             (expr_tree V.contents expr.now) (here_so_far V.contents self.old)) }
-        // Entered where they begin, they leave the value that the expression means.
+        // Run from their start, the instructions leave the value that the expression means, on
+        // answers that number, with the values in them, under 2^64.
         ensures does { OnOk result (DoesExpr V.functions (generated V.contents self.new)
             (length (generated V.contents self.old)) (length (generated V.contents self.new))
             (expr_tree V.contents expr.now)) }
         ensures causes { IfNone (refusal_of self.old) (IfErr result IsAddError) }
-        ensures unplaced { IfNone (refusal_of self.old) (IfErr result IsUnplaced) }
+        ensures unplaced { IfNone (refusal_of self.old) (IfErr result HasNoPlaceOrName) }
         ensures too_many { IfNone (refusal_of self.old) (IfErr result
             (λ e. OnlyWhereTooLong e (generated V.contents self.old ++ expr_code V.functions
             (expr_tree V.contents expr.now) (here_so_far V.contents self.old)))) }
@@ -157,7 +166,8 @@ impl<'s, V: TemplateValue> CodeGenerator<'s, V> {
         self.ended(outcome)
     }
 
-    /// Adds the instructions that assign the value on top to a target. The refusals are those of `compile_stmt`.
+    /// Adds the instructions that assign the value on top of the operands to a target. It fails as
+    /// `compile_stmt` does.
     pub fn compile_assignment(&mut self, target: &Expr<'s, V>) -> Result<(), Error<'s>>
         requires { IsTarget (expr_tree V.contents target.now) }
         ensures added { OnOk result (generated V.contents self.new ≡ generated V.contents self.old
@@ -167,7 +177,7 @@ impl<'s, V: TemplateValue> CodeGenerator<'s, V> {
         ensures past { OnOk result (here_so_far V.contents self.new ≡ past_target V.functions
             (expr_tree V.contents target.now) (here_so_far V.contents self.old)) }
         ensures causes { IfNone (refusal_of self.old) (IfErr result IsAddError) }
-        ensures unplaced { IfNone (refusal_of self.old) (IfErr result IsUnplaced) }
+        ensures unplaced { IfNone (refusal_of self.old) (IfErr result HasNoPlaceOrName) }
         ensures too_many { IfNone (refusal_of self.old) (IfErr result
             (λ e. OnlyWhereTooLong e (generated V.contents self.old ++ target_code V.functions
             (expr_tree V.contents target.now) (here_so_far V.contents self.old)))) }
@@ -186,25 +196,28 @@ impl<'s, V: TemplateValue> CodeGenerator<'s, V> {
         self.ended(outcome)
     }
 
-    /// How large a buffer the output may want, in bytes: the least power of two at or over twice the bytes of the data nodes so
-    /// far, and at most 2^63.
+    /// A size for the output buffer, in bytes: the least power of two that is at least twice the
+    /// bytes of text outside of tags so far, and at most 2^63.
     pub fn buffer_size_hint(&self) -> usize
         ensures { IsHint (counted_bytes self.now) result }
     {
         (self.raw_template_bytes.min(LARGEST_HINT / 2) * 2).next_power_of_two()
     }
 
-    /// Whether all that was asked for is made: nothing was refused, and nothing is open.
+    /// Whether everything was compiled: no call has failed.
     pub fn is_closed(&self) -> bool
         ensures { result ≡ is_none (refusal_of self.now) }
     {
         self.refusal.is_none()
     }
 
-    /// The list, and the blocks' lists by their names. Nothing is had of a generator that has refused.
+    /// The list of instructions, and the list of each block under its name. A generator of which a
+    /// call has failed has none.
     pub fn finish(self) -> (Instructions<'s, V>, BTreeMap<&'s str, Instructions<'s, V>>)
         requires { refusal_of self ≡ None }
         ensures code { code_of V.contents result.0 ≡ generated V.contents self.entry }
+        // It is no list of a block, so it is none that has to be overridden.
+        ensures required { is_required result.0 ≡ false }
         ensures blocks { result.1 ≡ blocks_of self.entry }
         ensures name { name_of result.0 ≡ file_of self.entry }
         ensures source { source_of result.0 ≡ text_of self.entry }
@@ -219,7 +232,7 @@ impl<'s, V: TemplateValue> CodeGenerator<'s, V> {
         (code, lists)
     }
 
-    /// Adds the list of each block of a statement; a refusal is kept.
+    /// Adds the list of each block of a statement; if that fails, keeps the error.
     fn add_lists(&mut self, stmt: &Stmt<'s, V>) -> Result<(), Error<'s>>
         requires ready { refusal_of self.old ≡ None }
         requires tree { IsWellFormed (stmt_tree V.contents stmt.now) }
@@ -229,7 +242,7 @@ impl<'s, V: TemplateValue> CodeGenerator<'s, V> {
         ensures too_many { IfErr result (λ e. kind_of e ≡ TooManyInstructions →
             HaveTooLong V.functions (blocks (stmt_tree V.contents stmt.now))) }
         ensures causes { IfErr result IsAddError }
-        ensures unplaced { IfErr result IsUnplaced }
+        ensures unplaced { IfErr result HasNoPlaceOrName }
         ensures ready { OnOk result (refusal_of self.new ≡ None) }
         ensures kept { IfErr result (λ e. refusal_of self.new ≡ Some e) }
 
@@ -242,14 +255,14 @@ impl<'s, V: TemplateValue> CodeGenerator<'s, V> {
         let alloc = self.code.alloc();
         let error = match add_lists(&mut self.lists, alloc, self.source, stmt) {
             Ok(()) => return Ok(()),
-            Err(Refusal::TooMany) => too_many(),
-            Err(Refusal::OutOfMemory) => Error::from(AllocError),
+            Err(ListError::TooMany) => too_many(),
+            Err(ListError::OutOfMemory) => Error::from(AllocError),
         };
         self.keep(error);
         Err(error)
     }
 
-    /// Keeps a refusal, which comes again from then on.
+    /// Keeps an error, which every later call returns.
     fn keep(&mut self, refusal: Error<'s>)
         ensures kept { refusal_of self.new ≡ Some refusal.entry }
         ensures code { generated V.contents self.new ≡ generated V.contents self.old }
@@ -262,7 +275,8 @@ impl<'s, V: TemplateValue> CodeGenerator<'s, V> {
         self.refusal = Some(refusal);
     }
 
-    /// Ends a call that added instructions: a refusal is kept, and so is that of a list that has become too long.
+    /// Ends a call that added instructions: it fails if memory was refused or if the list has
+    /// become too long, and keeps the error.
     fn ended(&mut self, outcome: Result<(), OutOfMemory>) -> Result<(), Error<'s>>
         requires { refusal_of self.old ≡ None }
         ensures outcome { OnOk result (outcome ≡ Ok tt) }
@@ -270,7 +284,7 @@ impl<'s, V: TemplateValue> CodeGenerator<'s, V> {
         ensures too_many { IfErr result (λ e. kind_of e ≡ TooManyInstructions →
             (2 ^ 32 ≤ length (generated V.contents self.old)) × (outcome ≡ Ok tt)) }
         ensures causes { IfErr result IsAddError }
-        ensures unplaced { IfErr result IsUnplaced }
+        ensures unplaced { IfErr result HasNoPlaceOrName }
         ensures ready { OnOk result (refusal_of self.new ≡ None) }
         ensures kept { IfErr result (λ e. refusal_of self.new ≡ Some e) }
 
@@ -293,7 +307,7 @@ impl<'s, V: TemplateValue> CodeGenerator<'s, V> {
 
 const LARGEST_HINT: usize = 1 << 63;
 
-/// Adds the instructions of a statement, and answers the bytes of its data nodes.
+/// Adds the instructions of a statement, and returns the bytes of its data nodes.
 fn compile_stmt<'s, V: TemplateValue>(
     code: &mut Emitter<'s, V>,
     stmt: &Stmt<'s, V>,
@@ -305,21 +319,21 @@ fn compile_stmt<'s, V: TemplateValue>(
         (λ n. n ≡ min usize.MAX (data_bytes (stmt_tree V.contents stmt.now))) }
 {
     make_room(code, stmt)?;
-    let mut turn = Turn::outside(code.alloc());
-    statement(code, &mut turn, stmt)?;
-    Ok(turn.data_bytes())
+    let mut enclosing = EnclosingLoop::outside(code.alloc());
+    statement(code, &mut enclosing, stmt)?;
+    Ok(enclosing.data_bytes())
 }
 
-/// The most room that the bytes of a template ask for, in instructions.
+/// The most instructions to reserve memory for because of the bytes of a template.
 const MOST_ROOM: usize = 600;
 
-/// How much room the code of a template may want, which has so many statements and bytes: most statements make two instructions or
-/// more, and a text that is dense with tags, one for four bytes or so.
+/// How many instructions to reserve memory for: most statements make at least two, and a text that
+/// is dense with tags makes one for about four bytes.
 fn room_for(statements: usize, bytes: usize) -> usize {
     statements.saturating_mul(2).max((bytes / 4).min(MOST_ROOM))
 }
 
-/// The bytes of a template outside of its blocks, whose code has lists of its own.
+/// The bytes of a template outside of its blocks, which have lists of their own.
 fn own_bytes<V: TemplateValue>(children: &[Stmt<'_, V>], whole: Span) -> usize {
     let mut bytes = bytes_of(whole);
     for child in children {
@@ -335,7 +349,7 @@ fn bytes_of(span: Span) -> usize {
     span.end_offset.saturating_sub(span.start_offset) as usize
 }
 
-/// Makes room for the code of a template.
+/// Reserves memory for the code of a template.
 fn make_room<'s, V: TemplateValue>(
     code: &mut Emitter<'s, V>,
     stmt: &Stmt<'s, V>,

@@ -1,4 +1,4 @@
--- What the layers say, put together.
+-- The contracts of the layers, put together.
 use Rattle.std.proofs.Common.{◌≡◌, ◌≢◌, ℕ, ◌+◌, ◌*◌, ◌^◌, ◌<◌, ◌≤◌, min, List, [], ◌++◌, length, sym, ap, ◌∙◌, subst, arith, ◌⊎◌, inl, inr, ⊎_elim, Option, Some, None, IfNone, Result, Ok, Err, IfErr, IsErrAnd}
 use Rattle.std.proofs.lemmas.Bool.{cases_lt}
 use Rattle.minijinja_syntax.specs.Errors.{kind_of}
@@ -6,11 +6,11 @@ use Rattle.minijinja_syntax.specs.declared.error.Error.{Error}
 use Rattle.minijinja_syntax.specs.declared.error.ErrorKind.TheVariants.{OutOfMemory, TooManyInstructions}
 use Rattle.minijinja_parser.specs.Causes as parser
 use Rattle.minijinja_parser.specs.Causes.{IsRefusal}
-use Rattle.minijinja_compiler.specs.Headline.{IsLimit}
-use Rattle.minijinja_code.specs.Generator.{OnlyWhereTooLong}
-use Rattle.minijinja_meaning.specs.Code.{Instr}
+use Rattle.minijinja_compiler.specs.Headline.{IsCompileLimit, IsCompileUnplaced}
+use Rattle.minijinja_code.specs.Generator.{HasNoPlaceOrName, OnlyWhereTooLong}
+use Rattle.minijinja_semantics.specs.Code.{Instr}
 use Rattle.minijinja_instructions.specs.InstructionLists.{IsAddError}
-use Rattle.minijinja_meaning.specs.Pieces.{Here, start}
+use Rattle.minijinja_semantics.specs.Pieces.{Here, start}
 use Rattle.minijinja_code.specs.Hint.{IsHint}
 
 -- what is added to an empty list is the list
@@ -41,7 +41,8 @@ hint_of_all bytes counted start hint none is h =
       least = λ k le. h.least k (omega arith);
     }
 
--- what holds of each refusal of an instruction holds of what a generator that had refused nothing answers
+-- what holds of each refusal of an instruction holds of what a generator that had refused nothing
+-- answers
 refused_at_instruction : {A : Type 0} (Holds : Error → Type 0) → ((x : Error) → IsAddError x → Holds x) → (kept : Option Error) (e : Error) (r : Result A Error) → kept ≡ None → IfNone kept (IsAddError e) → IsErrAnd r (λ x. x ≡ e) → IfErr r Holds
 refused_at_instruction Holds all None e (Err x) none h same = all x (subst (λ y. IsAddError y) (sym same) h)
 refused_at_instruction Holds all None e (Ok a) none h same = absurd same
@@ -67,8 +68,28 @@ limit_is_known e (inr many) room few = few many
 pub never_another : {A : Type 0} (P : Error → Type 0) (kept : Option Error) (e : Error) (r : Result A Error) → kept ≡ None → IfNone kept (IsAddError e) → IsErrAnd r (λ x. x ≡ e) → IfErr r (λ x. kind_of x ≢ OutOfMemory → kind_of x ≢ TooManyInstructions → P x)
 never_another P = refused_at_instruction (λ (x : Error). kind_of x ≢ OutOfMemory → kind_of x ≢ TooManyInstructions → P x) (λ x h room few. absurd (limit_is_known x h room few))
 
+-- where a generator that had refused nothing refuses, the refusal for memory or for length is
+-- without a place
+pub generator_unplaced : {A : Type 0} (kept : Option Error) (e : Error) (r : Result A Error) → kept ≡ None → IfNone kept (HasNoPlaceOrName e) → IsErrAnd r (λ x. x ≡ e) → IfErr r IsCompileUnplaced
+generator_unplaced None e (Err x) none h same =
+    let u = subst (λ y. HasNoPlaceOrName y) (sym same) h in
+    record { memory = u.memory; source = λ k. u.no_span; code = λ k. u.no_span }
+generator_unplaced None e (Ok a) none h same = absurd same
+generator_unplaced (Some k) e r none h same = cc
+
+-- the parser never refuses code as too long
+parser_never_many : (e : Error) → parser.IsCause e → kind_of e ≡ TooManyInstructions → ⊥
+parser_never_many e (inl (inl syntax)) many = cc
+parser_never_many e (inl (inr escape)) many = cc
+parser_never_many e (inr (inl memory)) many = cc
+parser_never_many e (inr (inr long)) many = cc
+
+-- where the parser refuses, the refusal for memory or for length is without a place
+pub parser_unplaced : (e : Error) → parser.IsCause e → parser.IsUnplaced e → IsCompileUnplaced e
+parser_unplaced e cause u = record { memory = u.memory; source = u.length; code = λ k. absurd (parser_never_many e cause k) }
+
 -- the limits of the parser are limits
-pub limit_of_parser : (e : Error) → parser.IsLimit e → IsLimit e
+pub limit_of_parser : (e : Error) → parser.IsLimit e → IsCompileLimit e
 limit_of_parser e (inl memory) = inl memory
 limit_of_parser e (inr long) = inr (inl long)
 

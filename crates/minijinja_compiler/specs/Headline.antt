@@ -1,11 +1,11 @@
--- The main theorem: what is compiled is the one tree of the text, and its code does what the tree means.
-use Rattle.std.specs.Prelude.{◌≡◌, ◌≢◌, ◌<◌, ◌≤◌, ◌^◌, ◌⊎◌, ⊤, List, length, All, Any, codes, MatchResult, Result}
+-- The main theorem: the code of a text is that of its one tree, and does what the tree means.
+use Rattle.std.specs.Prelude.{◌≡◌, ◌≢◌, ◌<◌, ◌≤◌, ◌^◌, ◌⊎◌, ⊤, false, List, length, None, All, Any, codes, MatchResult, Result}
 use Rattle.std.specs.Borrow.{Bor}
 use Rattle.std.specs.BTreeMap.{BTreeMap, keys}
 use Rattle.minijinja_syntax.specs.Texts.{Text}
 use Rattle.minijinja_value.specs.Values.{Functions}
 use Rattle.minijinja_syntax.specs.Syntax.{Syntax, default_syntax}
-use Rattle.minijinja_syntax.specs.Errors.{kind_of}
+use Rattle.minijinja_syntax.specs.Errors.{IsOutOfMemory, kind_of, span_of}
 use Rattle.minijinja_syntax.specs.declared.error.Error.{Error}
 use Rattle.minijinja_syntax.specs.declared.error.ErrorKind.TheVariants.{OutOfMemory, SourceTooLong, TooManyInstructions}
 use Rattle.minijinja_lexer.specs.Stream.{IsNamed}
@@ -14,29 +14,37 @@ use Rattle.minijinja_tree.specs.Tree.{Block, blocks}
 use Rattle.minijinja_parser.specs.Causes.{IsRefusal}
 use Rattle.minijinja_parser.specs.Derived.{IsDerived, IsExprDerived}
 use Rattle.minijinja_instructions.specs.Instructions.{code_of}
-use Rattle.minijinja_meaning.specs.Pieces.{start}
-use Rattle.minijinja_meaning.specs.Layout.{expr_code, stmt_code}
-use Rattle.minijinja_meaning.specs.Places.{placed_stmt}
-use Rattle.minijinja_meaning.specs.Units.{DoUnits}
-use Rattle.minijinja_meaning.specs.Correct.{DoesExpr, DoesStmt}
-use Rattle.minijinja_meaning.specs.Jumps.{LeadsWell}
+use Rattle.minijinja_semantics.specs.Pieces.{start}
+use Rattle.minijinja_semantics.specs.Layout.{expr_code, stmt_code}
+use Rattle.minijinja_semantics.specs.Places.{placed_stmt}
+use Rattle.minijinja_semantics.specs.Units.{DoUnits}
+use Rattle.minijinja_semantics.specs.Correct.{DoesExpr, DoesStmt}
+use Rattle.minijinja_semantics.specs.Jumps.{LeadsWell}
 use Rattle.minijinja_code.specs.Hint.{IsHint, data_bytes}
 use Rattle.minijinja_code.specs.BlockLists.{HaveLists}
 use Rattle.minijinja_code.specs.Generator.{HaveTooLong}
-use Rattle.minijinja_instructions.specs.InstructionLists.{name_of, source_of}
-use Rattle.minijinja_instructions.specs.InstructionLists.{Instructions}
+use Rattle.minijinja_instructions.specs.InstructionLists.{Instructions, is_required, name_of, source_of}
 use Rattle.minijinja_compiler.specs.declared.compile.Compiled.{Compiled}
 
--- each of these blocks has its list, and no other list is there
+-- each of these blocks has its list, and there is no other list
 pub record AreBlockLists {V E C F L : Type 0} (f : Functions C F) (contents : V → C) (source filename : Text) (bs : List (Block C L)) (lists : BTreeMap (Bor Text) (Instructions V E)) : Type 0 where
   pub each : HaveLists f contents source filename bs lists
   pub only : All (λ k. Any (λ b. b.name ≡ k.now) bs) (keys lists)
 
--- There is one tree that the grammar derives of the text. The code is its layout, whatever the spans of its nodes. Entered at
--- the template, with any operands and open loops below and whatever is answered from outside, it does what the tree means, and is
--- over at its end; and entered at a recursive loop, or at what a macro runs, it does what that means. It has fewer than 2^32
--- instructions; where they lead lies within the list, and before them only where a loop asks for its next item. Each block has a list
--- of which the same holds.
+-- The grammar derives one tree of the text (`tree`, `derived`, `only`). The code is the layout of
+-- that tree, whatever the spans of its nodes are (`code`).
+--
+-- The code does what the tree means (`does`): run from its start, over any operands and open loops
+-- and on any answers from outside, the machine has the record, the ending and the answers left of
+-- the meaning. Where it finishes, it is at the end of the code, with operands and loops as they
+-- were. So does the code of each unit that is run by itself: a recursive loop, and what a macro or
+-- the caller of a call block runs (`units`). Both hold of answers that number, with the values in
+-- them, under 2^64 (`AreFew`).
+--
+-- The code has fewer than 2^32 instructions (`few`). Where they lead lies within the list, and
+-- before them only where a loop asks for its next item (`leads`). It is no block, so it is none
+-- that has to be overridden (`required`). Each block has a list of its own, of which the same holds
+-- (`lists`).
 pub record IsCompiled {V E C F : Type 0} (f : Functions C F) (contents : V → C) (syntax : Syntax) (source filename : Text) (c : Compiled V E) : Type 0 where
   pub tree : Stmt C
   pub derived : IsDerived f syntax source tree
@@ -46,12 +54,17 @@ pub record IsCompiled {V E C F : Type 0} (f : Functions C F) (contents : V → C
   pub units : DoUnits f (code_of contents c.instructions) (bare_stmt tree) start
   pub few : length (code_of contents c.instructions) < 2 ^ 32
   pub leads : LeadsWell (code_of contents c.instructions)
+  pub required : is_required c.instructions ≡ false
   pub hint : IsHint (data_bytes (bare_stmt tree)) c.buffer_size_hint
   pub lists : AreBlockLists f contents source filename (blocks (bare_stmt tree)) c.blocks
   pub name : name_of c.instructions ≡ filename
   pub text : source_of c.instructions ≡ source
 
--- The same of a text that is one expression: its code leaves the expression's value.
+-- The grammar derives one tree of the text, an expression in the default syntax. The code is the
+-- layout of that tree. It does what the tree means, and leaves the value of the expression on top
+-- of the operands; this holds of answers that number, with the values in them, under 2^64. It has
+-- fewer than 2^32 instructions, where they lead lies within the list, and it is no block that has
+-- to be overridden.
 pub record IsCompiledExpr {V E C F : Type 0} (f : Functions C F) (contents : V → C) (source : Text) (c : Instructions V E) : Type 0 where
   pub tree : Expr C
   pub derived : IsExprDerived f default_syntax source tree
@@ -60,6 +73,7 @@ pub record IsCompiledExpr {V E C F : Type 0} (f : Functions C F) (contents : V �
   pub does : DoesExpr f (code_of contents c) 0 (length (code_of contents c)) (bare_expr tree)
   pub few : length (code_of contents c) < 2 ^ 32
   pub leads : LeadsWell (code_of contents c)
+  pub required : is_required c ≡ false
   pub name : name_of c ≡ codes "<expression>"
   pub text : source_of c ≡ source
 
@@ -75,21 +89,29 @@ pub record HasTooLongExprCode {C F : Type 0} (f : Functions C F) (source : Text)
   pub derived : IsExprDerived f default_syntax source tree
   pub long : 2 ^ 32 ≤ length (expr_code f (bare_expr tree) start)
 
--- a limit stands against a text that the grammar derives: memory, its length or that of its code
-abbrev pub IsLimit : Error → Type 0
-IsLimit e = (kind_of e ≡ OutOfMemory) ⊎ (kind_of e ≡ SourceTooLong) ⊎ (kind_of e ≡ TooManyInstructions)
+-- a limit stands against the text: memory, the length of the source or the length of the code
+abbrev pub IsCompileLimit : Error → Type 0
+IsCompileLimit e = (kind_of e ≡ OutOfMemory) ⊎ (kind_of e ≡ SourceTooLong) ⊎ (kind_of e ≡ TooManyInstructions)
 
--- the code came, or a limit was met
+-- the text was compiled, or a limit stands against it
 abbrev pub Succeeds : {A : Type 0} → Result A Error → Type 0
-Succeeds r = MatchResult r (λ _. ⊤) IsLimit
+Succeeds r = MatchResult r (λ _. ⊤) IsCompileLimit
 
--- the list would have 2^32 instructions or more
+-- some list would have 2^32 instructions or more
 abbrev pub IsTooMany : Error → Type 0
 IsTooMany e = kind_of e ≡ TooManyInstructions
 
--- what is refused but for want of memory or the length of the code has the source's name
+-- a refusal has the source's name, unless memory was refused or the code is too long
 abbrev pub IsRefusedUnder : Text → Error → Type 0
 IsRefusedUnder filename e = kind_of e ≢ OutOfMemory → kind_of e ≢ TooManyInstructions → IsNamed filename e
 
-abbrev pub IsCause : Error → Type 0
-IsCause e = IsRefusal e ⊎ IsLimit e
+-- a refusal for memory has neither a place nor a name, and one for a length, of the source or of
+-- the code, has no place
+pub record IsCompileUnplaced (e : Error) : Type 0 where
+  pub memory : kind_of e ≡ OutOfMemory → IsOutOfMemory e
+  pub source : kind_of e ≡ SourceTooLong → span_of e ≡ None
+  pub code : kind_of e ≡ TooManyInstructions → span_of e ≡ None
+
+-- a text is refused for a fault in it, or because a limit stands against it
+abbrev pub IsCompileCause : Error → Type 0
+IsCompileCause e = IsRefusal e ⊎ IsCompileLimit e

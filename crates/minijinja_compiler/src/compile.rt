@@ -1,63 +1,73 @@
-//! From a source text to its instructions.
+//! `compile` and `compile_expression`: from a source text to its instructions.
 ghost use Rattle.std.specs.Prelude.{◌<◌, ◌≤◌, ◌^◌, codes, length, IfErr, IfOk, IsErrAnd};
 ghost use Rattle.minijinja_parser.specs.Answers.{AnswersExprTokenizer, AnswersTokenizer, EscapesIn, IsNoExpr, IsNoTemplate, IsShort, IsTooLong};
 ghost use Rattle.minijinja_syntax.specs.Syntax.{default_syntax};
 ghost use Rattle.minijinja_parser.specs.Derived.{IsDerived, IsExprDerived, expr_place, template_place};
-ghost use Rattle.minijinja_compiler.specs.Headline.{IsCompiled, IsCompiledExpr, HasTooLongCode, HasTooLongExprCode, IsCause, IsRefusedUnder, IsTooMany, Succeeds};
+ghost use Rattle.minijinja_compiler.specs.Headline.{IsCompiled, IsCompiledExpr, HasTooLongCode, HasTooLongExprCode, IsCompileCause, IsCompileUnplaced, IsRefusedUnder, IsTooMany, Succeeds};
 
-use minijinja_base::error::Error;
-use minijinja_base::syntax::SyntaxConfig;
-use minijinja_base::value::{TemplateValue, Value};
 use minijinja_code::codegen::CodeGenerator;
 use minijinja_code::instructions::Instructions;
 use minijinja_parser::parser::{EXPRESSION_NAME, parse, parse_expr};
+use minijinja_syntax::error::Error;
+use minijinja_syntax::syntax::SyntaxConfig;
+use minijinja_value::value::{TemplateValue, Value};
 use std::alloc::Global;
 use std::collections::BTreeMap;
 
-/// The code of a template. It borrows the source alone.
+/// A compiled template. It borrows from the source text and nothing else.
 #[derive(Drop)]
 pub struct Compiled<'s, V: TemplateValue = Value> {
-    /// The template's own instructions.
+    /// The instructions of the template outside of its blocks.
     pub instructions: Instructions<'s, V>,
-    /// The instructions of each block, by its name.
+    /// The instructions of each block, under its name.
     pub blocks: BTreeMap<&'s str, Instructions<'s, V>>,
-    /// How large a buffer the output may want, in bytes: the least power of two at or over twice the bytes outside of tags.
+    /// A size for the output buffer, in bytes: the least power of two that is at least twice the
+    /// bytes of text outside of tags, and at most 2^63.
     pub buffer_size_hint: usize,
 }
 
-/// Compiles a template, whose source has this name.
+/// Compiles the source text of a template; `filename` names it in errors and in the instructions.
 ///
-/// A text that the grammar does not derive is a syntax error, or a bad escape where its tokens end with one, with its place.
-/// Other refusals are those of memory, of a source of 2^32 bytes or more and of a list of 2^32 instructions or more.
+/// A text of which the grammar derives no tree fails with `SyntaxError`, or `BadEscape`, and the
+/// place in the text; no other text does. Besides that, it fails only if memory is refused
+/// (`OutOfMemory`), if the source has 2^32 bytes or more (`SourceTooLong`), or if a list would have
+/// 2^32 instructions or more (`TooManyInstructions`).
 pub fn compile<'s, V: TemplateValue>(
     alloc: Global,
     source: &'s str,
     filename: &'s str,
     syntax: &SyntaxConfig,
 ) -> Result<Compiled<'s, V>, Error<'s>>
-    // The code is that of the one tree of the text, and does what the tree means.
+    // The grammar derives one tree of the text, the code is that of this tree, and does what it
+    // means.
     ensures compiled { IfOk result
         (IsCompiled V.functions V.contents syntax.now source.now filename.now) }
 
-    // A text is refused, as a syntax error or for a bad escape, exactly where the grammar derives no tree of it.
+    // It fails with a syntax error or a bad escape only if the grammar derives no tree of the text.
+    // If there is a tree, it succeeds, or a limit stands against the text.
     ensures refused { IfErr result (IsNoTemplate V.functions syntax.now source.now) }
     ensures accepted { (t : _) → IsDerived V.functions syntax.now source.now t → Succeeds result }
 
-    // A bad escape is the one that the tokens end with.
+    // A bad escape is the one with which the tokens of the text end.
     ensures bad_escape { IfErr result (EscapesIn (template_place syntax.now source.now)) }
 
-    // The tokenizer's refusal is answered where all tokens before it fit.
+    // If the tokenizer fails and all tokens before that fit the grammar, its error is the one
+    // returned.
     ensures first { IsShort source.now → AnswersTokenizer V.functions syntax.now source.now result }
 
-    // A text is refused under its name, and so is one that is too long.
+    // The error has the source's name, unless memory was refused or the code is too long.
     ensures named { IfErr result (IsRefusedUnder filename.now) }
 
-    // A source is too long exactly from 2^32 bytes on, and code only where the tree's has 2^32 instructions or more.
+    // An error for memory has neither a place nor a name, and one for a length has no place.
+    ensures unplaced { IfErr result IsCompileUnplaced }
+
+    // A source is too long exactly if it has 2^32 bytes or more, and code only if some list of the
+    // tree has 2^32 instructions or more.
     ensures too_long { 2 ^ 32 ≤ length source.now → IsErrAnd result IsTooLong }
     ensures too_long_only { IfErr result (λ e. IsTooLong e → 2 ^ 32 ≤ length source.now) }
     ensures too_many_only { IfErr result
         (λ e. IsTooMany e → HasTooLongCode V.functions syntax.now source.now) }
-    ensures causes { IfErr result IsCause }
+    ensures causes { IfErr result IsCompileCause }
 {
     let template = parse(alloc, source, filename, syntax)?;
     let mut generator = CodeGenerator::new(alloc, filename, source);
@@ -71,36 +81,44 @@ pub fn compile<'s, V: TemplateValue>(
     })
 }
 
-/// Compiles one expression in the default syntax. The code leaves its value, and its source is named `<expression>`.
+/// Compiles one expression in the default syntax. Its instructions leave its value on top of the
+/// operands. The source is named `<expression>` in errors and in the instructions.
 ///
-/// It refuses as [`compile`] does.
+/// It fails as [`compile`] does.
 pub fn compile_expression<'s, V: TemplateValue>(
     alloc: Global,
     source: &'s str,
 ) -> Result<Instructions<'s, V>, Error<'s>>
-    // The code is that of the one tree of the text, and does what the tree means.
+    // The grammar derives one tree of the text, the code is that of this tree, and does what it
+    // means.
     ensures compiled { IfOk result (IsCompiledExpr V.functions V.contents source.now) }
 
-    // A text is refused, as a syntax error or for a bad escape, exactly where the grammar derives no tree of it.
+    // It fails with a syntax error or a bad escape only if the grammar derives no tree of the text.
+    // If there is a tree, it succeeds, or a limit stands against the text.
     ensures refused { IfErr result (IsNoExpr V.functions default_syntax source.now) }
     ensures accepted { (t : _) → IsExprDerived V.functions default_syntax source.now t →
         Succeeds result }
 
-    // A bad escape is the one that the tokens end with.
+    // A bad escape is the one with which the tokens of the text end.
     ensures bad_escape { IfErr result (EscapesIn (expr_place default_syntax source.now)) }
 
-    // The tokenizer's refusal is answered where all tokens before it fit.
+    // If the tokenizer fails and all tokens before that fit the grammar, its error is the one
+    // returned.
     ensures first { IsShort source.now → AnswersExprTokenizer V.functions source.now result }
 
-    // A text is refused under its name, and so is one that is too long.
+    // The error has the source's name, unless memory was refused or the code is too long.
     ensures named { IfErr result (IsRefusedUnder (codes "<expression>")) }
 
-    // A source is too long exactly from 2^32 bytes on, and code only where the tree's has 2^32 instructions or more.
+    // An error for memory has neither a place nor a name, and one for a length has no place.
+    ensures unplaced { IfErr result IsCompileUnplaced }
+
+    // A source is too long exactly if it has 2^32 bytes or more, and code only if some list of the
+    // tree has 2^32 instructions or more.
     ensures too_long { 2 ^ 32 ≤ length source.now → IsErrAnd result IsTooLong }
     ensures too_long_only { IfErr result (λ e. IsTooLong e → 2 ^ 32 ≤ length source.now) }
     ensures too_many_only { IfErr result
         (λ e. IsTooMany e → HasTooLongExprCode V.functions source.now) }
-    ensures causes { IfErr result IsCause }
+    ensures causes { IfErr result IsCompileCause }
 {
     let expr = parse_expr(alloc, source)?;
     let mut generator = CodeGenerator::new(alloc, EXPRESSION_NAME, source);

@@ -1,11 +1,11 @@
-//! Laws of the definitions that the contracts of the layers are stated in, under the names that they have there.
+//! The laws of the definitions that the contracts of all layers use.
 pub use minijinja_grammar::laws::{nodes_stand_at_tokens, one_tree, trees_are_well_formed};
 pub use minijinja_lexer::laws::{
     are_in_order, are_slices, columns_count_chars, one_cut, one_expression, some_cut,
     some_expression,
 };
-pub use minijinja_meaning::laws::{
+pub use minijinja_semantics::laws::{
     folded_is_constant, layout_does_what_is_meant, layout_leads_well, loops_have_no_bound,
-    names_are_not_looked_at, units_are_enterable,
+    names_are_not_looked_at, placed_tree_is_the_tree, units_are_enterable,
 };
 pub use minijinja_value::laws::{equality_is_an_equivalence, keys_are_distinct};

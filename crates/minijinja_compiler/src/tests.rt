@@ -1,13 +1,17 @@
-//! Tests of the compiler and of the crates below it: a crate that has tests is proved twice, so they stand here.
+//! Tests of the compiler and of the crates below it: a crate that has tests is proved twice, so
+//! they stand here.
 //!
-//! The rows of a subject stand in one text, since a test is proved too, with each text that it names spelled out.
+//! The rows of a subject stand in one text, since a test is proved too, with each text that it
+//! names spelled out.
 mod codegen;
 mod compile;
 mod errors;
+mod flags;
 mod hostile;
 mod lexer;
 mod meta;
 mod parser;
+mod refusals;
 mod syntax;
 mod tree;
 mod values;
@@ -45,7 +49,8 @@ fn parted<'t>(text: &'t str, mark: &str) -> (&'t str, &'t str) {
     text.split_once(mark).unwrap_or((text, ""))
 }
 
-/// The text that a row writes, in which each symbol of a control character or a space is that character. `␀` is nothing.
+/// The text that a row writes, in which each symbol of a control character or a space is that
+/// character. `␀` is nothing.
 fn decoded(alloc: Global, written: &str) -> Result<String, AllocError> {
     written.chars().filter_map(character).collect(alloc)
 }
@@ -61,7 +66,8 @@ fn character(symbol: char) -> Option<char> {
     }
 }
 
-/// The pieces of a text one after another. They are parted by ` | `, and one that is `COUNT * TEXT` stands there so often.
+/// The pieces of a text one after another. They are parted by ` | `, and one that is `COUNT * TEXT`
+/// stands there so often.
 fn repeated(alloc: Global, pieces: &str) -> Result<String, Fail> {
     let mut text = String::new(alloc);
     for piece in pieces.split(" | ") {
@@ -77,8 +83,8 @@ fn repeated(alloc: Global, pieces: &str) -> Result<String, Fail> {
     Ok(text)
 }
 
-/// The syntax with these options, which are parted by commas: `default`, the name of a flag that is set, or a name and
-/// its texts.
+/// The syntax with these options, which are parted by commas: `default`, the name of a flag that is
+/// set, or a name and its texts.
 fn syntax_of(alloc: Global, options: &str) -> Result<SyntaxConfig, Error<'static>> {
     let mut builder = SyntaxConfig::builder();
     for option in options.split(", ") {

@@ -12,7 +12,7 @@ use Rattle.minijinja_grammar.specs.Words.{is, begins_comparison, not_word}
 use Rattle.minijinja_syntax.specs.Streams.{SpannedTok}
 use Rattle.minijinja_grammar.specs.Forms.{Place, Form, Turn, go_on, over, pure, one, held_or_wrong, read_one, last, start_at, many, and_then, comes, held_next, after, Takes, Turns, no_turn, last_turn, turn, Derives, Read, got, short, wrong, read_then, read_turn, if_held, read_any, reads, ◌>>=◌, ◌>>◌}
 use Rattle.minijinja_grammar.specs.Grammar.{wrapped, span_of_mark, held, of_kind, spanned, expanded, level, comparison, compare_all, compared_level, prefixed}
-use Rattle.minijinja_grammar.specs.private.Climbing.{Row, binaries, comparing, begins_row, IsQuiet, operators, comparisons, level_of, rest_of, Infix, binary_of, comparing_of, or_else, infix_in, next_infix, operation, first_of}
+use Rattle.minijinja_grammar.specs.internal.Climbing.{Row, binaries, comparing, begins_row, IsQuiet, operators, comparisons, level_of, rest_of, Infix, binary_of, comparing_of, or_else, infix_in, next_infix, operation, first_of}
 use Rattle.minijinja_grammar.proofs.Forms.{sound, same_read}
 use Rattle.minijinja_grammar.proofs.Unrolled.{many_is}
 

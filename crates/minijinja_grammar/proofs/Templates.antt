@@ -1,4 +1,4 @@
--- Templates of the grammar stand at tokens, and are well formed but for the names of their blocks.
+-- Templates of the grammar stand at tokens, and are well formed except for the names of their blocks.
 use Rattle.std.proofs.Common.{ℕ, false}
 use Rattle.minijinja_syntax.specs.Texts.{Text}
 use Rattle.minijinja_value.specs.Values.{Functions}
@@ -18,7 +18,7 @@ use Rattle.minijinja_grammar.proofs.Statements.{AreAllParts, body, stmt_at}
 
 module _ {C F : Type 0} (T : SpannedTok → Type 0) (S : Span → Type 0) (spans : (t : SpannedTok) → T t → S t.1)
     (joins : (s to : Span) → S s → S to → S (expanded s to)) (G : Text → Type 0) (f : Functions C F) where
-  -- a template stands at tokens, and is well formed but for the names of its blocks
+  -- a template stands at tokens, and is well formed except for the names of its blocks
   pub record IsTemplate (s : Stmt C) : Type 0 where
     pub stands : StmtStands T S s
     pub root : IsRoot (bare_stmt s)

@@ -1,4 +1,5 @@
--- What a form derives of all tokens: one thing at most, and what reading them comes to where they end refused.
+-- What a form derives of all tokens: one thing at most, and what reading them comes to where they
+-- end refused.
 use Rattle.std.proofs.Common.{◌≡◌, ◌≢◌, ◌⊎◌, inl, inr, List, [], ◌∷◌, ◌++◌, Option, Some, None, refl, sym, ap, ◌∙◌, subst}
 use Rattle.minijinja_syntax.specs.Streams.{SpannedTok, Ending}
 use Rattle.minijinja_grammar.specs.Forms.{Place, Turn, go_on, over, Form, pure, nothing, one, source, start, last, new_name, and_then, either, many, start_at, held_next, after, Takes, Turns, no_turn, last_turn, turn, Derives, Read, got, short, wrong, read_then, misfit, read_one, held_or_wrong, read_turn, if_held, read_any, read_many, reads}

@@ -7,7 +7,8 @@ use Rattle.minijinja_grammar.specs.Forms.{Form, Place, Derives}
 use Rattle.minijinja_grammar.specs.Grammar.{expr_at, max_depth}
 use Rattle.minijinja_grammar.specs.Templates.{template_at}
 
--- the tokens that are left at the place end unrefused, and all of them are of the form, which gives this tree
+-- the tokens that are left at the place end unrefused, and all of them are of the form, which gives
+-- this tree
 pub record IsWholeOf {A : Type 0} (form : Form A) (p : Place) (tree : A) : Type 0 where
   pub unrefused : p.ending ≡ finished
   pub stop : Place

@@ -10,8 +10,8 @@ use Rattle.minijinja_syntax.specs.Tokens.{Tok}
 use Rattle.minijinja_syntax.specs.declared.tokens.Span.{Span}
 use Rattle.minijinja_syntax.specs.Streams.{SpannedTok, Ending}
 
--- the text, the tokens that are left of it and how they end, where the token taken last stands, and the names that were given so
--- far, in order of their bytes
+-- the text, the tokens that are left of it and how they end, where the token taken last stands, and
+-- the names that were given so far, in order of their bytes
 pub record Place : Type 0 where
   pub source : Text
   pub tokens : List SpannedTok
@@ -98,8 +98,8 @@ Derives (many held t x) p q y = Turns held (λ x h. Derives (t x h)) x p q y
 
 -- ---- how a form is read
 
--- what reading comes to: a tree and the place after it; the place where a token is wanted and none is left; or the place of
--- the token that does not fit, as the last one taken
+-- what reading comes to: a tree and the place after it; the place where a token is wanted and none
+-- is left; or the place of the token that does not fit, as the last one taken
 pub data Read (A : Type 0) : Type 0 where
   got : A → Place → Read A
   short : Place → Read A

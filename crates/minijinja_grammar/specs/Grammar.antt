@@ -3,6 +3,7 @@ use Rattle.std.specs.Prelude.{◌≡◌, ℕ, zero, suc, List, [], ◌∷◌, �
 use Rattle.minijinja_syntax.specs.Texts.{Text}
 use Rattle.minijinja_value.specs.Values.{Functions}
 use Rattle.minijinja_syntax.specs.Positions.{slice}
+pub use Rattle.minijinja_syntax.specs.Positions.{expanded}
 use Rattle.minijinja_syntax.specs.declared.tokens.Span.{Span}
 use Rattle.minijinja_tree.specs.BinOps as bin
 use Rattle.minijinja_tree.specs.BinOps.{BinOp}
@@ -47,17 +48,14 @@ when false f = nothing
 abbrev pub behind : {A : Type 0} → Tok → Form A → Form A → Form A
 behind m f g = either (is m) (next m >> f) g
 
--- the span from the start of one to the end of another
-abbrev pub expanded : Span → Span → Span
-expanded s to = record s { end_line = to.end_line; end_col = to.end_col; end_offset = to.end_offset }
-
 -- what is made with the span from the start of one to the end of the token taken last
 abbrev pub spanned : {A : Type 0} → Span → (Span → A) → Form A
 spanned from make = do
   to ← last
   pure (make (expanded from to))
 
--- `[ X { , X } [,] ]`, where an X takes what was read so far: a comma that no X follows is the last one
+-- `[ X { , X } [,] ]`, where an X takes what was read so far: a comma that no X follows is the last
+-- one
 abbrev pub items : {A : Type 0} → (Tok → Bool) → (A → Form A) → A → Form A
 items begins part x =
     either begins (part x >>= many (span_of_mark comma) (λ y _. either begins (part y >>= (λ z. pure (go_on z))) (pure (over y)))) (pure x)
@@ -79,7 +77,8 @@ name_part before at = do
 unfoldable pub name_parts : Span → Form Span
 name_parts at = many (span_of_mark dot) name_part at
 
--- Name = Ident { . Ident }: with a dot, the source from the start of the first part to the end of the last one
+-- Name = Ident { . Ident }: with a dot, the source from the start of the first part to the end of
+-- the last one
 unfoldable pub name : Form Text
 name = do
   x ← one ident_and_span
@@ -120,7 +119,8 @@ abbrev pub has_named : {C : Type 0} → List (Arg C) → Bool
 has_named [] = false
 has_named (x ∷ xs) = is_named x || has_named xs
 
--- no plain argument after a keyword argument or a **, and no argument after the most that a call may have
+-- no plain argument after a keyword argument or a **, and no argument after the most that a call
+-- may have
 abbrev pub is_allowed : {C : Type 0} → List (Arg C) → Arg C → Bool
 is_allowed xs x = not (is_plain x && has_named xs) && nat_lt (length xs) most_arguments
 
@@ -276,7 +276,8 @@ module _ {C : Type 0} (expr : Form (Expr C)) where
   abbrev pub postfix_turn : {F : Type 0} → Functions C F → Expr C × Span → SpannedTok → Form (Turn (Expr C × Span))
   postfix_turn f e t = postfix f e.0 e.1 t.0 >>= (λ x. pure (go_on (x, t.1)))
 
--- wrapped in an operator for each place where it stands, the last of them first, up to the end of the token taken last
+-- wrapped in an operator for each place where it stands, the last of them first, up to the end of
+-- the token taken last
 abbrev pub wrapped : {C : Type 0} → UnaryOp → Span → List Span → Expr C → Expr C
 wrapped o to [] e = e
 wrapped o to (s ∷ ss) e = wrapped o to ss (unary o e (expanded s to))
@@ -395,8 +396,9 @@ compared_level sum = do
 
 -- ---- if expressions
 
--- What is read of an if expression: the parts that wait for their else part, the latest first, each with where it begins, its
--- true part and its test; the part that is being read, and where it begins.
+-- What is read of an if expression: the parts that wait for their else part, the latest first, each
+-- with where it begins, its true part and its test; the part that is being read, and where it
+-- begins.
 pub record Ifs (C : Type 0) : Type 0 where
   pub waiting : List (Span × Expr C × Expr C)
   pub now : Expr C

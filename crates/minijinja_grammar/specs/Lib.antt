@@ -7,4 +7,5 @@ pub mod Templates
 pub mod TokenSpans
 pub mod Standing
 pub mod Derived
+pub mod internal
 pub mod private

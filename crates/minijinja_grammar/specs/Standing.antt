@@ -9,7 +9,8 @@ use Rattle.minijinja_tree.specs.SpannedTrees.{Expr, variable, constant, slice, u
 
 module _ {C : Type 0} (T : SpannedTok → Type 0) (S : Span → Type 0) where
   abbrev mutual
-    -- the span of a variable is that of its identifier, which is such a token, and that of any other node such a span
+    -- the span of a variable is that of its identifier, which is such a token, and that of any
+    -- other node such a span
     pub Stands : Expr C → Type 0
     Stands (variable x s) = T (ident x, s)
     Stands (constant c s) = S s

@@ -23,7 +23,8 @@ keyword_and_span _ = None
 
 -- ---- bodies
 
--- what a body may end at: the words that may follow its last `{%`; a template's own goes on to the end of the text
+-- what a body may end at: the words that may follow its last `{%`; a template's own goes on to the
+-- end of the text
 pub data Ends : Type 0 where
   at_end_of_text at_endfor_or_else at_endfor at_endif_else_or_elif at_endif at_endwith at_endset at_endautoescape at_endfilter at_endblock at_endmacro at_endcall : Ends
 
@@ -66,7 +67,8 @@ tag stmt = do
 abbrev pub also_part : {C : Type 0} → List (Stmt C) → Form (Stmt C) → Form (Turn (List (Stmt C)))
 also_part ss f = f >>= (λ s. pure (go_on (ss ++ s ∷ [])))
 
--- Data | {{ Expr }} | {% Stmt %}, from its first token on, or the {% of the word that the body ends at
+-- Data | {{ Expr }} | {% Stmt %}, from its first token on, or the {% of the word that the body ends
+-- at
 abbrev pub part : {C : Type 0} → Form (Expr C) → Form (Stmt C) → Ends → List (Stmt C) → SpannedTok → Form (Turn (List (Stmt C)))
 part expr stmt ends ss (template_data t, s) = pure (go_on (ss ++ data_text t s ∷ []))
 part expr stmt ends ss (variable_start, s) = also_part ss (shown expr s)
@@ -151,7 +153,8 @@ pub record Branch (C : Type 0) : Type 0 where
 abbrev pub if_of : {C : Type 0} → Span → Branch C → List (Stmt C) → Stmt C
 if_of to b other = if_cond b.test (stmts_of b.body) (stmts_of other) (expanded b.from to)
 
--- the first branch, the others, the last of them first, and the else body: each of the others is all of the false body before it
+-- the first branch, the others, the last of them first, and the else body: each of the others is
+-- all of the false body before it
 abbrev pub chosen : {C : Type 0} → Span → Branch C → List (Branch C) → List (Stmt C) → Stmt C
 chosen to b [] other = if_of to b other
 chosen to b (c ∷ cs) other = chosen to b cs (if_of to c other ∷ [])
@@ -318,8 +321,8 @@ params expr = do
 abbrev pub begins_set_block : Tok → Bool
 begins_set_block t = is block_end t || is pipe t
 
--- What statements are made of: expressions, those that no `if` part ends, values that may be tuples, chains of filters, bodies,
--- and the bodies of loops, of blocks and of macros.
+-- What statements are made of: expressions, those that no `if` part ends, values that may be
+-- tuples, chains of filters, bodies, and the bodies of loops, of blocks and of macros.
 pub record Parts (C : Type 0) : Type 1 where
   pub expr : Form (Expr C)
   pub or : Form (Expr C)
@@ -450,7 +453,8 @@ module _ {C : Type 0} (p : Parts C) where
     ss ← macro_body at_endmacro endmacro_word
     spanned from (λ s. declare (macro_of x.0 ps ss s))
 
-  -- "call" [ ( Params ) ] Expr %} Body "endcall": the macro is named `caller`, and stands where the statement does
+  -- "call" [ ( Params ) ] Expr %} Body "endcall": the macro is named `caller`, and stands where the
+  -- statement does
   unfoldable pub call_stmt : Span → Form (Stmt C)
   call_stmt from = do
     ps ← behind paren_open (params p.expr) (pure [])
@@ -460,8 +464,8 @@ module _ {C : Type 0} (p : Parts C) where
 
 -- ---- in their context
 
--- where a statement stands: whether the body of a loop is round it, in the same block, macro or call block, and whether it is in a
--- macro or call block
+-- where a statement stands: whether the body of a loop is around it, in the same block, macro or
+-- call block, and whether it is in a macro or call block
 pub record Context : Type 0 where
   pub in_loop : Bool
   pub in_macro : Bool
@@ -507,7 +511,8 @@ stmt_of c p (continue_keyword, from) = continue_stmt c from
 abbrev pub or_at : {C F : Type 0} → Functions C F → ℕ → Form (Expr C)
 or_at f d = or_level f (expr_at f d) (primary_at f d)
 
--- the parts of statements of such expressions, in which such statements nest, and such in the body of a loop, of a block and of a macro
+-- the parts of statements of such expressions, in which such statements nest, and such in the body
+-- of a loop, of a block and of a macro
 abbrev pub parts_of : {C : Type 0} → (expr or : Form (Expr C)) → (nested in_loop in_block in_macro : Form (Stmt C)) → Parts C
 parts_of expr or nested in_loop in_block in_macro = record {
   expr = expr;

@@ -39,7 +39,7 @@ target_part e at = do
 unfoldable pub attributes : {C : Type 0} → Expr C → Form (Expr C)
 attributes = many (span_of_mark dot) target_part
 
--- likewise, where dots may follow
+-- { . Ident }, after a target that dots may follow
 abbrev pub target_parts : {C : Type 0} → Bool → Expr C → Form (Expr C)
 target_parts false e = pure e
 target_parts true e = attributes e

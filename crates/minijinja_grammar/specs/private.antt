@@ -1,4 +1,3 @@
--- What proofs and the contracts of private functions cite.
+-- What the crate says of its own private functions.
 pub mod Ensured
 pub mod Sound
-pub mod Climbing

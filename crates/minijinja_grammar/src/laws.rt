@@ -7,7 +7,7 @@ ghost use Rattle.minijinja_grammar.specs.Forms.{Place};
 ghost use Rattle.minijinja_grammar.specs.Standing.{Stands, StmtStands};
 ghost use Rattle.minijinja_grammar.specs.TokenSpans.{IsOfTokens};
 
-use minijinja_base::value::TemplateValue;
+use minijinja_value::value::TemplateValue;
 
 /// Tokens have one tree at most, and it stands at one place.
 pub fn one_tree<V: TemplateValue>()
@@ -25,8 +25,8 @@ pub fn trees_are_well_formed<V: TemplateValue>()
         (bare_expr t) }
 {}
 
-/// A variable and a data node have the span of their own token, and any other node goes from the start of a token to the end of
-/// one, or stands at the place before the tokens.
+/// A variable and a data node have the span of their own token, and any other node goes from the
+/// start of a token to the end of one, or stands at the place before the tokens.
 pub fn nodes_stand_at_tokens<V: TemplateValue>()
     ensures template { (p : Place) (t : Stmt V.Contents) → IsTemplateTree V.functions p t →
         StmtStands (Contains p.tokens) (IsOfTokens p.tokens p.last) t }

@@ -1,4 +1,4 @@
--- What a list of instructions shows of itself.
+-- The contents of a list of instructions, which contracts speak of.
 use Rattle.std.specs.Prelude.{◌≡◌, ◌⊎◌, Bool, List}
 use Rattle.minijinja_syntax.specs.Texts.{Text}
 use Rattle.minijinja_syntax.specs.Errors.{kind_of}

@@ -1,10 +1,10 @@
--- What the instructions of a list are, over what values hold.
+-- The table of instructions: each as the machine's definition has it, over the contents of values.
 use Rattle.std.specs.Prelude.{List, [], map}
 use Rattle.minijinja_tree.specs.CompareOps as cmp
-use Rattle.minijinja_meaning.specs.Events as event
+use Rattle.minijinja_semantics.specs.Events as event
 use Rattle.minijinja_tree.specs.Operators as operator
-use Rattle.minijinja_meaning.specs.Code as code
-use Rattle.minijinja_meaning.specs.Code.{Instr}
+use Rattle.minijinja_semantics.specs.Code as code
+use Rattle.minijinja_semantics.specs.Code.{Instr}
 use Rattle.minijinja_instructions.specs.InstructionLists.{instructions_of}
 use Rattle.minijinja_instructions.specs.declared.instructions.CaptureMode.{CaptureMode}
 use Rattle.minijinja_instructions.specs.declared.instructions.CaptureMode.TheVariants as capture_mode

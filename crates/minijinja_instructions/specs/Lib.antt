@@ -1,3 +1,4 @@
+-- The definitions of this crate.
 pub mod InstructionLists
 pub mod Instructions
 pub mod Lending

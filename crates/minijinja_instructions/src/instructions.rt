@@ -1,19 +1,23 @@
 //! Instructions, and lists of them.
 ghost use Rattle.std.specs.Prelude.{◌≡◌, ◌+◌, ◌≤◌, ◌<◌, ◌^◌, ◌==◌, ◌++◌, ◌∷◌, [], ◌↔◌, length, slice_get, false, IfOk, IfErr, OnOk, OnErr, IsErr, Option};
 ghost use Rattle.std.specs.Option.{option_copied, option_copied_mut};
+ghost use Rattle.std.specs.Slice.Iter.{iter_rest};
+ghost use Rattle.std.specs.Iterator.Adapters.{IterYieldsInOrder, IterYieldsInReverse};
 ghost use Rattle.minijinja_syntax.specs.Errors.{kind_of};
 ghost use Rattle.minijinja_syntax.specs.declared.error.ErrorKind.TheVariants.{OutOfMemory, TooManyInstructions};
 ghost use Rattle.minijinja_instructions.specs.InstructionLists.{instructions_of, is_required, name_of, source_of, IsAddError};
 
 use crate::lists::{LIMIT, too_many};
-use minijinja_base::error::Error;
-use minijinja_base::value::{TemplateValue, Value};
+use minijinja_syntax::error::Error;
+use minijinja_value::value::{TemplateValue, Value};
 use std::alloc::Global;
+use std::slice;
 
 /// The number of a filter's or test's name among those of its list.
 pub type LocalId = u8;
 
-/// How many names of filters, and of tests, of a list have a number of their own. Later names have 255.
+/// How many names of filters, and of tests, have a number of their own in a list. Later names have
+/// 255.
 pub const MAX_LOCALS: usize = 50;
 
 /// The flag of a loop that has a variable of its own.
@@ -38,16 +42,17 @@ pub enum CompareOp {
     NotIn,
 }
 
-/// What becomes of output while it is captured.
+/// What happens to output while it is captured.
 #[derive(Clone, Copy, Debug, PartialEq, Eq)]
 pub enum CaptureMode {
-    /// It is kept, and the end of the capture gives it.
+    /// It is kept, and the end of the capture pushes it.
     Capture,
     /// It is dropped.
     Discard,
 }
 
-/// An instruction of a rendering machine. Its texts are slices of the source, and its jumps lead to indexes of its list.
+/// An instruction of a rendering machine. Its texts are slices of the source, and its jumps lead to
+/// indexes of its list.
 #[derive(Drop)]
 pub enum Instruction<'s, V: TemplateValue = Value> {
     /// Writes text that stands outside of tags.
@@ -94,7 +99,7 @@ pub enum Instruction<'s, V: TemplateValue = Value> {
     Rem,
     /// Replaces two values by a power.
     Pow,
-    /// Replaces a value by the one with the other sign.
+    /// Replaces a value by its negation.
     Neg,
     /// Replaces two values by whether they are equal.
     Eq,
@@ -116,9 +121,11 @@ pub enum Instruction<'s, V: TemplateValue = Value> {
     In,
     /// Replaces two values by the second and whether their comparison holds.
     CompareAndPreserve(CompareOp),
-    /// Replaces the arguments by what a filter makes of them. Their number is `None` where a count on top of them says it.
+    /// Replaces the arguments by what a filter makes of them. Their number is `None` where a count
+    /// on top of them says it.
     ApplyFilter(&'s str, Option<u16>, LocalId),
-    /// Replaces the arguments by whether a test of them succeeds. Their number is `None` where a count on top of them says it.
+    /// Replaces the arguments by whether a test of them succeeds. Their number is `None` where a
+    /// count on top of them says it.
     PerformTest(&'s str, Option<u16>, LocalId),
     /// Pops a value and writes it.
     Emit,
@@ -126,7 +133,7 @@ pub enum Instruction<'s, V: TemplateValue = Value> {
     PushLoop(u8),
     /// Begins a scope.
     PushWith,
-    /// Pushes the next item of the innermost loop, or goes to an index where there is none.
+    /// Pushes the next item of the innermost loop, or jumps to an index if there is none.
     Iterate(u32),
     /// Pushes whether no item came to the innermost loop.
     PushDidNotIterate,
@@ -134,37 +141,38 @@ pub enum Instruction<'s, V: TemplateValue = Value> {
     PopFrame,
     /// Ends a loop.
     PopLoopFrame,
-    /// Goes to an index.
+    /// Jumps to an index.
     Jump(u32),
-    /// Pops a value, and goes to an index if it is false.
+    /// Pops a value, and jumps to an index if it is false.
     JumpIfFalse(u32),
-    /// Goes to an index if the top operand is false, else pops it.
+    /// Jumps to an index if the top operand is false, otherwise pops it.
     JumpIfFalseOrPop(u32),
-    /// Goes to an index if the top operand is true, else pops it.
+    /// Jumps to an index if the top operand is true, otherwise pops it.
     JumpIfTrueOrPop(u32),
-    /// Pops a value, which says whether what is written is escaped from here on.
+    /// Pops a value, which says whether output is escaped from now on.
     PushAutoEscape,
-    /// Takes back what the value popped last said of that.
+    /// Ends what the last `PushAutoEscape` began: whether output is escaped is as it was before.
     PopAutoEscape,
-    /// Begins to capture what is written.
+    /// Begins to capture output.
     BeginCapture(CaptureMode),
     /// Ends the capture that began last, and pushes what it kept.
     EndCapture,
-    /// Replaces the arguments by what a function gives. Their number is `None` where a count on top of them says it.
+    /// Replaces the arguments by what a function gives. Their number is `None` where a count on top
+    /// of them says it.
     CallFunction(&'s str, Option<u16>),
-    /// Replaces an object and the arguments by what its method gives. The number counts the object too, and is `None` where a
-    /// count on top of them says it.
+    /// Replaces an object and the arguments by what its method gives. The number counts the object
+    /// too, and is `None` where a count on top of them says it.
     CallMethod(&'s str, Option<u16>),
-    /// Replaces an object and the arguments by what a call of it gives. The number counts the object too, and is `None` where a
-    /// count on top of them says it.
+    /// Replaces an object and the arguments by what a call of it gives. The number counts the
+    /// object too, and is `None` where a count on top of them says it.
     CallObject(Option<u16>),
     /// Pushes the top operand again.
     DupTop,
     /// Pops the top operand.
     DiscardTop,
-    /// Writes what the block of this name holds above.
+    /// Writes the block that the current one overrides.
     FastSuper,
-    /// Pops a value and goes through the loop again on its items.
+    /// Pops a value and runs the recursive loop again over its items.
     FastRecurse,
     /// Swaps the two top operands.
     Swap,
@@ -176,11 +184,12 @@ pub enum Instruction<'s, V: TemplateValue = Value> {
     Include(bool),
     /// Pushes what the innermost scope has stored.
     ExportLocals,
-    /// Takes a variable into the closure of the macro that is being made.
+    /// Adds a variable to the closure of the macro that is being made.
     Enclose(&'s str),
     /// Pushes that closure.
     GetClosure,
-    /// Replaces a closure and the names of arguments by a macro, with its name, the index where what it runs begins, and its flags.
+    /// Replaces a closure and the names of arguments by a macro, with its name, the index where
+    /// what it runs begins, and its flags.
     BuildMacro(&'s str, u32, u8),
     /// Ends what a macro runs.
     Return,
@@ -188,7 +197,8 @@ pub enum Instruction<'s, V: TemplateValue = Value> {
     IsUndefined,
 }
 
-/// A list of instructions, with the name and the text of the source that they come from. It has fewer than 2^32.
+/// A list of instructions, with the name and the text of the source that they come from. It has
+/// fewer than 2^32.
 #[derive(Drop)]
 pub struct InstructionList<'s, I> {
     pub(crate) instructions: Vec<I>,
@@ -204,7 +214,7 @@ impl<'s, I> InstructionList<'s, I> {
     ghost use Rattle.std.specs.Borrow.{sem};
     ghost use Rattle.minijinja_instructions.specs.Lending.{lends_instruction};
 
-    /// An empty list, which takes no memory yet.
+    /// Makes an empty list, which allocates nothing yet.
     pub fn new(alloc: Global, name: &'s str, source: &'s str) -> Self
         ensures empty { instructions_of result ≡ [] }
         ensures required { is_required result ≡ false }
@@ -254,15 +264,25 @@ impl<'s, I> InstructionList<'s, I> {
         self.instructions.is_empty()
     }
 
-    /// The instruction at an index, from 0, or none where the list has ended.
+    /// The instructions in order.
+    pub fn iter(&self) -> slice::Iter<'_, I>
+        ensures items { iter_rest result ≡ instructions_of self.now }
+        ensures bound { length (iter_rest result) < 2 ^ 64 }
+        ensures runs { IterYieldsInOrder I }
+        ensures runs_back { IterYieldsInReverse I }
+    {
+        self.instructions.iter()
+    }
+
+    /// The instruction at an index, counted from 0, or none past the end of the list.
     pub fn get(&self, index: u32) -> Option<&I>
         ensures { option_copied result ≡ slice_get (instructions_of self.now) index }
     {
         self.instructions.get(index as usize)
     }
 
-    /// The instruction at an index, from 0, to be changed, or none where the list has ended. What is written stands at the
-    /// index, and all else in the list stays.
+    /// A mutable reference to the instruction at an index, counted from 0, or none past the end of
+    /// the list. A write changes this instruction alone.
     pub fn get_mut(&mut self, index: u32) -> Option<&mut I>
         ensures* writes_back { sem 𝓛 (lends_instruction I.row self.entry index result) }
         ensures value { option_copied_mut result ≡ slice_get (instructions_of self.old) index }
@@ -270,8 +290,8 @@ impl<'s, I> InstructionList<'s, I> {
         self.instructions.get_mut(index as usize)
     }
 
-    /// Adds an instruction and answers its index. Refused are memory, and the instruction with which the list would reach
-    /// 2^32; the list is unchanged then.
+    /// Adds an instruction and returns its index. It fails for want of memory, and where the list
+    /// would have 2^32 instructions; then the list is unchanged.
     pub fn add(&mut self, instruction: I) -> Result<u32, Error<'s>>
     where
         I: Drop,
@@ -294,7 +314,7 @@ impl<'s, I> InstructionList<'s, I> {
     }
 }
 
-/// Adds an instruction to a list, with the same refusals.
+/// Adds an instruction to a vector, unless memory runs out or it would have 2^32 of them.
 fn push_within<I: Drop>(list: &mut Vec<I>, instruction: I) -> Result<(), Error<'static>>
     ensures added { OnOk result (list.new.items ≡ list.old.items ++ instruction ∷ []) }
     ensures unchanged { OnErr result (list.new.items ≡ list.old.items) }

@@ -1,5 +1,6 @@
-//! What the code of a template is made of: instructions, and lists of them.
+//! The instructions that templates compile to, and lists of them.
 #![tactic(auto)]
 
+mod display;
 pub mod instructions;
 pub mod lists;

@@ -1,4 +1,4 @@
-//! What makes lists of instructions, for the crates that make code.
+//! Functions that make lists of instructions, for the crates that generate code.
 ghost use Rattle.std.specs.Prelude.{◌≡◌, None};
 ghost use Rattle.minijinja_syntax.specs.Errors as Errors;
 ghost use Rattle.minijinja_syntax.specs.Errors.{kind_of, span_of};
@@ -6,13 +6,13 @@ ghost use Rattle.minijinja_syntax.specs.declared.error.ErrorKind.TheVariants.{To
 ghost use Rattle.minijinja_instructions.specs.InstructionLists.{instructions_of, is_required, name_of, source_of};
 
 use crate::instructions::{Instruction, InstructionList, Instructions};
-use minijinja_base::error::{Detail, Error, ErrorKind};
-use minijinja_base::value::TemplateValue;
+use minijinja_syntax::error::{Detail, Error, ErrorKind};
+use minijinja_value::value::TemplateValue;
 
-/// How many instructions a list may not reach.
+/// The number of instructions that a list does not reach.
 pub const LIMIT: usize = 1 << 32;
 
-/// The refusal of a list that would have 2^32 instructions or more.
+/// The error for a list that would have 2^32 instructions or more.
 pub fn too_many() -> Error<'static>
     ensures kind { kind_of result ≡ TooManyInstructions }
     ensures name { Errors.name_of result ≡ None }
@@ -26,8 +26,8 @@ pub fn too_many() -> Error<'static>
     )
 }
 
-/// A list of these instructions. How many they are is not asked here: who makes code sees to it that they are fewer than
-/// [`LIMIT`].
+/// Makes a list of these instructions. It does not check their number: the caller ensures that they
+/// are fewer than [`LIMIT`].
 pub fn listed<'s, V: TemplateValue>(
     instructions: Vec<Instruction<'s, V>>,
     name: &'s str,

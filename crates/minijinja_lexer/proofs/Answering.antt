@@ -1,4 +1,4 @@
--- What a refusal answers.
+-- What a refusal returns.
 use Rattle.std.proofs.Common.{◌≡◌, refl, ap, sym, ◌∙◌, ⊎_elim, inl, inr, Option}
 use Rattle.std.specs.Prelude.{◌⊎◌, IfErr, MatchResult, None, Result, Ok, Err}
 use Rattle.minijinja_syntax.specs.Errors.{kind_of, span_of, IsOutOfMemory}

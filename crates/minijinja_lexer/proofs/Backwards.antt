@@ -14,7 +14,7 @@ use Rattle.std.proofs.lemmas.List.{reverse-append, get_or-append-add, take-appen
 use Rattle.std.proofs.lemmas.Str.{IsUtf8-take, chars_from_encodes, encodes-chars, encodes-append, chars-nil}
 use Rattle.minijinja_syntax.specs.Texts.{Text}
 
--- the first byte goes on no character
+-- the first byte continues no character
 abbrev IsLed : Text → Type 0
 IsLed bs = 128 ≤ get_or bs 0 0 → 192 ≤ get_or bs 0 0
 

@@ -1,5 +1,5 @@
--- The definitions of a text's tokens, computed on small texts: the tokens of each, where they stand, and the end or the
--- refusal. The right sides are written by hand from the rules, and none is read off the tokenizer.
+-- The tokens of small texts, with their places and the end or the refusal, as the definitions say.
+-- The right sides are written by hand from the rules, and none is read off the tokenizer.
 use Rattle.std.proofs.Common.{◌≡◌, ℕ, ◌^◌, [], ◌∷◌, refl}
 use Rattle.std.specs.Prelude.{true, codes, Some}
 use Rattle.std.specs.Char.{encode_utf8}
@@ -18,12 +18,12 @@ use Rattle.minijinja_lexer.specs.Quoted.{quoted}
 use Rattle.minijinja_lexer.specs.Escapes.{unescaped}
 use Rattle.minijinja_lexer.specs.Whitespace.{tail_len, ends_blank, line_kept_len, kept_len, kept_stop}
 use Rattle.minijinja_lexer.specs.Raw.{word_tag, next_endraw}
-use Rattle.minijinja_lexer.specs.Cut.{end_at, close_at, turn_at, inner_at, next_delimiter, next_line_end, segment_at, cut_at}
+use Rattle.minijinja_lexer.specs.Cut.{end_at, close_at, tag_part_at, inner_at, next_delimiter, next_line_end, segment_at, cut_at}
 use Rattle.minijinja_lexer.specs.TextTokens.{text_of, stream_at, stream_in, tokens_of_template, tokens_of_expression}
 
 -- `unfolding reading` lets `refl` compute the tokens of a text
 reading : Unit {0}
-unfolding tokens_of_template tokens_of_expression text_of stream_at stream_in cut_at segment_at starts_line marker_at next_marker kept_stop kept_len ends_blank line_kept_len tail_len next_delimiter next_line_end word_tag next_endraw inner_at turn_at close_at end_at token_at token_front symbol_front number quoted unescaped unicode_ident chars trim_start trim_end encode_utf8
+unfolding tokens_of_template tokens_of_expression text_of stream_at stream_in cut_at segment_at starts_line marker_at next_marker kept_stop kept_len ends_blank line_kept_len tail_len next_delimiter next_line_end word_tag next_endraw inner_at tag_part_at close_at end_at token_at token_front symbol_front number quoted unescaped unicode_ident chars trim_start trim_end encode_utf8
 reading = tt
 
 -- from a line, a column and an offset to others
@@ -62,7 +62,7 @@ greeting : tokens_of_template default_syntax (codes "Hello {{ name }}!") ≡ rec
 unfolding reading
 greeting = refl
 
--- a - in an end belongs to its span, and the whitespace after it goes
+-- a - in an end belongs to its span, and the whitespace after it is removed
 minus_at_an_end : tokens_of_template default_syntax (codes "{{ name -}}  x") ≡ record {
   tokens =
       (variable_start, on_first_line 0 2)
@@ -83,7 +83,8 @@ minus_at_a_marker : tokens_of_template default_syntax (codes "{{-1}}") ≡ recor
 unfolding reading
 minus_at_a_marker = refl
 
--- the only - of a comment belongs to its marker: the whitespace before it goes, and that after the comment stays
+-- the only - of a comment belongs to its marker: the whitespace before it is removed, and that
+-- after the comment stays
 comment : tokens_of_template default_syntax (codes "a {#-#} b") ≡ record {
   tokens = (template_data (codes "a"), on_first_line 0 1) ∷ (template_data (codes " b"), on_first_line 7 9) ∷ [];
   ending = finished;
@@ -119,7 +120,7 @@ large_integer = refl
 
 -- ---- line ends and whitespace before markers
 
--- trim_blocks: the line end after a block tag goes
+-- trim_blocks: the line end after a block tag is removed
 trimmed : tokens_of_template (record default_syntax { trim_blocks = true }) (codes "{% set a = 1 %}\r\nx") ≡ record {
   tokens =
       (block_start, on_first_line 0 2)
@@ -135,7 +136,8 @@ trimmed : tokens_of_template (record default_syntax { trim_blocks = true }) (cod
 unfolding reading
 trimmed = refl
 
--- lstrip_blocks: a blank line's begin before a block tag goes; a tag that the text's end breaks off just ends
+-- lstrip_blocks: a blank line's begin before a block tag is removed; a tag that the text's end
+-- breaks off just ends
 stripped : tokens_of_template (record default_syntax { lstrip_blocks = true }) (codes "a\n  {% x") ≡ record {
   tokens =
       (template_data (codes "a\n"), from_to 1 0 0 2 0 2)
@@ -161,7 +163,7 @@ plus : tokens_of_template (record default_syntax { trim_blocks = true; lstrip_bl
 unfolding reading
 plus = refl
 
--- the text's last line end goes
+-- the text's last line end is removed
 last_line_end : tokens_of_template default_syntax (codes "a\r\n") ≡ record { tokens = (template_data (codes "a"), on_first_line 0 1) ∷ []; ending = finished }
 unfolding reading
 last_line_end = refl
@@ -176,7 +178,8 @@ kept_line_end = refl
 
 -- ---- raw blocks
 
--- a raw block is one token with the span of the whole text between its tags, of which controls cut whitespace off
+-- a raw block is one token with the span of the whole text between its tags, of which controls cut
+-- whitespace off
 raw_controls : tokens_of_template default_syntax (codes "{% raw -%}  a {%- endraw %}b") ≡ record {
   tokens = (template_data (codes "a"), on_first_line 10 14) ∷ (template_data (codes "b"), on_first_line 27 28) ∷ [];
   ending = finished;
@@ -227,7 +230,7 @@ open_line_statement : tokens_of_template line_syntax (codes "# a(\n") ≡ record
 unfolding reading
 open_line_statement = refl
 
--- of two prefixes at a place the longer counts; a line comment goes with its line end
+-- of two prefixes at a place the longer counts; a line comment is removed with its line end
 line_comment : tokens_of_template line_syntax (codes "## a\n<ul>") ≡ record { tokens = (template_data (codes "<ul>"), from_to 2 0 5 2 4 9) ∷ []; ending = finished }
 unfolding reading
 line_comment = refl

@@ -1,4 +1,4 @@
--- The line rule keeps a part.
+-- The line rule keeps a front part of the data.
 use Rattle.std.proofs.Common.{◌≤◌, Bool, true, false, cond, length, arith}
 use Rattle.std.specs.Prelude.{◌&&◌}
 use Rattle.minijinja_syntax.specs.Texts.{Text}

@@ -1,3 +1,4 @@
+-- The lemmas about tokens.
 pub mod Scanning
 pub mod Escaping
 pub mod Quoting

@@ -30,7 +30,7 @@ absent d text at n p some none l h = ⊎_elim
     (λ f. f)
     (cases_Bool (stands d text p))
 
--- the place that a search from a place on answers
+-- the place that a search from a place on returns
 abbrev pub place_of : (at len : ℕ) → Option ℕ → ℕ
 place_of at len None = len
 place_of at len (Some ahead) = at + ahead

@@ -17,14 +17,14 @@ use Rattle.minijinja_lexer.specs.TokenAt.{token_at}
 use Rattle.minijinja_lexer.specs.Brackets.{opened_by, shut_by}
 use Rattle.minijinja_lexer.specs.Whitespace.{control_at, is_given, body_of, past_space, past_line_space, line_end_len, tail_len}
 use Rattle.minijinja_lexer.specs.Raw.{raw_at, next_endraw}
-use Rattle.minijinja_lexer.specs.Cut.{Inner, Segment, plain, comment, line_comment, raw, tag, unclosed_comment, unclosed_raw, marker_of, stop_of, close_stop, close_over, close_at, end_at, delimited_close, line_close, scanned, token_turn, turn_from, turn_at, inner_at, segment_at, segment_of, tag_at, comment_to, raw_to, block_to, tail_control, cut_at}
+use Rattle.minijinja_lexer.specs.Cut.{Inner, Segment, plain, comment, line_comment, raw, tag, unclosed_comment, unclosed_raw, marker_of, stop_of, close_stop, close_over, close_at, end_at, delimited_close, line_close, scanned, token_part, tag_part_from, tag_part_at, inner_at, segment_at, segment_of, tag_at, comment_to, raw_to, block_to, tail_control, cut_at}
 use Rattle.minijinja_lexer.specs.Relation.{NoEnd, IsLexeme, IsDelimiterClose, IsLineClose, IsClosedAt, IsOver, IsRefused, IsClose, IsInner, IsPlain, IsComment, IsUnclosedComment, IsLineComment, PassesOver, IsRaw, IsUnclosedRaw, IsTag, IsNoRaw, IsSegment, IsCut, IsExpression}
 use Rattle.minijinja_lexer.specs.Controls.{Control, Absent}
 use Rattle.minijinja_lexer.specs.RawBlocks.{RawBlock}
-use Rattle.minijinja_lexer.specs.Faults.{Fault}
+use Rattle.minijinja_lexer.specs.Faults.{LexFault}
 use Rattle.minijinja_lexer.specs.Sorts.{Sort}
 use Rattle.minijinja_lexer.specs.Tags.{Tag, Variable, Block, Line}
-use Rattle.minijinja_lexer.specs.Turns.{Lexeme, Close, Closed, Broken, Refused, Token, End}
+use Rattle.minijinja_lexer.specs.TagParts.{Lexeme, Close, Closed, Broken, Refused, Token, End}
 use Rattle.minijinja_lexer.proofs.Searching.{delimiter_is, no_delimiter_is, line_end_is, endraw-found, endraw-none}
 use Rattle.minijinja_lexer.proofs.OutsideSteps.{marked, plain_at}
 use Rattle.minijinja_lexer.proofs.Within.{behind_within, word_within, word_on}
@@ -34,32 +34,32 @@ use Rattle.minijinja_lexer.proofs.Stops.{inner_stop}
 -- ---- inside a tag
 
 -- where no end is, a token is looked for
-no_end_turn : (s : Syntax) (text : Text) (k : Tag) (o c at : ℕ) → NoEnd s text k o c at → turn_at s text k o c at ≡ token_turn text k (past_space text at)
-unfolding turn_at
-no_end_turn s text k o c at none = either (o == c) refl
+no_end_part : (s : Syntax) (text : Text) (k : Tag) (o c at : ℕ) → NoEnd s text k o c at → tag_part_at s text k o c at ≡ token_part text k (past_space text at)
+unfolding tag_part_at
+no_end_part s text k o c at none = either (o == c) refl
   where
-    either : (t : Bool) → (o == c) ≡ t → turn_from text k at (cond t (close_at s text k at) None) ≡ token_turn text k (past_space text at)
-    either true e = ap (turn_from text k at) (none (eqb-true o c e))
+    either : (t : Bool) → (o == c) ≡ t → tag_part_from text k at (cond t (close_at s text k at) None) ≡ token_part text k (past_space text at)
+    either true e = ap (tag_part_from text k at) (none (eqb-true o c e))
     either false e = refl
 
-within_turn : (text : Text) (k : Tag) (p : ℕ) (r : Result (Sort × ℕ) (Fault × ℕ)) → p < length text → token_at text p ≡ r → token_turn text k p ≡ scanned p r
-within_turn text k p r h e = ap (λ b. cond b (scanned p (token_at text p)) (End (close_over (length text) p k))) (lt-ltb p (length text) h) ∙ ap (scanned p) e
+within_part : (text : Text) (k : Tag) (p : ℕ) (r : Result (Sort × ℕ) (LexFault × ℕ)) → p < length text → token_at text p ≡ r → token_part text k p ≡ scanned p r
+within_part text k p r h e = ap (λ b. cond b (scanned p (token_at text p)) (End (close_over (length text) p k))) (lt-ltb p (length text) h) ∙ ap (scanned p) e
 
-over_turn : (text : Text) (k : Tag) (p : ℕ) → length text ≤ p → token_turn text k p ≡ End (close_over (length text) p k)
-over_turn text k p h = ap (λ b. cond b (scanned p (token_at text p)) (End (close_over (length text) p k))) (le-ltb p (length text) h)
+over_part : (text : Text) (k : Tag) (p : ℕ) → length text ≤ p → token_part text k p ≡ End (close_over (length text) p k)
+over_part text k p h = ap (λ b. cond b (scanned p (token_at text p)) (End (close_over (length text) p k))) (le-ltb p (length text) h)
 
-lexeme_turn : (s : Syntax) (text : Text) (k : Tag) (o c at : ℕ) (l : Lexeme) → IsLexeme s text k o c at l → turn_at s text k o c at ≡ Token l
-lexeme_turn s text k o c at l is =
-    no_end_turn s text k o c at is.no_end ∙ ap (token_turn text k) (sym is.space) ∙ within_turn text k l.start (Ok (l.sort, l.stop)) is.within is.token
+lexeme_part : (s : Syntax) (text : Text) (k : Tag) (o c at : ℕ) (l : Lexeme) → IsLexeme s text k o c at l → tag_part_at s text k o c at ≡ Token l
+lexeme_part s text k o c at l is =
+    no_end_part s text k o c at is.no_end ∙ ap (token_part text k) (sym is.space) ∙ within_part text k l.start (Ok (l.sort, l.stop)) is.within is.token
 
-refused_turn : (s : Syntax) (text : Text) (k : Tag) (o c at start p : ℕ) (f : Fault) → IsRefused s text k o c at start p f → turn_at s text k o c at ≡ End (Refused f start p)
-refused_turn s text k o c at start p f is =
-    no_end_turn s text k o c at is.no_end ∙ ap (token_turn text k) (sym is.space) ∙ within_turn text k start (Err (f, p)) is.within is.token
+refused_part : (s : Syntax) (text : Text) (k : Tag) (o c at start p : ℕ) (f : LexFault) → IsRefused s text k o c at start p f → tag_part_at s text k o c at ≡ End (Refused f start p)
+refused_part s text k o c at start p f is =
+    no_end_part s text k o c at is.no_end ∙ ap (token_part text k) (sym is.space) ∙ within_part text k start (Err (f, p)) is.within is.token
 
 -- an end that stands there
-end_turn : (s : Syntax) (text : Text) (k : Tag) (o c at : ℕ) (close : Close) → o ≡ c → close_at s text k at ≡ Some close → turn_at s text k o c at ≡ End close
-unfolding turn_at
-end_turn s text k o c at close e f = ap (λ t. turn_from text k at (cond t (close_at s text k at) None)) (eq-eqb o c e) ∙ ap (turn_from text k at) f
+end_part : (s : Syntax) (text : Text) (k : Tag) (o c at : ℕ) (close : Close) → o ≡ c → close_at s text k at ≡ Some close → tag_part_at s text k o c at ≡ End close
+unfolding tag_part_at
+end_part s text k o c at close e f = ap (λ t. tag_part_from text k at (cond t (close_at s text k at) None)) (eq-eqb o c e) ∙ ap (tag_part_from text k at) f
 
 delimiter_close_is : (s : Syntax) (text : Text) (m : StartMarker) (at start stop after : ℕ) → IsDelimiterClose s text m at start stop after → delimited_close s text m (past_space text at) (end_at (end_of s m) text (past_space text at)) ≡ Some (Closed start stop after)
 delimiter_close_is s text m at start stop after is =
@@ -102,7 +102,7 @@ past_over text at h = let e : at + 0 ≡ at = omega arith in ap (λ t. at + pref
 
 over_is : (s : Syntax) (text : Text) (k : Tag) (o c at : ℕ) (close : Close) → length text ≤ past_space text at → (at < length text → NoEnd s text k o c at) → close_over (length text) (past_space text at) k ≡ close → inner_at s text k o c at ≡ record { lexemes = []; close = close }
 over_is s text k o c at close h none e = ⊎_elim
-    (λ (l : at < length text). inner_at-end s text k o c at close l (no_end_turn s text k o c at (none l) ∙ over_turn text k (past_space text at) h ∙ ap End e))
+    (λ (l : at < length text). inner_at-end s text k o c at close l (no_end_part s text k o c at (none l) ∙ over_part text k (past_space text at) h ∙ ap End e))
     (λ (l : length text ≤ at). inner_over s text k o c at l ∙ ap (λ n. let i : Inner = record { lexemes = []; close = close_over (length text) n k } in i) (sym (past_over text at l)) ∙ ap (λ x. let i : Inner = record { lexemes = []; close = x } in i) e)
     (cases_lt at (length text))
 
@@ -127,11 +127,11 @@ broken_none s text Line at built n h = absurd (n refl)
 
 close_is : (s : Syntax) (text : Text) (k : Tag) (o c at : ℕ) (close : Close) → IsBuildable s → IsClose s text k o c at close → inner_at s text k o c at ≡ record { lexemes = []; close = close }
 close_is s text k o c at (Closed start stop after) built is = ⊎_elim
-    (λ (x : (at < length text) × (o ≡ c) × IsClosedAt s text k at start stop after). inner_at-end s text k o c at (Closed start stop after) x.0 (end_turn s text k o c at (Closed start stop after) x.1 (closed_at_is s text k at start stop after x.2)))
+    (λ (x : (at < length text) × (o ≡ c) × IsClosedAt s text k at start stop after). inner_at-end s text k o c at (Closed start stop after) x.0 (end_part s text k o c at (Closed start stop after) x.1 (closed_at_is s text k at start stop after x.2)))
     (λ (x : IsOver text k at start stop after × (at < length text → NoEnd s text k o c at)).
     over_is s text k o c at (Closed start stop after) x.0.none_left x.1 (line_over (length text) (past_space text at) start stop after k x.0.kind x.0.start_is x.0.stop_is x.0.after_is))
     is
-close_is s text k o c at (Refused f start p) built is = inner_at-end s text k o c at (Refused f start p) is.0 (refused_turn s text k o c at start p f is.1)
+close_is s text k o c at (Refused f start p) built is = inner_at-end s text k o c at (Refused f start p) is.0 (refused_part s text k o c at start p f is.1)
 close_is s text k o c at Broken built is = over_is s text k o c at Broken is.none_left (λ _ _. broken_none s text k at built is.kind is.none_left) (not_line (length text) (past_space text at) k is.kind)
 
 lexeme_inside : (s : Syntax) (text : Text) (k : Tag) (o c at : ℕ) (l : Lexeme) → IsLexeme s text k o c at l → (at < length text) × (at < l.stop)
@@ -141,7 +141,7 @@ pub inner_is : (s : Syntax) (text : Text) (k : Tag) (o c at : ℕ) (ls : List Le
 inner_is s text k o c at [] close built is = close_is s text k o c at close built is
 inner_is s text k o c at (l ∷ ls) close built is =
     let m = lexeme_inside s text k o c at l is.0 in
-    inner_at-token s text k o c at l m.0 m.1 (lexeme_turn s text k o c at l is.0)
+    inner_at-token s text k o c at l m.0 m.1 (lexeme_part s text k o c at l is.0)
     ∙ ap (λ (i : Inner). let j : Inner = record { lexemes = l ∷ i.lexemes; close = i.close } in j) (inner_is s text k (o + opened_by l.sort) (c + shut_by l.sort) l.stop ls close built is.1)
 
 -- ---- segments

@@ -20,7 +20,7 @@ use Rattle.minijinja_lexer.specs.Slices.{AreInOrder}
 use Rattle.minijinja_lexer.specs.Controls.{Control, Absent, Remove, Preserve}
 use Rattle.minijinja_lexer.specs.RawBlocks.{RawBlock}
 use Rattle.minijinja_lexer.specs.Tags.{Tag, Variable, Block, Line}
-use Rattle.minijinja_lexer.specs.Turns.{Lexeme, Close, Closed, Broken, Refused}
+use Rattle.minijinja_lexer.specs.TagParts.{Lexeme, Close, Closed, Broken, Refused}
 use Rattle.minijinja_lexer.proofs.Stops.{end_forward}
 use Rattle.minijinja_lexer.proofs.Within.{word_on}
 use Rattle.minijinja_lexer.proofs.OneCut.{body_within, passes_on}
@@ -56,7 +56,8 @@ kept_places s text start stop h w = by_marker (marker_at s text stop)
 
 -- ---- tags
 
--- what comes after the end of a tag is in order from there, and after a tag with no end comes nothing
+-- what comes after the end of a tag is in order from there, and after a tag with no end comes
+-- nothing
 Behind : Close → List SpannedTok → Type 0
 Behind (Closed start stop after) later = AreInOrder stop later
 Behind Broken later = later ≡ []

@@ -13,7 +13,7 @@ use Rattle.minijinja_syntax.specs.declared.syntax.StartMarker.{StartMarker}
 use Rattle.minijinja_syntax.proofs.Finding.{none_past}
 use Rattle.minijinja_syntax.proofs.Walking.{next_marker-here, next_marker-within, next_marker-stops}
 use Rattle.minijinja_syntax.specs.Streams.{before, ended, refused}
-use Rattle.minijinja_lexer.specs.Faults.{fault_kind, Fault}
+use Rattle.minijinja_lexer.specs.Faults.{fault_kind, LexFault}
 use Rattle.minijinja_lexer.specs.private.Place.{Place}
 use Rattle.minijinja_lexer.specs.Whitespace.{kept_stop, kept_before, body_of, control_len, control_behind}
 use Rattle.minijinja_lexer.specs.Cut.{inner_at, plain, comment, line_comment, tag, unclosed_comment, unclosed_raw, segment_of, segment_at}
@@ -136,7 +136,7 @@ outside_skipped s text at stop p h is g = ⊎_elim
     (λ (c : Is s text at (line_comment at stop) stop). stream_at-line_comment s text at stop h c.moves c.segment ∙ at_place s text stop p g)
     is
 
-pub outside_unclosed : (s : Syntax) (text : Text) (at : ℕ) (f : Fault) (span : Span) → at < length text → IsUnclosed s text at f → span ≡ refusal_span text (length text) → stream_at s text at ≡ ended (refused (fault_kind f) (Some span))
+pub outside_unclosed : (s : Syntax) (text : Text) (at : ℕ) (f : LexFault) (span : Span) → at < length text → IsUnclosed s text at f → span ≡ refusal_span text (length text) → stream_at s text at ≡ ended (refused (fault_kind f) (Some span))
 outside_unclosed s text at f span h is e = ⊎_elim
     (λ (c : (f ≡ fault.UnclosedComment) × (segment_at s text at ≡ unclosed_comment at)).
     stream_at-unclosed_comment s text at h c.1 ∙ ap (λ x. ended (refused SyntaxError (Some x))) (sym e) ∙ ap (λ f. ended (refused (fault_kind f) (Some span))) (sym c.0))

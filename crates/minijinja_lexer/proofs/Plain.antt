@@ -1,4 +1,4 @@
--- Over plain text the line stays, and the column goes on by bytes.
+-- Over plain text the line stays, and the column moves by bytes.
 use Rattle.std.proofs.Common.{◌≡◌, ℕ, ◌+◌, ◌-◌, ◌<◌, ◌≤◌, length, take, drop, get_or, min, ap, sym, ◌∙◌, arith, None, get_or-drop, length-drop, inl, inr}
 use Rattle.std.specs.Str.{IsAscii}
 use Rattle.std.proofs.lemmas.Bool.{cases_lt}

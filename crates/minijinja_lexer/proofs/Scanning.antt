@@ -42,7 +42,7 @@ ascii_run p bs low u le = at_end (prefix_len p bs) refl
 pub space_low : (b : ℕ) → is_ascii_whitespace b ≡ true → b < 128
 space_low b h = grind (arith, nat_tests)
 
--- len bytes of the text are characters that a name goes on with, and rest follows
+-- len bytes of the text are characters that continue a name, and rest follows
 pub record NameRun (text : Text) (len : ℕ) (rest : Text) : Type 0 where
   pub counted : len + name_len (chars rest) ≡ name_len (chars text)
   pub there : drop len text ≡ rest
@@ -52,7 +52,7 @@ pub record NameRun (text : Text) (len : ℕ) (rest : Text) : Type 0 where
 small_letter : (b : ℕ) → is_ascii_lowercase b ≡ true → (is_ascii_alphanumeric b || (b == 95)) ≡ true
 small_letter b h = grind (arith, nat_tests, h)
 
--- an ASCII byte that a name goes on with
+-- an ASCII byte that continues a name
 pub ascii_continues : (b : ℕ) → (is_ascii_alphanumeric b || (b == 95)) ≡ (nat_lt b 128 && continues_name b)
 ascii_continues b = ⊎_elim
     (λ (l : b < 128). sym (ap (λ t. t && continues_name b) (lt-ltb b 128 l) ∙ ap (λ t. t || (b == 95)) (is_xid_continue-ascii b l) ∙ twice (is_ascii_alphanumeric b) (b == 95)))
@@ -90,7 +90,7 @@ name_stop text len rest after c run e h =
     let name_is : name_len (chars rest) ≡ 0 = ap name_len (chars_past_char rest after c run.utf8 e) ∙ name_none c (chars after) h in
     omega (arith, name_is, run.counted)
 
--- the same at an ASCII byte
+-- an ASCII byte is a character of its own
 ascii_front : (text : Text) (len : ℕ) → len < length text → get_or text len 0 < 128 → drop len text ≡ encode_utf8 (get_or text len 0) ++ drop (len + 1) text
 ascii_front text len h low =
     let e : suc len ≡ len + 1 = omega arith in

@@ -26,7 +26,7 @@ use Rattle.minijinja_lexer.specs.Symbols as symbols
 use Rattle.minijinja_lexer.specs.Sorts.{Sort}
 use Rattle.minijinja_lexer.specs.Sorts as sort
 use Rattle.minijinja_lexer.specs.Tags.{Tag, Variable, Block, Line}
-use Rattle.minijinja_lexer.specs.Turns.{Lexeme, Close, Closed, Broken, Refused}
+use Rattle.minijinja_lexer.specs.TagParts.{Lexeme, Close, Closed, Broken, Refused}
 use Rattle.minijinja_lexer.proofs.Tokens.{string_means}
 use Rattle.minijinja_lexer.proofs.Within.{tail_within}
 use Rattle.minijinja_lexer.proofs.Kept.{line_kept_within}

@@ -1,4 +1,4 @@
--- The cut as a function is a cut.
+-- The computed cut is a cut of the text.
 use Rattle.std.proofs.Common.{◌≡◌, ℕ, zero, suc, ◌+◌, ◌<◌, ◌≤◌, Bool, true, false, cond, List, [], ◌∷◌, ◌==◌, length, drop, refl, ap, sym, ◌∙◌, arith, subst, Option, Some, None, Result, Ok, Err, ⊎_elim, inl, inr, length-drop}
 use Rattle.std.specs.Prelude.{is_some, nat_lt, ◌||◌, codes}
 use Rattle.std.proofs.lemmas.Bool.{cases_lt, lt-ltb, le-ltb, eqb-true, ltb-true, eq-eqb}
@@ -15,46 +15,46 @@ use Rattle.minijinja_lexer.specs.TokenAt.{token_at}
 use Rattle.minijinja_lexer.specs.Brackets.{opened_by, shut_by}
 use Rattle.minijinja_lexer.specs.Whitespace.{body_of, past_space, past_line_space, line_end_len, tail_len}
 use Rattle.minijinja_lexer.specs.Raw.{raw_at, endraw_at, next_endraw, or_later}
-use Rattle.minijinja_lexer.specs.Cut.{Inner, Segment, plain, comment, line_comment, raw, tag, unclosed_comment, unclosed_raw, marker_of, stop_of, close_stop, close_over, close_at, end_at, delimited_close, line_close, scanned, token_turn, turn_from, turn_at, inner_at, segment_at, segment_of, tag_at, comment_at, line_comment_at, raw_to, block_to, next_delimiter, next_line_end, tail_control, cut_at}
+use Rattle.minijinja_lexer.specs.Cut.{Inner, Segment, plain, comment, line_comment, raw, tag, unclosed_comment, unclosed_raw, marker_of, stop_of, close_stop, close_over, close_at, end_at, delimited_close, line_close, scanned, token_part, tag_part_from, tag_part_at, inner_at, segment_at, segment_of, tag_at, comment_at, line_comment_at, raw_to, block_to, next_delimiter, next_line_end, tail_control, cut_at}
 use Rattle.minijinja_lexer.specs.Relation.{NoEnd, IsLexeme, IsDelimiterClose, IsLineClose, IsClosedAt, IsOver, IsClose, IsInner, IsPlain, IsComment, IsUnclosedComment, PassesOver, IsRaw, IsNoRaw, IsSegment, IsCut, IsAbsent, IsFirst}
 use Rattle.minijinja_lexer.specs.Controls.{Control}
 use Rattle.minijinja_lexer.specs.RawBlocks.{RawBlock}
 use Rattle.minijinja_lexer.specs.Sorts.{Sort}
-use Rattle.minijinja_lexer.specs.Faults.{Fault}
+use Rattle.minijinja_lexer.specs.Faults.{LexFault}
 use Rattle.minijinja_lexer.specs.Tags.{Tag, Variable, Block, Line}
-use Rattle.minijinja_lexer.specs.Turns.{Lexeme, Close, Closed, Broken, Refused, Turn, Token, End}
+use Rattle.minijinja_lexer.specs.TagParts.{Lexeme, Close, Closed, Broken, Refused, TagPart, Token, End}
 use Rattle.minijinja_lexer.proofs.Tokens.{token_is}
 use Rattle.minijinja_lexer.proofs.Within.{line_end_within, tail_within, word_within, past_line_space_within, delimited_within}
 use Rattle.minijinja_lexer.proofs.Searching.{delimiter-before, delimiter-within, delimiter-stops, line_end-before, line_end-within, line_end-stops, endraw-found, endraw-none, endraw-over}
 use Rattle.minijinja_lexer.proofs.OneCut.{segment_moves, body_within, past_over}
 use Rattle.minijinja_lexer.proofs.Steps.{inner_at-token, inner_at-end, inner_over, cut_step, cut_over}
 
--- ---- turns
+-- ---- parts of tags
 
-TurnIs : Syntax → Text → Tag → (opened shut at : ℕ) → Turn → Type 0
-TurnIs s text k o c at (Token l) = IsLexeme s text k o c at l
-TurnIs s text k o c at (End close) = IsClose s text k o c at close
+TagPartIs : Syntax → Text → Tag → (opened shut at : ℕ) → TagPart → Type 0
+TagPartIs s text k o c at (Token l) = IsLexeme s text k o c at l
+TagPartIs s text k o c at (End close) = IsClose s text k o c at close
 
 over_closes : (s : Syntax) (text : Text) (k : Tag) (o c at : ℕ) → length text ≤ past_space text at → (at < length text → NoEnd s text k o c at) → IsClose s text k o c at (close_over (length text) (past_space text at) k)
 over_closes s text Variable o c at h n = record { kind = λ e. cc; none_left = h }
 over_closes s text Block o c at h n = record { kind = λ e. cc; none_left = h }
 over_closes s text Line o c at h n = inr (record { kind = refl; none_left = h; start_is = refl; stop_is = refl; after_is = refl }, n)
 
-scanned_holds : (s : Syntax) (text : Text) (k : Tag) (o c at : ℕ) (r : Result (Sort × ℕ) (Fault × ℕ)) → at < length text → past_space text at < length text → NoEnd s text k o c at → token_at text (past_space text at) ≡ r → TurnIs s text k o c at (scanned (past_space text at) r)
-unfolding TurnIs
+scanned_holds : (s : Syntax) (text : Text) (k : Tag) (o c at : ℕ) (r : Result (Sort × ℕ) (LexFault × ℕ)) → at < length text → past_space text at < length text → NoEnd s text k o c at → token_at text (past_space text at) ≡ r → TagPartIs s text k o c at (scanned (past_space text at) r)
+unfolding TagPartIs
 scanned_holds s text k o c at (Ok r) h w n t = record { space = refl; within = w; no_end = n; some = (token_is text (past_space text at) r.1 r.0 t).some; token = t }
 scanned_holds s text k o c at (Err r) h w n t = (h, record { space = refl; within = w; no_end = n; token = t })
 
-token_holds : (s : Syntax) (text : Text) (k : Tag) (o c at : ℕ) → at < length text → NoEnd s text k o c at → TurnIs s text k o c at (token_turn text k (past_space text at))
-unfolding TurnIs
+token_holds : (s : Syntax) (text : Text) (k : Tag) (o c at : ℕ) → at < length text → NoEnd s text k o c at → TagPartIs s text k o c at (token_part text k (past_space text at))
+unfolding TagPartIs
 token_holds s text k o c at h n =
     let p : ℕ = past_space text at in
     ⊎_elim
     (λ (l : p < length text).
-    subst (TurnIs s text k o c at) (ap (λ b. cond b (scanned p (token_at text p)) (End (close_over (length text) p k))) (sym (lt-ltb p (length text) l)))
+    subst (TagPartIs s text k o c at) (ap (λ b. cond b (scanned p (token_at text p)) (End (close_over (length text) p k))) (sym (lt-ltb p (length text) l)))
     (scanned_holds s text k o c at (token_at text p) h l n refl))
     (λ (l : length text ≤ p).
-    subst (TurnIs s text k o c at) (ap (λ b. cond b (scanned p (token_at text p)) (End (close_over (length text) p k))) (sym (le-ltb p (length text) l)))
+    subst (TagPartIs s text k o c at) (ap (λ b. cond b (scanned p (token_at text p)) (End (close_over (length text) p k))) (sym (le-ltb p (length text) l)))
     (over_closes s text k o c at l (λ _. n)))
     (cases_lt p (length text))
 
@@ -91,27 +91,27 @@ close_holds s text Variable at close e = delimiter_holds s text markers.Variable
 close_holds s text Block at close e = delimiter_holds s text markers.Block at (past_space text at) _ close refl refl e
 close_holds s text Line at close e = line_holds text at close e
 
-balanced_holds : (s : Syntax) (text : Text) (k : Tag) (o c at : ℕ) (x : Option Close) → at < length text → o ≡ c → close_at s text k at ≡ x → TurnIs s text k o c at (turn_from text k at x)
-unfolding TurnIs
+balanced_holds : (s : Syntax) (text : Text) (k : Tag) (o c at : ℕ) (x : Option Close) → at < length text → o ≡ c → close_at s text k at ≡ x → TagPartIs s text k o c at (tag_part_from text k at x)
+unfolding TagPartIs
 balanced_holds s text k o c at None h e f = token_holds s text k o c at h (λ _. f)
 balanced_holds s text k o c at (Some close) h e f =
     let r = close_holds s text k at close f in
     subst (IsClose s text k o c at) (sym r.3) (inl (h, e, r.4))
 
-turn_holds : (s : Syntax) (text : Text) (k : Tag) (o c at : ℕ) → at < length text → TurnIs s text k o c at (turn_at s text k o c at)
-unfolding turn_at
-turn_holds s text k o c at h = either (o == c) refl
+tag_part_holds : (s : Syntax) (text : Text) (k : Tag) (o c at : ℕ) → at < length text → TagPartIs s text k o c at (tag_part_at s text k o c at)
+unfolding tag_part_at
+tag_part_holds s text k o c at h = either (o == c) refl
   where
-    either : (t : Bool) → (o == c) ≡ t → TurnIs s text k o c at (turn_from text k at (cond t (close_at s text k at) None))
+    either : (t : Bool) → (o == c) ≡ t → TagPartIs s text k o c at (tag_part_from text k at (cond t (close_at s text k at) None))
     either true e = balanced_holds s text k o c at (close_at s text k at) h (eqb-true o c e) refl
     either false e = token_holds s text k o c at h (λ f. let g : true ≡ false = sym (eq-eqb o c f) ∙ e in cc)
 
 InnerIs : Syntax → Text → Tag → (opened shut at : ℕ) → Inner → Type 0
 InnerIs s text k o c at i = IsInner s text k o c at i.lexemes i.close
 
-inner_by : (s : Syntax) (text : Text) (k : Tag) (o c at : ℕ) (t : Turn) → at < length text → turn_at s text k o c at ≡ t → TurnIs s text k o c at t
+inner_by : (s : Syntax) (text : Text) (k : Tag) (o c at : ℕ) (t : TagPart) → at < length text → tag_part_at s text k o c at ≡ t → TagPartIs s text k o c at t
     → ((l : Lexeme) → at < l.stop → InnerIs s text k (o + opened_by l.sort) (c + shut_by l.sort) l.stop (inner_at s text k (o + opened_by l.sort) (c + shut_by l.sort) l.stop)) → InnerIs s text k o c at (inner_at s text k o c at)
-unfolding TurnIs InnerIs
+unfolding TagPartIs InnerIs
 inner_by s text k o c at (Token l) h e is next =
     let m : at < l.stop = let a = is.space in let b = is.some in omega arith in
     subst (InnerIs s text k o c at) (sym (inner_at-token s text k o c at l h m e)) (is, next l m)
@@ -124,7 +124,7 @@ over_holds s text k o c at h = subst (InnerIs s text k o c at) (sym (inner_over 
 inner_from_holds : (n : ℕ) (s : Syntax) (text : Text) (k : Tag) (o c at : ℕ) → length text ≤ at + n → InnerIs s text k o c at (inner_at s text k o c at)
 inner_from_holds zero s text k o c at le = over_holds s text k o c at (omega arith)
 inner_from_holds (suc n) s text k o c at le = ⊎_elim
-    (λ (h : at < length text). inner_by s text k o c at _ h refl (turn_holds s text k o c at h) (λ l m. inner_from_holds n s text k (o + opened_by l.sort) (c + shut_by l.sort) l.stop (omega (arith, le, m))))
+    (λ (h : at < length text). inner_by s text k o c at _ h refl (tag_part_holds s text k o c at h) (λ l m. inner_from_holds n s text k (o + opened_by l.sort) (c + shut_by l.sort) l.stop (omega (arith, le, m))))
     (λ (h : length text ≤ at). over_holds s text k o c at h)
     (cases_lt at (length text))
 

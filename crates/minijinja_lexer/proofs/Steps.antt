@@ -6,11 +6,11 @@ use Rattle.minijinja_syntax.specs.Syntax.{Syntax}
 use Rattle.minijinja_syntax.specs.Positions.{span_at}
 use Rattle.minijinja_syntax.specs.Streams.{Stream, before, ended, finished}
 use Rattle.minijinja_lexer.specs.Brackets.{opened_by, shut_by}
-use Rattle.minijinja_lexer.specs.Cut.{close_over, Inner, Segment, inner_from, inner_at, turn_at, go_on, cut_from, cut_at, segment_at, stop_of, close_stop, plain, comment, line_comment, raw, tag, unclosed_comment, unclosed_raw}
+use Rattle.minijinja_lexer.specs.Cut.{close_over, Inner, Segment, inner_from, inner_at, tag_part_at, go_on, cut_from, cut_at, segment_at, stop_of, close_stop, plain, comment, line_comment, raw, tag, unclosed_comment, unclosed_raw}
 use Rattle.minijinja_lexer.specs.TextTokens.{stream_at, stream_of, stream_in, close_stream, lexeme_token, segment_tokens, refusal, token_refusal, start_tok, end_tok}
 use Rattle.minijinja_lexer.specs.RawBlocks.{RawBlock}
 use Rattle.minijinja_lexer.specs.Tags.{Tag}
-use Rattle.minijinja_lexer.specs.Turns.{Lexeme, Close, Closed, Broken, Refused, Token, End}
+use Rattle.minijinja_lexer.specs.TagParts.{Lexeme, Close, Closed, Broken, Refused, Token, End}
 
 -- ---- inside a tag
 
@@ -29,7 +29,7 @@ inner_to s text k o c at stop h =
     ∙ ap (inner_from s text k o c stop 0) (drop-drop (stop - (at + 1)) (suc at) text ∙ ap (λ n. drop n text) f)
 
 pub inner_step : (s : Syntax) (text : Text) (k : Tag) (o c at : ℕ) → at < length text →
-    inner_at s text k o c at ≡ go_on (turn_at s text k o c at) (λ l. inner_from s text k (o + opened_by l.sort) (c + shut_by l.sort) (at + 1) (l.stop - (at + 1)) (drop (suc at) text))
+    inner_at s text k o c at ≡ go_on (tag_part_at s text k o c at) (λ l. inner_from s text k (o + opened_by l.sort) (c + shut_by l.sort) (at + 1) (l.stop - (at + 1)) (drop (suc at) text))
 unfolding inner_at
 inner_step s text k o c at h = ap (inner_from s text k o c at 0) (drop-cons text at 0 h)
 
@@ -39,26 +39,26 @@ inner_over s text k o c at h =
     let e : at + 0 ≡ at = omega arith in
     ap (inner_from s text k o c at 0) (drop_all at text h) ∙ ap (λ n. let i : Inner = record { lexemes = []; close = close_over (length text) n k } in i) e
 
-pub inner_at-token : (s : Syntax) (text : Text) (k : Tag) (o c at : ℕ) (l : Lexeme) → at < length text → at < l.stop → turn_at s text k o c at ≡ Token l →
+pub inner_at-token : (s : Syntax) (text : Text) (k : Tag) (o c at : ℕ) (l : Lexeme) → at < length text → at < l.stop → tag_part_at s text k o c at ≡ Token l →
     inner_at s text k o c at ≡ go_on (Token l) (λ _. inner_at s text k (o + opened_by l.sort) (c + shut_by l.sort) l.stop)
 inner_at-token s text k o c at l h m e =
     inner_step s text k o c at h
     ∙ ap (λ t. go_on t (λ l. inner_from s text k (o + opened_by l.sort) (c + shut_by l.sort) (at + 1) (l.stop - (at + 1)) (drop (suc at) text))) e
     ∙ ap (λ i. go_on (Token l) (λ _. i)) (inner_to s text k (o + opened_by l.sort) (c + shut_by l.sort) at l.stop m)
 
-pub inner_at-end : (s : Syntax) (text : Text) (k : Tag) (o c at : ℕ) (close : Close) → at < length text → turn_at s text k o c at ≡ End close → inner_at s text k o c at ≡ record { lexemes = []; close = close }
+pub inner_at-end : (s : Syntax) (text : Text) (k : Tag) (o c at : ℕ) (close : Close) → at < length text → tag_part_at s text k o c at ≡ End close → inner_at s text k o c at ≡ record { lexemes = []; close = close }
 inner_at-end s text k o c at close h e =
     inner_step s text k o c at h
     ∙ ap (λ t. go_on t (λ l. inner_from s text k (o + opened_by l.sort) (c + shut_by l.sort) (at + 1) (l.stop - (at + 1)) (drop (suc at) text))) e
 
 -- a token
-pub stream_in-token : (s : Syntax) (text : Text) (k : Tag) (behind : ℕ → ℕ → Stream) (o c at : ℕ) (l : Lexeme) → at < length text → at < l.stop → turn_at s text k o c at ≡ Token l →
+pub stream_in-token : (s : Syntax) (text : Text) (k : Tag) (behind : ℕ → ℕ → Stream) (o c at : ℕ) (l : Lexeme) → at < length text → at < l.stop → tag_part_at s text k o c at ≡ Token l →
     stream_in s text k behind o c at ≡ before (lexeme_token text l ∷ []) (stream_in s text k behind (o + opened_by l.sort) (c + shut_by l.sort) l.stop)
 unfolding stream_in
 stream_in-token s text k behind o c at l h m e = ap (λ i. before (map (lexeme_token text) i.lexemes) (close_stream text k behind i.close)) (inner_at-token s text k o c at l h m e)
 
 -- an end
-pub stream_in-end : (s : Syntax) (text : Text) (k : Tag) (behind : ℕ → ℕ → Stream) (o c at : ℕ) (close : Close) → at < length text → turn_at s text k o c at ≡ End close →
+pub stream_in-end : (s : Syntax) (text : Text) (k : Tag) (behind : ℕ → ℕ → Stream) (o c at : ℕ) (close : Close) → at < length text → tag_part_at s text k o c at ≡ End close →
     stream_in s text k behind o c at ≡ close_stream text k behind close
 unfolding stream_in
 stream_in-end s text k behind o c at close h e = ap (λ i. before (map (lexeme_token text) i.lexemes) (close_stream text k behind i.close)) (inner_at-end s text k o c at close h e)

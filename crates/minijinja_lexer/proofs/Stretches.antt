@@ -1,4 +1,4 @@
--- Positions, a whole stretch on.
+-- Lines and columns after a whole stretch.
 use Rattle.std.proofs.Common.{◌≡◌, ℕ, zero, suc, ◌+◌, ◌-◌, ◌<◌, ◌≤◌, Bool, true, false, cond, [], ◌∷◌, ◌++◌, length, take, drop, get_or, min, refl, ap, sym, ◌∙◌, arith, append_assoc, count_by, get_or-drop, length-drop, Some, None, ⊎_elim}
 use Rattle.std.specs.Prelude.{◌||◌, not, nat_lt}
 use Rattle.std.specs.Str.{IsAscii}

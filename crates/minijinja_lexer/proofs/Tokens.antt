@@ -18,18 +18,18 @@ use Rattle.minijinja_lexer.specs.TokenAt.{token_at, token_front, symbol_or, word
 use Rattle.minijinja_lexer.specs.Symbols.{Symbol}
 use Rattle.minijinja_lexer.specs.Sorts.{Sort}
 use Rattle.minijinja_lexer.specs.Sorts as sort
-use Rattle.minijinja_lexer.specs.Faults.{Fault, FloatLiteral}
+use Rattle.minijinja_lexer.specs.Faults.{LexFault, FloatLiteral}
 
 -- the inside of such a string means something
 abbrev pub Means : Text → ℕ → Sort → Type 0
 Means text n sort.String = is_some (unescaped (take (n - 2) (drop 1 text))) ≡ true
 Means text n _ = Unit {0}
 
-pub Good : Text → Result (Sort × ℕ) (Fault × ℕ) → Type 0
+pub Good : Text → Result (Sort × ℕ) (LexFault × ℕ) → Type 0
 Good text (Ok r) = (0 < r.1) × Means text r.1 r.0
 Good text (Err f) = Unit {0}
 
-choose : (text : Text) (b : Bool) (x y : Result (Sort × ℕ) (Fault × ℕ)) → (b ≡ true → Good text x) → (b ≡ false → Good text y) → Good text (cond b x y)
+choose : (text : Text) (b : Bool) (x y : Result (Sort × ℕ) (LexFault × ℕ)) → (b ≡ true → Good text x) → (b ≡ false → Good text y) → Good text (cond b x y)
 choose text true x y f g = f refl
 choose text false x y f g = g refl
 
@@ -96,7 +96,7 @@ sort_good text value n h = either (nat_lt value (2 ^ 64))
     either true = (h, tt)
     either false = (h, tt)
 
-length_good : (text : Text) (n : ℕ) (v : Result ℕ Fault) → 0 < n → Good text (integer (with_length n v))
+length_good : (text : Text) (n : ℕ) (v : Result ℕ LexFault) → 0 < n → Good text (integer (with_length n v))
 unfolding Good
 length_good text n (Ok value) h = sort_good text value n h
 length_good text n (Err f) h = tt
@@ -118,7 +118,7 @@ word_good behind_dot text =
     choose text (is_ascii_digit (slice_index text 0)) _ _ (λ h. number_good behind_dot text h) (λ _.
     choose text (begins_name (chars text)) _ _ (λ h. (name_some (chars text) h, tt)) (λ _. tt)))
 
-or_good : (text : Text) (x y : Option Symbol) (r : Result (Sort × ℕ) (Fault × ℕ)) → Good text r → Good text (symbol_or (longer_symbol x y) r)
+or_good : (text : Text) (x y : Option Symbol) (r : Result (Sort × ℕ) (LexFault × ℕ)) → Good text r → Good text (symbol_or (longer_symbol x y) r)
 unfolding Good
 or_good text (Some a) y r h = (lit< tt, tt)
 or_good text None (Some b) r h = (lit< tt, tt)
@@ -128,16 +128,16 @@ front_good : (behind_dot : Bool) (text : Text) → Good text (token_front behind
 unfolding token_front symbol_front
 front_good behind_dot text = or_good text (long_symbol (slice_index text 0) (slice_index text 1)) (short_symbol (slice_index text 0)) (word_front behind_dot text) (word_good behind_dot text)
 
--- the same at a place
+-- a token at a place
 pub record IsToken (text : Text) (at stop : ℕ) (s : Sort) : Type 0 where
   pub some : at < stop
   pub means : Means (drop at text) (stop - at) s
 
-pub IsTokenAt : Text → ℕ → Result (Sort × ℕ) (Fault × ℕ) → Type 0
+pub IsTokenAt : Text → ℕ → Result (Sort × ℕ) (LexFault × ℕ) → Type 0
 IsTokenAt text at (Ok r) = IsToken text at r.1 r.0
 IsTokenAt text at (Err f) = Unit {0}
 
-place_good : (text : Text) (at : ℕ) (r : Result (Sort × ℕ) (Fault × ℕ)) → Good (drop at text) r → IsTokenAt text at (placed at r)
+place_good : (text : Text) (at : ℕ) (r : Result (Sort × ℕ) (LexFault × ℕ)) → Good (drop at text) r → IsTokenAt text at (placed at r)
 unfolding Good IsTokenAt
 place_good text at (Ok r) h = let e : at + r.1 - at ≡ r.1 = omega arith in record { some = omega arith; means = subst (λ n. Means (drop at text) n r.0) (sym e) h.1 }
 place_good text at (Err f) h = tt

@@ -1,4 +1,4 @@
--- Bytes that count inside a tag, by name.
+-- Names for bytes that have a meaning inside a tag.
 use Rattle.std.specs.Prelude.{ℕ}
 
 -- `-`

@@ -1,4 +1,4 @@
--- What a column counts.
+-- What a column counts: characters since the last newline.
 use Rattle.std.specs.Prelude.{ℕ, not}
 use Rattle.std.specs.List.{suffix_len}
 use Rattle.std.specs.Str.{chars}

@@ -1,4 +1,4 @@
--- What a `-` or `+` at a marker asks of the whitespace beside it.
+-- What a `-` or `+` at a marker says about the whitespace beside it.
 
 pub data Control : Type 0 where
   Absent : Control

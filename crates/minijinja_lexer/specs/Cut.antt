@@ -12,9 +12,9 @@ use Rattle.minijinja_lexer.specs.Raw.{raw_at, next_endraw, raw_block}
 use Rattle.minijinja_lexer.specs.Controls.{Control, Absent}
 use Rattle.minijinja_lexer.specs.RawBlocks.{RawBlock}
 use Rattle.minijinja_lexer.specs.Sorts.{Sort}
-use Rattle.minijinja_lexer.specs.Faults.{Fault}
+use Rattle.minijinja_lexer.specs.Faults.{LexFault}
 use Rattle.minijinja_lexer.specs.Tags.{Tag, Variable, Block, Line}
-use Rattle.minijinja_lexer.specs.Turns.{Lexeme, Close, Closed, Broken, Refused, Turn, Token, End}
+use Rattle.minijinja_lexer.specs.TagParts.{Lexeme, Close, Closed, Broken, Refused, TagPart, Token, End}
 
 -- what begins the tag
 abbrev pub marker_of : Tag → StartMarker
@@ -24,14 +24,16 @@ marker_of Line = marker.LineStatement
 
 -- ---- inside a tag
 
--- the control of an end delimiter at a place, and where the delimiter ends: first with a control before it, then without
+-- the control of an end delimiter at a place, and where the delimiter ends: first with a control
+-- before it, then without
 unfoldable pub end_at : (delimiter : Text) → Text → ℕ → Option (Control × ℕ)
 end_at delimiter text at =
     if is_given (control_at text at) && stands delimiter text (at + 1) then Some (control_at text at, at + 1 + length delimiter)
     else if stands delimiter text at then Some (Absent, at + length delimiter)
     else None
 
--- the end of a tag at a place, from the control of the end delimiter that stands there and where that ends; none without one
+-- the end of a tag at a place, from the control of the end delimiter that stands there and where
+-- that ends; none without one
 abbrev pub delimited_close : Syntax → Text → StartMarker → ℕ → Option (Control × ℕ) → Option Close
 delimited_close s text m at None = None
 delimited_close s text m at (Some end) = Some (Closed at end.1 (end.1 + tail_len s m end.0 (drop end.1 text)))
@@ -53,30 +55,31 @@ close_at s text Variable at = delimiter_close s text marker.Variable at
 close_at s text Block at = delimiter_close s text marker.Block at
 close_at s text Line at = line_close text at
 
--- a text of that length is over after a place: that ends a line statement, and breaks another tag off
+-- a text of that length is over after a place: that ends a line statement, and breaks another tag
+-- off
 abbrev pub close_over : (len place : ℕ) → Tag → Close
 close_over len place Variable = Broken
 close_over len place Block = Broken
 close_over len place Line = Closed place place len
 
 -- a token at the place, or where it is refused
-abbrev pub scanned : ℕ → Result (Sort × ℕ) (Fault × ℕ) → Turn
+abbrev pub scanned : ℕ → Result (Sort × ℕ) (LexFault × ℕ) → TagPart
 scanned p (Ok r) = Token (record { start = p; stop = r.1; sort = r.0 })
 scanned p (Err r) = End (Refused r.0 p r.1)
 
 -- what stands after the whitespace: a token, or a refusal, or the end of the text
-abbrev pub token_turn : Text → Tag → ℕ → Turn
-token_turn text k p = if nat_lt p (length text) then scanned p (token_at text p) else End (close_over (length text) p k)
+abbrev pub token_part : Text → Tag → ℕ → TagPart
+token_part text k p = if nat_lt p (length text) then scanned p (token_at text p) else End (close_over (length text) p k)
 
--- the tag's end, if it stands at the place, or else what stands after the whitespace
-abbrev pub turn_from : Text → Tag → ℕ → Option Close → Turn
-turn_from text k at (Some close) = End close
-turn_from text k at None = token_turn text k (past_space text at)
+-- the tag's end, if it stands at the place, otherwise what stands after the whitespace
+abbrev pub tag_part_from : Text → Tag → ℕ → Option Close → TagPart
+tag_part_from text k at (Some close) = End close
+tag_part_from text k at None = token_part text k (past_space text at)
 
--- What stands at a place in a tag in which so many brackets opened and shut before: the end is tried where these are as
--- many, and then a token after the whitespace.
-unfoldable pub turn_at : Syntax → Text → Tag → (opened shut at : ℕ) → Turn
-turn_at s text k o c at = turn_from text k at (if o == c then close_at s text k at else None)
+-- What stands at a place in a tag in which so many brackets opened and shut before: the end is
+-- tried where these are as many, and then a token after the whitespace.
+unfoldable pub tag_part_at : Syntax → Text → Tag → (opened shut at : ℕ) → TagPart
+tag_part_at s text k o c at = tag_part_from text k at (if o == c then close_at s text k at else None)
 
 -- the tokens of a tag, and its end
 pub record Inner : Type 0 where
@@ -84,16 +87,17 @@ pub record Inner : Type 0 where
   pub close : Close
 
 -- a token, and then what comes after it
-abbrev pub go_on : Turn → (Lexeme → Inner) → Inner
+abbrev pub go_on : TagPart → (Lexeme → Inner) → Inner
 go_on (End c) next = record { lexemes = []; close = c }
 go_on (Token l) next = let i = next l in record { lexemes = l ∷ i.lexemes; close = i.close }
 
--- What is left of a tag from a place on. The list is the text from there, of which `skip` bytes are passed.
+-- What is left of a tag from a place on. The list is the text from there, of which `skip` bytes are
+-- passed.
 abbrev pub inner_from : Syntax → Text → Tag → (opened shut at skip : ℕ) → Text → Inner
 inner_from s text k o c at skip [] = record { lexemes = []; close = close_over (length text) (at + skip) k }
 inner_from s text k o c at (suc skip) (b ∷ bs) = inner_from s text k o c (at + 1) skip bs
 inner_from s text k o c at zero (b ∷ bs) =
-    go_on (turn_at s text k o c at) (λ l. inner_from s text k (o + opened_by l.sort) (c + shut_by l.sort) (at + 1) (l.stop - (at + 1)) bs)
+    go_on (tag_part_at s text k o c at) (λ l. inner_from s text k (o + opened_by l.sort) (c + shut_by l.sort) (at + 1) (l.stop - (at + 1)) bs)
 
 -- what is left of a tag from a place on, before which so many brackets opened and shut in it
 unfoldable pub inner_at : Syntax → Text → Tag → (opened shut : ℕ) → ℕ → Inner
@@ -101,8 +105,8 @@ inner_at s text k o c at = inner_from s text k o c at 0 (drop at text)
 
 -- ---- segments
 
--- Each stands from `start` on: data; comments, with what is skipped after them; a raw block; a tag, whose marker ends at
--- `body`; and a comment or a raw block with no end.
+-- Each stands from `start` on: data; comments, with what is skipped after them; a raw block; a tag,
+-- whose marker ends at `body`; and a comment or a raw block with no end.
 pub data Segment : Type 0 where
   plain : (start stop : ℕ) → Segment
   comment : (start stop : ℕ) → Segment
@@ -158,7 +162,8 @@ next_line_end text at = next_place (λ p. is_line_end (slice_index text p)) at (
 abbrev pub line_comment_at : Text → (start body : ℕ) → Segment
 line_comment_at text start body = let p = next_line_end text body in line_comment start (p + line_end_len (drop p text))
 
--- a raw block whose first tag ends with the control at `begin`, up to the endraw tag, if there is one
+-- a raw block whose first tag ends with the control at `begin`, up to the endraw tag, if there is
+-- one
 abbrev pub raw_to : Syntax → Text → (start begin : ℕ) → Control → Option (ℕ × Control × ℕ) → Segment
 raw_to s text start begin control None = unclosed_raw start
 raw_to s text start begin control (Some end) = raw start (raw_block s text begin control end.0 (end.1, end.2))

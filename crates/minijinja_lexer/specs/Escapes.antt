@@ -1,4 +1,4 @@
--- What the inside of a string with escapes means.
+-- The meaning of the inside of a string with escapes.
 use Rattle.std.specs.Prelude.{ℕ, zero, suc, ◌-◌, ◌&&◌, ◌||◌, not, nat_le, ◌==◌, if◌then◌else◌, [], ◌∷◌, ◌++◌, length, take, drop, slice_index, encode_utf8, Option, Some, None}
 use Rattle.std.specs.Option.{option_map, option_and_then}
 use Rattle.std.specs.List.{list_all}
@@ -44,7 +44,8 @@ escape text =
     else if slice_index text 1 == letter_u then option_and_then (unit_char (drop 6 text)) (unit_escape text)
     else option_map (λ c. (c, 2)) (simple_escape (slice_index text 1))
 
--- what is left of the inside means this; its first `skip` bytes belong to an escape that is read already
+-- what is left of the inside means this; its first `skip` bytes belong to an escape that is read
+-- already
 abbrev pub unescaped_from : ℕ → Text → Option Text
 unescaped_from skip [] = Some []
 unescaped_from (suc skip) (b ∷ bs) = unescaped_from skip bs
@@ -52,6 +53,7 @@ unescaped_from zero (b ∷ bs) =
     if b == backslash then option_and_then (λ e. option_map (λ t. encode_utf8 e.0 ++ t) (unescaped_from (e.1 - 1) bs)) (escape (b ∷ bs))
     else option_map (λ t. b ∷ t) (unescaped_from 0 bs)
 
--- each escape is its character and each other byte itself; a bad escape makes the whole mean nothing
+-- each escape is its character and each other byte itself; a bad escape makes the whole mean
+-- nothing
 unfoldable pub unescaped : Text → Option Text
 unescaped inside = unescaped_from 0 inside

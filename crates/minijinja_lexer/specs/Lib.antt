@@ -1,10 +1,11 @@
+-- The definitions of tokens that contracts cite.
 pub mod Stream
 pub mod Bytes
 pub mod Faults
 pub mod Sorts
 pub mod Controls
 pub mod Tags
-pub mod Turns
+pub mod TagParts
 pub mod RawBlocks
 pub mod Symbols
 pub mod Names

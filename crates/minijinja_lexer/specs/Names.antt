@@ -1,4 +1,4 @@
--- An identifier at the front of a text.
+-- The identifier at the front of a text.
 use Rattle.std.specs.Prelude.{ℕ, ◌+◌, Bool, false, ◌||◌, ◌==◌, if◌then◌else◌, List, [], ◌∷◌}
 use Rattle.std.specs.Char.{len_utf8}
 use Rattle.minijinja_lexer.specs.Bytes.{underscore}
@@ -12,7 +12,7 @@ starts_name c = is_xid_start c || c == underscore
 abbrev pub continues_name : ℕ → Bool
 continues_name c = is_xid_continue c || c == underscore
 
--- the bytes of the characters at the front that a name may go on with
+-- how many bytes the characters at the front have that may continue a name
 abbrev pub name_len : List ℕ → ℕ
 name_len [] = 0
 name_len (c ∷ cs) = if continues_name c then len_utf8 c + name_len cs else 0

@@ -1,4 +1,4 @@
--- A number at the front of a text: its value and its length, or why it is refused and how many bytes on.
+-- The number at the front of a text: its value and length, or why and where it is refused.
 use Rattle.std.specs.Prelude.{ℕ, ◌+◌, ◌-◌, ◌^◌, Bool, not, ◌&&◌, ◌||◌, nat_lt, ◌==◌, if◌then◌else◌, length, drop, slice_index, filter, Result, Ok, Err}
 use Rattle.std.specs.List.{prefix_len, list_all}
 use Rattle.std.specs.Char.{is_ascii_digit, is_ascii_hexdigit, is_digit}
@@ -8,7 +8,7 @@ use Rattle.minijinja_syntax.specs.Texts.{Text}
 use Rattle.minijinja_syntax.specs.Positions.{slice}
 use Rattle.minijinja_lexer.specs.Bytes.{minus_sign, plus_sign, period, underscore, zero_digit}
 use Rattle.minijinja_lexer.specs.Names.{begins_name}
-use Rattle.minijinja_lexer.specs.Faults.{Fault, MissingDigits, DigitOutOfRange, TrailingUnderscore, IntegerTooLarge, FloatLiteral}
+use Rattle.minijinja_lexer.specs.Faults.{LexFault, MissingDigits, DigitOutOfRange, TrailingUnderscore, IntegerTooLarge, FloatLiteral}
 
 -- the radix of a prefix 0b, 0o or 0x, in either case; 10 without one
 abbrev pub radix_of : ℕ → ℕ
@@ -26,7 +26,7 @@ radix_at text = if slice_index text 0 == zero_digit then radix_of (slice_index t
 abbrev pub prefix_size : ℕ → ℕ
 prefix_size radix = if radix == 10 then 0 else 2
 
--- the bytes that a number takes along: 0 to 9 and _, and in radix 16 also a to f in either case
+-- the bytes that belong to a number: 0 to 9 and _, and in radix 16 also a to f in either case
 abbrev pub is_taken : ℕ → ℕ → Bool
 is_taken radix b = is_ascii_digit b || b == underscore || (radix == 16 && is_ascii_hexdigit b)
 
@@ -42,8 +42,8 @@ is_exponent_mark b = b == 101 || b == 69
 abbrev pub begins_exponent : Text → Bool
 begins_exponent text = is_exponent_mark (slice_index text 0) && (slice_index text 1 == plus_sign || slice_index text 1 == minus_sign || is_ascii_digit (slice_index text 1))
 
--- What stands after decimal digits makes them a float: e or E; or a dot that no name follows, or an exponent. After a
--- dot a number is an index, which no dot makes a float.
+-- What stands after decimal digits makes them a float: e or E; or a dot that no name follows, or an
+-- exponent. After a dot a number is an index, which no dot makes a float.
 abbrev pub reads_as_float : Bool → Text → Bool
 reads_as_float behind_dot text =
     is_exponent_mark (slice_index text 0)
@@ -58,7 +58,7 @@ abbrev pub all_in_radix : ℕ → Text → Bool
 all_in_radix radix taken = list_all (λ b. b == underscore || is_digit b radix) taken
 
 -- the value of the bytes that a number takes
-abbrev pub taken_value : ℕ → Text → Result ℕ Fault
+abbrev pub taken_value : ℕ → Text → Result ℕ LexFault
 taken_value radix taken =
     if length taken == 0 then Err MissingDigits
     else if slice_index taken (length taken - 1) == underscore then Err TrailingUnderscore
@@ -67,7 +67,7 @@ taken_value radix taken =
     else Ok (digits_value radix (digits_of taken))
 
 -- the value or the fault, and the length beside it
-abbrev pub with_length : ℕ → Result ℕ Fault → Result (ℕ × ℕ) (Fault × ℕ)
+abbrev pub with_length : ℕ → Result ℕ LexFault → Result (ℕ × ℕ) (LexFault × ℕ)
 with_length n (Ok value) = Ok (value, n)
 with_length n (Err fault) = Err (fault, n)
 
@@ -76,7 +76,7 @@ abbrev pub number_len : Text → ℕ
 number_len text = let radix = radix_at text in prefix_size radix + taken_len radix (drop (prefix_size radix) text)
 
 -- a number, where `behind_dot` says whether it stands right after a dot
-unfoldable pub number : Bool → Text → Result (ℕ × ℕ) (Fault × ℕ)
+unfoldable pub number : Bool → Text → Result (ℕ × ℕ) (LexFault × ℕ)
 number behind_dot text =
     let radix = radix_at text in
     let n = number_len text in

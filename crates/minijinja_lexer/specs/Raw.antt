@@ -9,8 +9,8 @@ use Rattle.minijinja_lexer.specs.Whitespace.{control_at, control_len, past_space
 use Rattle.minijinja_lexer.specs.Controls.{Control, Absent, Remove, Preserve}
 use Rattle.minijinja_lexer.specs.RawBlocks.{RawBlock}
 
--- The control at the end of a tag of one word, and where it ends. It is read from after the tag's marker on: ASCII
--- whitespace, the word, ASCII whitespace, an optional control, the block end.
+-- The control at the end of a tag of one word, and where it ends. It is read from after the tag's
+-- marker on: ASCII whitespace, the word, ASCII whitespace, an optional control, the block end.
 unfoldable pub word_tag : Syntax → Text → (word : Text) → ℕ → Option (Control × ℕ)
 word_tag s text word at =
     let p = past_space text at in
@@ -26,13 +26,13 @@ raw_at s text at = word_tag s text (codes "raw") at
 abbrev pub endraw_at : Syntax → Text → ℕ → Option (Control × ℕ)
 endraw_at s text at = word_tag s text (codes "endraw") (at + control_len (control_at text at))
 
--- the place, and the tag that stands there, if one does, or else the later one
+-- the place with the tag that stands there, if one does, otherwise the later one
 abbrev pub or_later : ℕ → Option (Control × ℕ) → Option (ℕ × Control × ℕ) → Option (ℕ × Control × ℕ)
 or_later at (Some tag) later = Some (at, tag.0, tag.1)
 or_later at None later = later
 
--- Of the block starts from a place on that do not overlap: the first that begins an endraw tag, the control at the tag's
--- end and where it ends. `skip` of the `left` bytes are passed.
+-- Of the block starts from a place on that do not overlap: the first that begins an endraw tag, the
+-- control at the tag's end and where it ends. `skip` of the `left` bytes are passed.
 abbrev pub endraw_from : Syntax → Text → (at skip left : ℕ) → Option (ℕ × Control × ℕ)
 endraw_from s text at skip zero = None
 endraw_from s text at (suc skip) (suc left) = endraw_from s text (at + 1) skip left

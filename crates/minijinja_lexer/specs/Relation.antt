@@ -12,9 +12,9 @@ use Rattle.minijinja_lexer.specs.Raw.{raw_at, endraw_at, raw_block}
 use Rattle.minijinja_lexer.specs.Cut.{Inner, Segment, plain, comment, line_comment, raw, tag, unclosed_comment, unclosed_raw, marker_of, end_at, close_at, tail_control, stop_of}
 use Rattle.minijinja_lexer.specs.Controls.{Control}
 use Rattle.minijinja_lexer.specs.RawBlocks.{RawBlock}
-use Rattle.minijinja_lexer.specs.Faults.{Fault}
+use Rattle.minijinja_lexer.specs.Faults.{LexFault}
 use Rattle.minijinja_lexer.specs.Tags.{Tag, Variable, Block, Line}
-use Rattle.minijinja_lexer.specs.Turns.{Lexeme, Close, Closed, Broken, Refused}
+use Rattle.minijinja_lexer.specs.TagParts.{Lexeme, Close, Closed, Broken, Refused}
 
 -- ---- inside a tag
 
@@ -58,14 +58,15 @@ pub record IsOver (text : Text) (k : Tag) (at start stop after : ℕ) : Type 0 w
   pub stop_is : stop ≡ start
   pub after_is : after ≡ length text
 
--- as many brackets opened as shut, and the end stands there; or a line statement is over, in which that end does not stand
+-- as many brackets opened as shut, and the end stands there; or a line statement is over, in which
+-- that end does not stand
 abbrev pub IsClosed : Syntax → Text → Tag → (opened shut at start stop after : ℕ) → Type 0
 IsClosed s text k o c at start stop after =
     ((at < length text) × (o ≡ c) × IsClosedAt s text k at start stop after)
     ⊎ (IsOver text k at start stop after × (at < length text → NoEnd s text k o c at))
 
 -- after the whitespace a token is refused, and the tag's end does not stand there
-pub record IsRefused (s : Syntax) (text : Text) (k : Tag) (o c at start place : ℕ) (f : Fault) : Type 0 where
+pub record IsRefused (s : Syntax) (text : Text) (k : Tag) (o c at start place : ℕ) (f : LexFault) : Type 0 where
   pub space : start ≡ past_space text at
   pub within : start < length text
   pub no_end : NoEnd s text k o c at
@@ -82,7 +83,8 @@ IsClose s text k o c at (Closed start stop after) = IsClosed s text k o c at sta
 IsClose s text k o c at Broken = IsBroken text k at
 IsClose s text k o c at (Refused f start place) = (at < length text) × IsRefused s text k o c at start place f
 
--- The tokens from a place in a tag on, one after another, and its end; so many brackets opened and shut before the place.
+-- The tokens from a place in a tag on, one after another, and its end; so many brackets opened and
+-- shut before the place.
 abbrev pub IsInner : Syntax → Text → Tag → (opened shut at : ℕ) → List Lexeme → Close → Type 0
 IsInner s text k o c at [] close = IsClose s text k o c at close
 IsInner s text k o c at (l ∷ ls) close = IsLexeme s text k o c at l × IsInner s text k (o + opened_by l.sort) (c + shut_by l.sort) l.stop ls close
@@ -123,7 +125,7 @@ pub record IsUnclosedComment (s : Syntax) (text : Text) (start : ℕ) : Type 0 w
   pub marker : IsMarkerAt s text start markers.Comment
   pub none : IsAbsent (end_of s markers.Comment) text (body_of s text markers.Comment start) (length text)
 
--- it goes on to the first line end after its marker, which it takes along, or to the end of the text
+-- it goes on to the first line end after its marker, inclusive, or to the end of the text
 pub record IsLineComment (s : Syntax) (text : Text) (start stop : ℕ) : Type 0 where
   pub marker : IsMarkerAt s text start markers.LineComment
   pub end : ℕ
@@ -133,8 +135,8 @@ pub record IsLineComment (s : Syntax) (text : Text) (start stop : ℕ) : Type 0 
   pub line_end : (end ≡ length text) ⊎ (is_line_end (slice_index text end) ≡ true)
   pub stop_is : stop ≡ end + line_end_len (drop end text)
 
--- block starts that do not overlap stand one after another, each the first from the end of the one before on, and none
--- begins an endraw tag; the last of them ends at `to`
+-- block starts that do not overlap stand one after another, each the first from the end of the one
+-- before on, and none begins an endraw tag; the last of them ends at `to`
 abbrev pub PassesOver : Syntax → Text → (from : ℕ) → List ℕ → (to : ℕ) → Type 0
 PassesOver s text from [] to = from ≡ to
 PassesOver s text from (p ∷ ps) to = IsFirst s.block_start text from p × (endraw_at s text (p + length s.block_start) ≡ None) × PassesOver s text (p + length s.block_start) ps to
@@ -178,7 +180,7 @@ pub record IsTag (s : Syntax) (text : Text) (k : Tag) (start body : ℕ) (inner 
   pub no_raw : IsNoRaw s text k body
   pub inside : IsInner s text k 0 0 body inner.lexemes inner.close
 
--- the segment begins at the place, and is what its kind asks
+-- the segment begins at the place, and is what its kind says
 abbrev pub IsSegment : Syntax → Text → ℕ → Segment → Type 0
 IsSegment s text at (plain start stop) = (start ≡ at) × IsPlain s text start stop
 IsSegment s text at (comment start stop) = (start ≡ at) × IsComment s text start stop

@@ -1,4 +1,4 @@
--- The text of a token is the slice of the text at its span, and spans are in order and begin and end between characters.
+-- What ties tokens to the text: the slices at their spans, in order, between characters.
 use Rattle.std.specs.Str.{IsCharBoundary}
 use Rattle.std.specs.Prelude.{◌≡◌, ◌⊎◌, ℕ, ◌+◌, ◌-◌, ◌≤◌, List, [], ◌∷◌, ◌++◌, length, Some, IsSome}
 use Rattle.minijinja_syntax.specs.Texts.{Text}
@@ -12,7 +12,8 @@ use Rattle.minijinja_lexer.specs.Raw.{raw_at, endraw_at}
 use Rattle.minijinja_lexer.specs.Cut.{Segment, raw}
 use Rattle.minijinja_syntax.specs.Streams.{SpannedTok}
 
--- data and an identifier are the slice at the span, a string is it without the quotes, a decoded one what that means
+-- data and an identifier are the slice at the span, a string is it without the quotes, a decoded
+-- one what that means
 abbrev pub IsSliceAt : Text → Span → Tok → Type 0
 IsSliceAt text span (template_data t) = t ≡ slice text span.start_offset span.end_offset
 IsSliceAt text span (ident t) = t ≡ slice text span.start_offset span.end_offset
@@ -25,8 +26,8 @@ abbrev pub AreSlices : Text → List SpannedTok → Type 0
 AreSlices text [] = Unit {0}
 AreSlices text (t ∷ ts) = IsSliceAt text t.1 t.0 × (t.1 ≡ span_at text t.1.start_offset t.1.end_offset) × AreSlices text ts
 
--- the text is a part of what stands from `begin` to `end`; a raw tag ends at the one, and after the other stands an endraw
--- tag
+-- the text is a part of what stands from `begin` to `end`; a raw tag ends at the one, and after the
+-- other stands an endraw tag
 pub record IsRawText (s : Syntax) (text : Text) (begin end : ℕ) (t : Text) : Type 0 where
   pub body : ℕ
   pub control : Control
@@ -39,13 +40,13 @@ pub record IsRawText (s : Syntax) (text : Text) (begin end : ℕ) (t : Text) : T
   pub stop : to ≤ end
   pub part : t ≡ slice text from to
 
--- The text of a token with its span: a raw block's data is a part of what stands between its tags, and that of any other
--- token is the slice.
+-- The text of a token with its span: a raw block's data is a part of what stands between its tags,
+-- and that of any other token is the slice.
 abbrev pub IsTokenText : Syntax → Text → Tok → Span → Type 0
 IsTokenText s text tok span = IsSliceAt text span tok ⊎ ((t : Text) × (tok ≡ template_data t) × IsRawText s text span.start_offset span.end_offset t)
 
--- A raw block has one token, such a text with the span of what stands between the tags. The tokens of any other segment
--- are the slices at their spans.
+-- A raw block has one token, such a text with the span of what stands between the tags. The tokens
+-- of any other segment are the slices at their spans.
 abbrev pub AreSegmentSlices : Syntax → Text → Segment → List SpannedTok → Type 0
 AreSegmentSlices s text (raw start block) ts = (t : Text) × (ts ≡ (template_data t, span_at text block.begin block.end) ∷ []) × IsRawText s text block.begin block.end t
 AreSegmentSlices s text _ ts = AreSlices text ts

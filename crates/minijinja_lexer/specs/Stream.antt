@@ -1,4 +1,4 @@
--- What a tokenizer answers of the tokens that are to come.
+-- What a call of the tokenizer returns of the tokens that are to come.
 use Rattle.std.specs.Prelude.{◌≡◌, ◌⊎◌, List, [], ◌∷◌, Option, Some, None, Result, Ok, Err}
 use Rattle.minijinja_syntax.specs.Tokens.{Tok, string, int128}
 use Rattle.std.specs.Borrow.{Bor}
@@ -48,13 +48,15 @@ pub record RunsOut (old : Stream) (e : Error) (new : Stream) : Type 0 where
   pub needed : NeedsMemory old.tokens
   pub over : new ≡ out_of_memory
 
--- What a call answers of the tokens to come: the first of them, the end, or a refusal. After those two nothing changes.
+-- What a call returns of the tokens to come: the first of them, the end, or a refusal. After those
+-- two nothing changes.
 abbrev pub Answers : Stream → Result (Option (Token × Span)) Error → Stream → Type 0
 Answers old (Ok (Some t)) new = old ≡ before (spanned_tok t ∷ []) new
 Answers old (Ok None) new = (old ≡ ended finished) × (new ≡ old)
 Answers old (Err e) new = Refuses old e new ⊎ RunsOut old e new
 
--- what a tokenizer says of itself: its syntax, the name of its source, its text, and the tokens to come
+-- what a tokenizer says of itself: its syntax, the name of its source, its text, and the tokens to
+-- come
 pub record Lexing : Type 0 where
   pub syntax : Syntax
   pub filename : Text

@@ -1,9 +1,9 @@
--- The symbols inside a tag: which one stands at the front of a text, which token it is, and which are brackets.
+-- The symbols inside a tag: which is at the front of a text, its token, and which are brackets.
 use Rattle.std.specs.Prelude.{ℕ, ◌==◌, ◌&&◌, if◌then◌else◌, slice_index, Option, Some, None}
 use Rattle.minijinja_syntax.specs.Texts.{Text}
 use Rattle.minijinja_syntax.specs.Tokens.{Tok, plus, minus, mul, div, floor_div, pow, rem, dot, comma, colon, tilde, assign, pipe, eq, ne, gt, gte, lt, lte, bracket_open, bracket_close, paren_open, paren_close, brace_open, brace_close}
 
--- a token that is written with the same bytes wherever it stands
+-- a token that is always written with the same bytes
 pub data Symbol : Type 0 where
   -- + - * / // ** %
   Plus Minus Mul Div FloorDiv Pow Mod : Symbol
@@ -49,7 +49,7 @@ short_symbol b =
     else if b == 125 then Some BraceClose  -- }
     else None
 
--- the longer symbol, or else the shorter, with its length
+-- the longer symbol, otherwise the shorter, with its length
 abbrev pub longer_symbol : Option Symbol → Option Symbol → Option (Symbol × ℕ)
 longer_symbol (Some s) shorter = Some (s, 2)
 longer_symbol None (Some s) = Some (s, 1)
@@ -87,14 +87,14 @@ symbol_tok ParenClose = paren_close
 symbol_tok BraceOpen = brace_open
 symbol_tok BraceClose = brace_close
 
--- 1 at a bracket of any kind that opens, and else 0
+-- 1 for a bracket of any kind that opens, otherwise 0
 abbrev pub opens : Symbol → ℕ
 opens BracketOpen = 1
 opens ParenOpen = 1
 opens BraceOpen = 1
 opens _ = 0
 
--- 1 at a bracket of any kind that closes, and else 0
+-- 1 for a bracket of any kind that closes, otherwise 0
 abbrev pub closes : Symbol → ℕ
 closes BracketClose = 1
 closes ParenClose = 1

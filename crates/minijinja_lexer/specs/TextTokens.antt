@@ -10,15 +10,15 @@ use Rattle.minijinja_syntax.specs.declared.tokens.Span.{Span}
 use Rattle.minijinja_syntax.specs.declared.error.ErrorKind.TheVariants.{SyntaxError}
 use Rattle.minijinja_lexer.specs.Escapes.{unescaped}
 use Rattle.minijinja_lexer.specs.Symbols.{symbol_tok}
-use Rattle.minijinja_lexer.specs.Faults.{fault_kind, Fault, BadEscape}
+use Rattle.minijinja_lexer.specs.Faults.{fault_kind, LexFault, BadEscape}
 use Rattle.minijinja_syntax.specs.Streams.{SpannedTok, Ending, finished, refused, Stream, before, ended}
 use Rattle.minijinja_lexer.specs.Whitespace.{kept_stop}
 use Rattle.minijinja_lexer.specs.Cut.{Segment, plain, comment, line_comment, raw, tag, unclosed_comment, unclosed_raw, inner_at, cut_at}
 use Rattle.minijinja_lexer.specs.Sorts as sort
 use Rattle.minijinja_lexer.specs.Tags.{Tag, Variable, Block, Line}
-use Rattle.minijinja_lexer.specs.Turns.{Lexeme, Close, Closed, Broken, Refused}
+use Rattle.minijinja_lexer.specs.TagParts.{Lexeme, Close, Closed, Broken, Refused}
 
--- the text of a source: unless the syntax keeps it, one final \n goes, and then one final \r
+-- the text of a source: unless the syntax keeps it, without one final \n and then one final \r
 unfoldable pub text_of : Syntax → Text → Text
 text_of s source = if s.keep_trailing_newline then source else strip_last 13 (strip_last 10 source)
 
@@ -65,7 +65,8 @@ close_tokens text k (Refused f start place) = []
 abbrev pub data_tokens : Text → (start kept : ℕ) → List SpannedTok
 data_tokens text start kept = if kept == start then [] else (template_data (slice text start kept), span_at text start kept) ∷ []
 
--- a tag is its marker, what stands inside it and its end; a raw block is one token, also when nothing is kept of its text
+-- a tag is its marker, what stands inside it and its end; a raw block is one token, also when
+-- nothing is kept of its text
 abbrev pub segment_tokens : Syntax → Text → Segment → List SpannedTok
 segment_tokens s text (plain start stop) = data_tokens text start (kept_stop s text start stop)
 segment_tokens s text (comment start stop) = []
@@ -82,13 +83,14 @@ segment_tokens s text (unclosed_raw start) = []
 abbrev pub refusal_span : Text → ℕ → Span
 refusal_span text place = let here = span_at text place place in record here { end_col = min 65535 (here.end_col + 1); end_offset = min 4294967295 (place + 1) }
 
--- where a token that begins at `start` is refused: a bad escape in the whole string, all else at the place
-abbrev pub fault_span : Text → Fault → (start place : ℕ) → Span
+-- where a token that begins at `start` is refused: a bad escape in the whole string, all else at
+-- the place
+abbrev pub fault_span : Text → LexFault → (start place : ℕ) → Span
 fault_span text BadEscape start place = span_at text start place
 fault_span text _ start place = refusal_span text place
 
 -- the token is refused
-abbrev pub token_refusal : Text → Fault → (start place : ℕ) → Ending
+abbrev pub token_refusal : Text → LexFault → (start place : ℕ) → Ending
 token_refusal text f start place = refused (fault_kind f) (Some (fault_span text f start place))
 
 -- the text is refused at the place

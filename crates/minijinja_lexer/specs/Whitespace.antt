@@ -77,7 +77,8 @@ abbrev pub line_space_run : List ℕ → ℕ
 line_space_run [] = 0
 line_space_run (c ∷ cs) = if is_line_space c then len_utf8 c + line_space_run cs else 0
 
--- The same of a text. The bound is for bytes that are no UTF-8, of which `chars` may make longer characters.
+-- Their length in a text. The bound is for bytes that are not UTF-8, of which `chars` may make
+-- longer characters.
 abbrev pub line_space_len : Text → ℕ
 line_space_len text = min (length text) (line_space_run (chars text))
 
@@ -105,7 +106,7 @@ tail_len s m Absent text = if s.trim_blocks && not (is_variable m) then line_end
 abbrev pub last_line : Text → ℕ
 last_line text = length text - suffix_len (λ b. not (is_line_end b)) text
 
--- The length without the whitespace at the end. The bound is for bytes that are no UTF-8, as above.
+-- The length without the whitespace at the end. The bound is for bytes that are not UTF-8.
 abbrev pub trimmed_len : Text → ℕ
 trimmed_len text = min (length text) (length (trim_end text))
 
@@ -121,16 +122,18 @@ ends_blank text = list_all is_whitespace (back_to_line_end text)
 abbrev pub begins_line : Text → ℕ → Bool
 begins_line text at = at == 0 || is_newline (slice_index text (at - 1))
 
--- The line rule: a blank last line goes, if nothing or a \n stands before it.
+-- The line rule: a blank last line is removed if nothing or a \n stands before it.
 unfoldable pub line_kept_len : Text → ℕ
 line_kept_len text = if ends_blank text && begins_line text (last_line text) then last_line text else length text
 
--- Data before a marker with no control is cut by the line rule: under lstrip_blocks where the line before the marker is
--- blank, but for a variable's; else before the marker of a line.
+-- The line rule cuts data before a marker without a control: with lstrip_blocks where the line
+-- before the marker is blank, unless it is a variable's marker; without it before the marker of a
+-- line.
 abbrev pub is_line_cut : Syntax → StartMarker → (before : Text) → Bool
 is_line_cut s m before = if s.lstrip_blocks then not (is_variable m) && ends_blank before else is_of_line m
 
--- how much is kept of data before a marker with the control, of a text that has `before` before the marker
+-- how much is kept of data before a marker with the control, of a text that has `before` before the
+-- marker
 unfoldable pub kept_len : Syntax → StartMarker → Control → (before text : Text) → ℕ
 kept_len s m Remove before text = trimmed_len text
 kept_len s m Preserve before text = length text

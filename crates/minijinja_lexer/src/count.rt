@@ -1,4 +1,4 @@
-//! Lines and columns.
+//! The lines and columns of places in a text.
 ghost use Rattle.std.specs.Prelude.{◌≡◌, ◌+◌, ◌<◌, ◌≤◌, ◌^◌, ◌++◌, take, length, min, count_by};
 ghost use Rattle.minijinja_syntax.specs.Positions.{is_lead, line_after, column_after};
 ghost use Rattle.minijinja_syntax.specs.Texts.{Text};
@@ -7,13 +7,13 @@ ghost use Rattle.minijinja_lexer.specs.private.Plain.{IsPlain};
 
 use memchr::{memchr, memchr_iter, memrchr};
 
-/// From so many bytes on a stretch is searched for its line ends, and not counted byte by byte.
+/// A stretch of at least this many bytes is searched for line ends, not counted byte by byte.
 const FAR: usize = 32;
 
-/// So many bytes ahead it is looked how far plain text goes.
+/// How many bytes ahead plain text is looked for.
 const AHEAD: usize = 64;
 
-/// The line and the column after one more byte; what they stop at is left to the caller.
+/// The line and the column after one more byte. The caller limits them.
 #[inline(always)]
 fn step(line: usize, column: usize, byte: u8) -> (usize, usize)
     requires line { line + 1 < 2 ^ 64 }
@@ -38,7 +38,7 @@ fn is_lead(byte: u8) -> bool
     byte < 128 || byte >= 192
 }
 
-/// The line and the column of `to`, from those of `at`.
+/// The line and the column of the place `to`, from those of `at`.
 #[inline(always)]
 pub(crate) fn after(text: &str, at: usize, to: usize, line: u16, column: u16) -> (u16, u16)
     requires ordered { at ≤ to }
@@ -60,7 +60,7 @@ pub(crate) fn after(text: &str, at: usize, to: usize, line: u16, column: u16) ->
     (stopped(line), stopped(column))
 }
 
-/// The same over a stretch of many bytes.
+/// The line and the column of the place `to`, from those of `at`, which is many bytes before it.
 #[inline(never)]
 fn far_after(text: &[u8], at: usize, to: usize, line: u16, column: u16) -> (u16, u16)
     requires ordered { at ≤ to }
@@ -80,14 +80,14 @@ fn far_after(text: &[u8], at: usize, to: usize, line: u16, column: u16) -> (u16,
     }
 }
 
-/// A line or a column so much further on.
+/// A line or a column moved on by a count.
 fn moved(count: u16, more: usize) -> u16
     ensures { result ≡ min 65535 (count + more) }
 {
     stopped(usize::from(count).saturating_add(more))
 }
 
-/// A line or a column as a span has it.
+/// A line or a column, which a span holds up to 65535.
 #[inline(always)]
 pub(crate) fn stopped(count: usize) -> u16
     ensures { result ≡ min 65535 count }
@@ -106,7 +106,7 @@ fn char_count(bytes: &[u8]) -> usize
     }
 }
 
-/// A place up to which, from this one on, plain text stands: ASCII characters other than newlines.
+/// The end of some plain text that starts at `at`: ASCII characters other than newlines.
 pub(crate) fn plain_end(text: &str, at: usize) -> usize
     requires { at ≤ length text.now }
     ensures { IsPlain text.now at result }

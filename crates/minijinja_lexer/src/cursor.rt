@@ -1,17 +1,19 @@
-//! A place in a text, whose line and column are kept as it moves.
+//! A place in a text, which keeps its line and column as it moves.
 ghost use Rattle.std.specs.Prelude.{◌≡◌, ℕ, ◌+◌, ◌<◌, ◌≤◌, length};
 
 use crate::count::{after, plain_end, stopped};
-use crate::fault::Fault;
+use crate::fault::LexFault;
 use minijinja_syntax::tokens::Span;
 use std::marker::Model;
 
-/// A place between characters. The line counts from 1 and the column from 0, in characters; both stop at 65535.
+/// A place between characters. The line counts from 1 and the column from 0, in characters; both
+/// stop at 65535.
 #[derive(Drop)]
 pub(crate) struct Cursor<'s> {
     text: &'s str,
     at: usize,
-    /// Up to here, from `at` on, only ASCII characters other than newlines stand, which move the column alone.
+    /// From `at` up to here there are only ASCII characters other than newlines, which move only
+    /// the column.
     plain: usize,
     line: u16,
     column: u16,
@@ -38,6 +40,7 @@ impl<'s> Cursor<'s> {
     ghost use Rattle.minijinja_lexer.specs.TextTokens.{refusal_span, fault_span};
     ghost use Rattle.minijinja_lexer.specs.private.Views.{fault_view};
 
+    /// The start of a text.
     pub(crate) fn new(text: &'s str) -> Self
         requires { length text.now < 2 ^ 32 }
         ensures { result ≡ record { text = text.now; at = 0 } }
@@ -51,6 +54,7 @@ impl<'s> Cursor<'s> {
         }
     }
 
+    /// The whole text.
     #[inline]
     pub(crate) fn text(&self) -> &'s str
         ensures { result.now ≡ self.now.text }
@@ -58,6 +62,7 @@ impl<'s> Cursor<'s> {
         self.text
     }
 
+    /// The place, in bytes.
     #[inline]
     pub(crate) fn at(&self) -> usize
         ensures value { result ≡ self.now.at }
@@ -66,7 +71,7 @@ impl<'s> Cursor<'s> {
         self.at
     }
 
-    /// The line, the column and the byte where it stands.
+    /// The line, the column and the byte of the place.
     #[inline(always)]
     fn position(&self) -> (u16, u16, u32)
         ensures line { result.0 ≡ line_after (take self.now.at self.now.text) }
@@ -91,7 +96,7 @@ impl<'s> Cursor<'s> {
         }
     }
 
-    /// Moves on to a place by the bytes up to it.
+    /// Moves on to a place and counts the bytes up to it.
     #[inline(never)]
     fn count_to(&mut self, to: usize)
         requires onwards { self.old.at ≤ to }
@@ -105,7 +110,7 @@ impl<'s> Cursor<'s> {
         self.plain = plain_end(self.text, to);
     }
 
-    /// Moves over a stretch, and answers its span.
+    /// Moves to the end of a stretch and returns the stretch's span.
     #[inline(always)]
     pub(crate) fn span(&mut self, start: usize, stop: usize) -> Span
         requires onwards { self.old.at ≤ start }
@@ -130,7 +135,7 @@ impl<'s> Cursor<'s> {
         }
     }
 
-    /// Moves on to where the text is refused, and answers the refusal's span.
+    /// Moves to where the text is refused and returns the refusal's span.
     #[cold]
     pub(crate) fn refusal(&mut self, place: usize) -> Span
         requires onwards { self.old.at ≤ place }
@@ -150,9 +155,9 @@ impl<'s> Cursor<'s> {
         }
     }
 
-    /// Moves on to where a token that begins at `start` is refused, and answers the refusal's span.
+    /// Moves to where a token that begins at `start` is refused and returns the refusal's span.
     #[cold]
-    pub(crate) fn fault_span(&mut self, fault: Fault, start: usize, place: usize) -> Span
+    pub(crate) fn fault_span(&mut self, fault: LexFault, start: usize, place: usize) -> Span
         requires onwards { self.old.at ≤ start }
         requires ordered { start ≤ place }
         requires start_boundary { IsCharBoundary self.old.text start }
@@ -161,7 +166,7 @@ impl<'s> Cursor<'s> {
         ensures place { self.new ≡ record { text = self.old.text; at = place } }
     {
         match fault {
-            Fault::BadEscape => self.span(start, place),
+            LexFault::BadEscape => self.span(start, place),
             _ => self.refusal(place),
         }
     }

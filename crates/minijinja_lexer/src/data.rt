@@ -1,4 +1,4 @@
-//! What is kept of data before a marker.
+//! How much of the data before a marker is kept.
 ghost use Rattle.std.specs.Prelude.{◌≡◌, ◌+◌, ◌-◌, ◌≤◌, ◌==◌, ◌||◌, not, Option, length, take, drop, reverse, slice_index, IfSome};
 ghost use Rattle.std.specs.List.{prefix_len};
 ghost use Rattle.std.specs.Str.{IsCharBoundary};
@@ -11,6 +11,7 @@ ghost use Rattle.minijinja_lexer.specs.private.Views.{control_view};
 use crate::whitespace::{Control, control_behind, is_line_end};
 use minijinja_syntax::syntax::{StartMarker, SyntaxConfig};
 
+/// The length without the whitespace at the end.
 #[inline(never)]
 pub(crate) fn trimmed_len(text: &str) -> usize
     ensures value { result ≡ spec.trimmed_len text.now }
@@ -19,7 +20,7 @@ pub(crate) fn trimmed_len(text: &str) -> usize
     text.trim_end().len()
 }
 
-/// Whether the last line has only whitespace. It looks no further back than that line.
+/// Whether the last line has only whitespace. Only that line is read.
 #[tactic(auto, unfolding(crate::specs::Whitespace::ends_blank))]
 fn ends_blank(text: &str) -> bool
     ensures { result ≡ spec.ends_blank text.now }
@@ -44,7 +45,7 @@ fn begins_line(text: &[u8], at: usize) -> bool
     at == 0 || text[at - 1] == b'\n'
 }
 
-/// How much is kept by the line rule.
+/// How much the line rule keeps: all except a blank last line that follows `\n` or nothing.
 #[tactic(auto, unfolding(crate::specs::Whitespace::line_kept_len))]
 #[inline(never)]
 pub(crate) fn line_kept_len(text: &str) -> usize
@@ -97,7 +98,8 @@ fn kept_len(
     }
 }
 
-/// Up to where the data from a place to another is kept before the marker of a length that begins there.
+/// Where the kept part of the data from `start` to `stop` ends, before the marker of length `len`
+/// at `stop`.
 #[tactic(auto, unfolding(crate::specs::Whitespace::kept_stop))]
 pub(crate) fn kept_stop(
     syntax: &SyntaxConfig,

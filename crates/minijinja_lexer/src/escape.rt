@@ -1,4 +1,4 @@
-//! What the inside of a string with escapes means.
+//! The meaning of the inside of a string with escapes.
 ghost use Rattle.std.specs.Prelude.{◌≡◌, ◌⊎◌, ℕ, ◌+◌, ◌-◌, ◌<◌, ◌≤◌, ◌==◌, not, IsTrue, length, slice_index, is_some, IsSome, IfSome, IfOk, Some};
 ghost use Rattle.std.specs.List.{prefix_len};
 ghost use Rattle.std.specs.Char.Utf16.{is_high_surrogate, is_low_surrogate, surrogate_pair_char};
@@ -102,7 +102,7 @@ fn unit_char(unit: u32, rest: &[u8]) -> Option<(char, usize)>
     Some((c, 6))
 }
 
-/// The character that the escape at the front means, and how many bytes write it.
+/// The character that the escape at the front means, and the length of the escape.
 fn escape(text: &[u8]) -> Option<(char, usize)>
     ensures value { result ≡ spec.escape text.now }
     ensures places { IfSome result (λ e. EndsInAscii text.now e.1) }
@@ -145,7 +145,7 @@ fn plain_run(text: &[u8]) -> usize
     text.iter().take_while(|b| **b != b'\\').count()
 }
 
-/// How many bytes stand before the first backslash.
+/// How many bytes are before the first backslash.
 fn plain_len(text: &str) -> usize
     ensures value { result ≡ prefix_len (λ b. not (b == 92)) text.now }
     ensures boundary { IsCharBoundary text.now result }
@@ -154,7 +154,7 @@ fn plain_len(text: &str) -> usize
     plain_run(text.as_bytes())
 }
 
-/// What the inside of a string with escapes means.
+/// Decodes the inside of a string with escapes.
 #[inline(never)]
 pub(crate) fn unescape(alloc: Global, inside: &str) -> Result<String, AllocError>
     requires { IsSome (spec.unescaped inside.now) }

@@ -1,16 +1,16 @@
-//! Why a text is refused.
+//! Why a text is refused, and the errors for that.
 ghost use Rattle.std.specs.Prelude.{◌≡◌, IfErr, MatchResult, Some};
 ghost use Rattle.minijinja_syntax.specs.Errors.{IsOutOfMemory, kind_of, name_of, span_of};
 ghost use Rattle.minijinja_lexer.specs.Faults.{fault_kind};
 ghost use Rattle.minijinja_lexer.specs.private.Views.{fault_view};
 
-use minijinja_syntax::error::{Detail, Error, ErrorKind, Expected};
+use minijinja_syntax::error::{Detail, Error, ErrorKind, Expected, Found};
 use minijinja_syntax::tokens::{Span, Token};
 use std::alloc::AllocError;
 
 /// Why a text is refused.
 #[derive(Clone, Copy)]
-pub(crate) enum Fault {
+pub(crate) enum LexFault {
     UnexpectedCharacter,
     UnterminatedString,
     /// A string with an escape that means nothing.
@@ -29,35 +29,35 @@ pub(crate) enum Fault {
     TextGoesOn,
 }
 
-fn detail<'s>(fault: Fault) -> Detail<'s> {
+fn detail<'s>(fault: LexFault) -> Detail<'s> {
     match fault {
-        Fault::UnexpectedCharacter => Detail::UnexpectedCharacter,
-        Fault::UnterminatedString => Detail::UnterminatedString,
-        Fault::BadEscape => Detail::BadEscape,
-        Fault::MissingDigits => Detail::MissingDigits,
-        Fault::DigitOutOfRange => Detail::DigitOutOfRange,
-        Fault::TrailingUnderscore => Detail::TrailingUnderscore,
-        Fault::IntegerTooLarge => Detail::IntegerTooLarge,
-        Fault::FloatLiteral => Detail::FloatLiteral,
-        Fault::UnclosedComment => Detail::UnexpectedEnd(Expected::CommentEnd),
-        Fault::UnclosedRaw => Detail::UnexpectedEnd(Expected::RawBlockEnd),
-        Fault::TextGoesOn => Detail::UnexpectedToken(Expected::End),
+        LexFault::UnexpectedCharacter => Detail::UnexpectedCharacter,
+        LexFault::UnterminatedString => Detail::UnterminatedString,
+        LexFault::BadEscape => Detail::BadEscape,
+        LexFault::MissingDigits => Detail::MissingDigits,
+        LexFault::DigitOutOfRange => Detail::DigitOutOfRange,
+        LexFault::TrailingUnderscore => Detail::TrailingUnderscore,
+        LexFault::IntegerTooLarge => Detail::IntegerTooLarge,
+        LexFault::FloatLiteral => Detail::FloatLiteral,
+        LexFault::UnclosedComment => Detail::UnexpectedEnd(Expected::CommentEnd),
+        LexFault::UnclosedRaw => Detail::UnexpectedEnd(Expected::RawBlockEnd),
+        LexFault::TextGoesOn => Detail::Unexpected(Found::TemplateData, Expected::End),
     }
 }
 
-fn kind(fault: Fault) -> ErrorKind
+fn kind(fault: LexFault) -> ErrorKind
     ensures { result ≡ fault_kind (fault_view fault) }
 {
     match fault {
-        Fault::BadEscape => ErrorKind::BadEscape,
+        LexFault::BadEscape => ErrorKind::BadEscape,
         _ => ErrorKind::SyntaxError,
     }
 }
 
-/// Answers the refusal. It is rare and large, so it is made in a function of its own.
+/// Sets the result to the refusal. It is rare and large, so it is made out of line.
 #[cold]
 pub(crate) fn refuse<'s>(
-    fault: Fault,
+    fault: LexFault,
     filename: &'s str,
     span: Span,
     answer: &mut Result<Option<(Token<'s>, Span)>, Error<'s>>,
@@ -70,7 +70,7 @@ pub(crate) fn refuse<'s>(
     *answer = Err(Error::new(kind(fault), detail(fault), Some(filename), Some(span)));
 }
 
-/// Answers that memory was refused, in a function of its own as [`refuse`].
+/// Sets the result to refused memory, out of line.
 #[cold]
 pub(crate) fn refuse_for_memory<'s>(answer: &mut Result<Option<(Token<'s>, Span)>, Error<'s>>)
     ensures { MatchResult answer.new (λ _. ⊥) IsOutOfMemory }

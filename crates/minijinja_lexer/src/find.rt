@@ -1,4 +1,4 @@
-//! Searches.
+//! Searches for delimiters and line ends.
 ghost use Rattle.std.specs.Prelude.{◌≡◌, ◌+◌, ◌<◌, ◌≤◌, ◌∷◌, [], length, slice_index};
 ghost use Rattle.std.specs.Str.{IsCharBoundary};
 ghost use Rattle.memchr.specs.Find.{FindsNeedle};
@@ -6,7 +6,7 @@ ghost use Rattle.minijinja_lexer.specs.Cut as spec;
 
 use memchr::{memchr, memchr2, memmem};
 
-/// The first place from `at` on where the delimiter stands, or the end of the text.
+/// The first place from `at` on with the delimiter, or the end of the text.
 pub(crate) fn next_delimiter(text: &str, at: usize, delimiter: &str) -> usize
     requires some { 0 < length delimiter.now }
     requires within { at ≤ length text.now }
@@ -22,8 +22,9 @@ pub(crate) fn next_delimiter(text: &str, at: usize, delimiter: &str) -> usize
     }
 }
 
-/// The first place of a needle. One of two bytes, as most delimiters are, is looked for by its first byte: `memmem` chooses how
-/// it searches before it does, which takes longer than a comment of one line.
+/// The first place of a needle. One of two bytes, as most delimiters are, is searched for by its
+/// first byte: `memmem` chooses how to search first, which takes longer than reading a comment of
+/// one line.
 fn find(haystack: &[u8], needle: &[u8]) -> Option<usize>
     ensures { FindsNeedle haystack.now needle.now 0 result }
 {

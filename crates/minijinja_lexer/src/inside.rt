@@ -1,4 +1,4 @@
-//! A step inside a tag.
+//! The tokenizer's step inside a tag.
 ghost use Rattle.std.specs.Prelude.{◌≡◌, ℕ, ◌≤◌, length};
 ghost use Rattle.std.specs.Str.{IsCharBoundary};
 ghost use Rattle.minijinja_syntax.specs.Syntax.{Syntax};
@@ -8,13 +8,16 @@ ghost use Rattle.minijinja_lexer.specs.TextTokens.{stream_in, close_stream, behi
 ghost use Rattle.minijinja_lexer.specs.private.States.{Steps, StateFits, Takes, behind, stream_from};
 
 use crate::cursor::Cursor;
-use crate::fault::Fault;
+use crate::fault::LexFault;
 use crate::step::{State, Step};
-use crate::turn::{Close, Tag, Turn, close_over, end_token, opened_by, shut_by, token_of, turn_at};
+use crate::tag_part::{
+    Close, Tag, TagPart, close_over, end_token, opened_by, shut_by, tag_part_at, token_of,
+};
 use minijinja_syntax::syntax::SyntaxConfig;
 use std::alloc::Global;
 
-/// The next token of a tag with so many brackets opened and shut, which may be the whole text.
+/// The next token of a tag in which so many brackets were opened and shut. The tag may be the whole
+/// text.
 pub(crate) fn step_inside<'s>(
     alloc: Global,
     syntax: &SyntaxConfig,
@@ -36,21 +39,21 @@ pub(crate) fn step_inside<'s>(
     if at == text.len() {
         return step_end(cursor, tag, whole, close_over(at, at, tag));
     }
-    match turn_at(syntax, text, tag, opened, shut, at) {
-        Turn::Token(lexeme) => {
+    match tag_part_at(syntax, text, tag, opened, shut, at) {
+        TagPart::Token(lexeme) => {
             let Ok(token) = token_of(alloc, text, at, lexeme) else {
                 return Step::NoMemory;
             };
-            let state = State::Inside(
+            let state = State::Inside {
                 tag,
-                opened + opened_by(lexeme.sort),
-                shut + shut_by(lexeme.sort),
+                opened: opened + opened_by(lexeme.sort),
+                shut: shut + shut_by(lexeme.sort),
                 whole,
-            );
+            };
             let span = cursor.span(lexeme.start, lexeme.stop);
             Step::Token(token, span, state)
         }
-        Turn::End(close) => step_end(cursor, tag, whole, close),
+        TagPart::End(close) => step_end(cursor, tag, whole, close),
     }
 }
 
@@ -64,19 +67,22 @@ fn step_end<'s>(cursor: &mut Cursor<'s>, tag: Tag, whole: bool, close: Close) ->
     ensures takes { (s : Syntax) → Takes s cursor.old.text result }
 {
     match close {
-        Close::Closed(start, stop, after) => {
+        Close::Closed { start, stop, after } => {
             let span = cursor.span(start, stop);
             let state = state_behind(cursor, whole, after);
             Step::Token(end_token(tag), span, state)
         }
         Close::Broken => Step::Over,
-        Close::Refused(fault, start, place) => {
-            Step::Failed(fault, cursor.fault_span(fault, start, place))
-        }
+        Close::Refused {
+            fault,
+            start,
+            place,
+        } => Step::Failed(fault, cursor.fault_span(fault, start, place)),
     }
 }
 
-/// The state after a tag, whose tail is skipped. After one that is the whole text, a text that goes on is refused.
+/// The state after a tag. The tail of the tag is skipped, but after a tag that is the whole text
+/// any further text is refused.
 #[inline(always)]
 fn state_behind(cursor: &mut Cursor<'_>, whole: bool, after: usize) -> State
     requires onwards { cursor.old.at ≤ after }
@@ -94,6 +100,6 @@ fn state_behind(cursor: &mut Cursor<'_>, whole: bool, after: usize) -> State
     if at == cursor.text().len() {
         State::Over
     } else {
-        State::Failed(Fault::TextGoesOn, cursor.refusal(at))
+        State::Failed(LexFault::TextGoesOn, cursor.refusal(at))
     }
 }

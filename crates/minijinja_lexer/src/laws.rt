@@ -1,4 +1,4 @@
-//! Laws of the definitions.
+//! Laws of the definitions of cuts, expressions and tokens.
 ghost use Rattle.std.specs.Prelude.{◌≡◌, ℕ, List, min, take};
 ghost use Rattle.std.specs.Str.{IsUtf8, IsCharBoundary};
 ghost use Rattle.minijinja_syntax.specs.Positions.{column_after};
@@ -33,7 +33,7 @@ pub fn some_expression()
     ensures { (s : Syntax) (text : Text) → IsExpression s text (inner_at s text Variable 0 0 0) }
 {}
 
-/// The text of a token is the slice of the text at its span, but for a raw block's, which is a part of that; and the
+/// The text of a token is the slice of the text at its span, or a part of that for a raw block. The
 /// span's lines and columns are those of its offsets.
 pub fn are_slices()
     ensures template { (s : Syntax) (source : Text) → AreCutSlices s (text_of s source)

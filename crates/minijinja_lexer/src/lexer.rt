@@ -1,6 +1,6 @@
-//! The tokenizer. A clause sees the tokens to come.
+//! The public tokenizer. A clause sees the tokens to come.
 ghost use Rattle.std.specs.Prelude.{◌≡◌, ◌≢◌, ◌<◌, ◌^◌, length, IfErr, IfOk, IfSome, if◌then◌else◌};
-ghost use Rattle.minijinja_syntax.specs.Errors.{kind_of};
+ghost use Rattle.minijinja_syntax.specs.Errors.{IsOutOfMemory, kind_of};
 ghost use Rattle.minijinja_syntax.specs.Tokens.{tok_of};
 ghost use Rattle.minijinja_syntax.specs.declared.error.ErrorKind.TheVariants.{OutOfMemory};
 ghost use Rattle.minijinja_lexer.specs.Slices.{IsBetweenChars, IsTokenText};
@@ -14,7 +14,7 @@ use crate::inside::step_inside;
 use crate::outside::step_outside;
 use crate::source::text_of;
 use crate::step::{State, Step};
-use crate::turn::Tag;
+use crate::tag_part::Tag;
 use minijinja_syntax::error::Error;
 pub use minijinja_syntax::syntax::StartMarker;
 use minijinja_syntax::syntax::SyntaxConfig;
@@ -22,7 +22,7 @@ use minijinja_syntax::tokens::{Span, Token};
 use std::alloc::Global;
 use std::marker::Model;
 
-/// A step from a state.
+/// The next step from a state.
 fn next_step<'s>(
     alloc: Global,
     syntax: &SyntaxConfig,
@@ -36,16 +36,19 @@ fn next_step<'s>(
 {
     match state {
         State::Outside => step_outside(syntax, cursor),
-        State::Inside(tag, opened, shut, whole) => {
-            step_inside(alloc, syntax, cursor, tag, opened, shut, whole)
-        }
+        State::Inside {
+            tag,
+            opened,
+            shut,
+            whole,
+        } => step_inside(alloc, syntax, cursor, tag, opened, shut, whole),
         State::Over => Step::Over,
         State::Failed(fault, span) => Step::Failed(fault, span),
         State::NoMemory => Step::NoMemory,
     }
 }
 
-/// Cuts a text into tokens that borrow it.
+/// Cuts a text into tokens that borrow from it.
 #[derive(Drop)]
 pub struct Tokenizer<'s, 'c> {
     filename: &'s str,
@@ -68,7 +71,8 @@ impl<'s, 'c> Model for Tokenizer<'s, 'c> {
 }
 
 impl<'s, 'c> Tokenizer<'s, 'c> {
-    /// The tokens of a template, or of one expression. The allocator is kept for tokens that need memory.
+    /// A tokenizer of a template, or of one expression. It keeps the allocator for tokens that need
+    /// memory.
     #[tactic(auto, unfolding(crate::specs::TextTokens::tokens_of_template, crate::specs::TextTokens::tokens_of_expression))]
     pub fn new(
         alloc: Global,
@@ -85,7 +89,12 @@ impl<'s, 'c> Tokenizer<'s, 'c> {
             else tokens_of_template syntax.now input.now) }
     {
         let state = if in_expr {
-            State::Inside(Tag::Variable, 0, 0, true)
+            State::Inside {
+                tag: Tag::Variable,
+                opened: 0,
+                shut: 0,
+                whole: true,
+            }
         } else {
             State::Outside
         };
@@ -112,8 +121,9 @@ impl<'s, 'c> Tokenizer<'s, 'c> {
         self.cursor.text()
     }
 
-    /// The next token and where it stands, `None` at the end and from then on, or a refusal, and the same from then on.
-    /// A decoded string and an integer from 2^64 on take memory; where that is refused the tokenizer ends by it.
+    /// The next token and its span, `None` at the end, or a refusal. After the end or a refusal
+    /// each call returns that again. A decoded string and an integer from 2^64 on need memory:
+    /// where it is refused, that is the refusal.
     pub fn next_token(&mut self) -> Result<Option<(Token<'s>, Span)>, Error<'s>>
         ensures answers { Answers self.old.stream result self.new.stream }
         // The text may be cut where a token begins and where it ends.
@@ -123,6 +133,7 @@ impl<'s, 'c> Tokenizer<'s, 'c> {
         ensures text { IfOk result (λ token. IfSome token
             (λ t. IsTokenText self.old.syntax self.old.source (tok_of t.0) t.1)) }
         ensures cause { IfErr result (λ e. IsTokenizerKind (kind_of e)) }
+        ensures memory { IfErr result (λ e. kind_of e ≡ OutOfMemory → IsOutOfMemory e) }
         ensures named { IfErr result (λ e. kind_of e ≢ OutOfMemory → IsNamed self.old.filename e) }
         ensures syntax { self.new.syntax ≡ self.old.syntax }
         ensures filename { self.new.filename ≡ self.old.filename }
@@ -133,8 +144,8 @@ impl<'s, 'c> Tokenizer<'s, 'c> {
         answer
     }
 
-    /// As [`Tokenizer::next_token`], in the place of an answer, which is let go. So the token is made where it stays, and
-    /// not copied.
+    /// Like [`Tokenizer::next_token`], but the result is made in place of `answer`, whose old value
+    /// is dropped. So a token is not copied.
     pub fn next_token_into(&mut self, answer: &mut Result<Option<(Token<'s>, Span)>, Error<'s>>)
         ensures answers { Answers self.old.stream answer.new self.new.stream }
         ensures between { IfOk answer.new
@@ -142,6 +153,7 @@ impl<'s, 'c> Tokenizer<'s, 'c> {
         ensures text { IfOk answer.new (λ token. IfSome token
             (λ t. IsTokenText self.old.syntax self.old.source (tok_of t.0) t.1)) }
         ensures cause { IfErr answer.new (λ e. IsTokenizerKind (kind_of e)) }
+        ensures memory { IfErr answer.new (λ e. kind_of e ≡ OutOfMemory → IsOutOfMemory e) }
         ensures named { IfErr answer.new
             (λ e. kind_of e ≢ OutOfMemory → IsNamed self.old.filename e) }
         ensures syntax { self.new.syntax ≡ self.old.syntax }

@@ -1,4 +1,4 @@
-//! From a text to its tokens.
+//! The tokenizer of templates and expressions.
 #![tactic(auto)]
 
 mod count;
@@ -19,5 +19,5 @@ mod scan;
 mod source;
 mod step;
 mod symbol;
-mod turn;
+mod tag_part;
 mod whitespace;

@@ -1,4 +1,4 @@
-//! An identifier at the front of a text.
+//! The identifier at the front of a text.
 ghost use Rattle.std.specs.Prelude.{◌≡◌, ◌<◌, ◌&&◌, nat_lt, IsTrue};
 ghost use Rattle.std.specs.Str.{IsCharBoundary, chars};
 ghost use Rattle.minijinja_lexer.specs.Names as spec;
@@ -9,6 +9,7 @@ fn continues_name(c: char) -> bool
     unicode_ident::is_xid_continue(c) | (c == '_')
 }
 
+/// Whether an identifier begins at the front.
 pub(crate) fn begins_name(text: &str) -> bool
     ensures value { result ≡ spec.begins_name (chars text.now) }
     ensures continues { IsTrue result → 0 < spec.name_len (chars text.now) }
@@ -19,7 +20,7 @@ pub(crate) fn begins_name(text: &str) -> bool
     }
 }
 
-/// Whether a name may go on with the byte. A byte of a character beyond ASCII is no such.
+/// Whether the byte is an ASCII character that may continue a name.
 #[inline]
 fn continues_ascii(byte: u8) -> bool
     ensures { result ≡ (nat_lt byte 128 && spec.continues_name byte) }
@@ -31,7 +32,7 @@ fn continues_ascii(byte: u8) -> bool
     byte.is_ascii_alphanumeric() | (byte == b'_')
 }
 
-/// How many bytes at the front a name may go on with.
+/// How many bytes at the front may continue a name.
 #[inline]
 pub(crate) fn name_len(text: &str) -> usize
     ensures value { result ≡ spec.name_len (chars text.now) }
@@ -53,7 +54,7 @@ pub(crate) fn name_len(text: &str) -> usize
     len
 }
 
-/// The same, character by character.
+/// How many bytes at the front may continue a name, read character by character.
 #[inline(never)]
 fn any_name_len(text: &str) -> usize
     ensures value { result ≡ spec.name_len (chars text.now) }

@@ -1,4 +1,4 @@
-//! A number at the front of a text.
+//! The number at the front of a text.
 ghost use Rattle.std.specs.Prelude.{◌≡◌, ◌≢◌, ℕ, ◌+◌, ◌*◌, ◌<◌, ◌≤◌, ◌==◌, ◌||◌, ◌&&◌, ◌^◌, drop, length, not, slice_index, true, MatchResult, IsTrue};
 ghost use Rattle.std.specs.Option.{SomeIff};
 ghost use Rattle.std.specs.Char.{digit_value, is_ascii_digit};
@@ -9,7 +9,7 @@ ghost use Rattle.minijinja_lexer.specs.Numbers as spec;
 ghost use Rattle.minijinja_lexer.specs.private.NumberPlaces.{NumberPlaces};
 ghost use Rattle.minijinja_lexer.specs.private.Views.{value_view, number_view};
 
-use crate::fault::Fault;
+use crate::fault::LexFault;
 use crate::name::begins_name;
 use crate::scan::byte_at;
 
@@ -82,7 +82,7 @@ fn reads_as_float(behind_dot: bool, text: &str) -> bool
     }
 }
 
-/// The value of a digit or a letter, and 36 for any other byte.
+/// The value of a digit or a letter, or 36 for any other byte.
 pub(crate) fn digit_of(byte: u8) -> u32
     ensures value { result ≡ digit_value byte }
     ensures bound { result ≤ 36 }
@@ -115,22 +115,22 @@ fn value_of(radix: u32, taken: &[u8]) -> Option<u128>
     Some(value)
 }
 
-fn taken_value(radix: u32, taken: &[u8]) -> Result<u128, Fault>
+fn taken_value(radix: u32, taken: &[u8]) -> Result<u128, LexFault>
     requires some { 1 ≤ radix }
     ensures { value_view result ≡ spec.taken_value radix taken.now }
 {
     if taken.is_empty() {
-        return Err(Fault::MissingDigits);
+        return Err(LexFault::MissingDigits);
     }
     if taken[taken.len() - 1] == b'_' {
-        return Err(Fault::TrailingUnderscore);
+        return Err(LexFault::TrailingUnderscore);
     }
     if !all_in_radix(radix, taken) {
-        return Err(Fault::DigitOutOfRange);
+        return Err(LexFault::DigitOutOfRange);
     }
     match value_of(radix, taken) {
         Some(value) => Ok(value),
-        None => Err(Fault::IntegerTooLarge),
+        None => Err(LexFault::IntegerTooLarge),
     }
 }
 
@@ -146,11 +146,12 @@ fn number_len(radix: u32, text: &str) -> usize
     start + taken_len(radix, &text.as_bytes()[start..])
 }
 
-/// The value of the number at the front and its length, or why it is refused and how many bytes on.
+/// The value of the number at the front and its length, or why it is refused and after how many
+/// bytes.
 #[tactic(auto, unfolding(crate::specs::Numbers::number))]
-// In place: what a call fills would be set to zero for each token.
+// Inlined, since a call would zero the memory of its result for each token.
 #[inline(always)]
-pub(crate) fn number(behind_dot: bool, text: &str) -> Result<(u128, usize), (Fault, usize)>
+pub(crate) fn number(behind_dot: bool, text: &str) -> Result<(u128, usize), (LexFault, usize)>
     requires digit { IsTrue (is_ascii_digit (slice_index text.now 0)) }
     ensures value { number_view result ≡ spec.number behind_dot text.now }
     ensures places { NumberPlaces text.now (number_view result) }
@@ -158,7 +159,7 @@ pub(crate) fn number(behind_dot: bool, text: &str) -> Result<(u128, usize), (Fau
     let radix = radix_at(text.as_bytes());
     let len = number_len(radix, text);
     if radix == 10 && reads_as_float(behind_dot, &text[len..]) {
-        return Err((Fault::FloatLiteral, len));
+        return Err((LexFault::FloatLiteral, len));
     }
     match taken_value(radix, &text.as_bytes()[prefix_size(radix)..len]) {
         Ok(value) => Ok((value, len)),

@@ -1,4 +1,4 @@
-//! A step outside any tag.
+//! The tokenizer's step outside any tag.
 ghost use Rattle.std.specs.Prelude.{◌≡◌, ℕ, ◌+◌, ◌<◌, ◌≤◌, Option, length};
 ghost use Rattle.std.specs.Str.{IsCharBoundary};
 ghost use Rattle.minijinja_syntax.specs.Markers.{marker_at, IsMarkerPlace};
@@ -14,26 +14,29 @@ ghost use Rattle.minijinja_lexer.specs.private.Found.{IsFound};
 
 use crate::cursor::Cursor;
 use crate::data::kept_stop;
-use crate::fault::Fault;
+use crate::fault::LexFault;
 use crate::find::{next_delimiter, next_line_end};
 use crate::raw::{RawBlock, raw_at, raw_block};
 use crate::step::{State, Step};
-use crate::turn::{Tag, start_token};
+use crate::tag_part::{Tag, start_token};
 use crate::whitespace::{
     Control, control_at, control_behind, control_len, past_line_end, past_tail,
 };
 use minijinja_syntax::syntax::{StartMarker, SyntaxConfig};
 use minijinja_syntax::tokens::Token;
 
-/// The segment that stands at a place: data up to a place, with where it is kept to; a comment up to a place; a raw
-/// block; a tag whose marker ends at a place; or what has no end.
+/// The segment at a place.
 #[derive(Clone, Copy)]
 enum Found {
+    /// Data up to the first place, of which what is before the second is kept.
     Data(usize, usize),
+    /// A comment up to a place.
     Skipped(usize),
     Raw(RawBlock),
+    /// A tag whose marker ends at a place.
     Tag(Tag, usize),
-    Unclosed(Fault),
+    /// A comment or a raw block without an end.
+    Unclosed(LexFault),
 }
 
 /// The control before a comment's end delimiter.
@@ -58,7 +61,7 @@ fn comment_at(syntax: &SyntaxConfig, text: &str, at: usize, body: usize) -> Foun
     let delimiter = syntax.comment_delimiters().1;
     let end = next_delimiter(text, body, delimiter);
     if end == text.len() {
-        return Found::Unclosed(Fault::UnclosedComment);
+        return Found::Unclosed(LexFault::UnclosedComment);
     }
     let control = tail_control(text, body, end);
     Found::Skipped(past_tail(
@@ -94,11 +97,11 @@ fn block_at(syntax: &SyntaxConfig, text: &str, at: usize, body: usize) -> Found
     };
     match raw_block(syntax, text, begin, control) {
         Some(block) => Found::Raw(block),
-        None => Found::Unclosed(Fault::UnclosedRaw),
+        None => Found::Unclosed(LexFault::UnclosedRaw),
     }
 }
 
-/// Where the marker at a place ends, with its control.
+/// The end of the marker at a place, after its control.
 fn body_of(text: &str, at: usize, marker: StartMarker, len: usize) -> usize
     requires { IsCharBoundary text.now (at + len) }
     ensures value { result ≡ at + len + control_len (control_behind text.now (at + len) marker) }
@@ -107,7 +110,7 @@ fn body_of(text: &str, at: usize, marker: StartMarker, len: usize) -> usize
     at + len + control_len(control_behind(text, at + len, marker))
 }
 
-/// The segment that the marker of a length at a place begins.
+/// The segment that begins with the marker of length `len` at a place.
 fn marked_at(syntax: &SyntaxConfig, text: &str, at: usize, marker: StartMarker, len: usize) -> Found
     requires marker { marker_at syntax.now text.now at ≡ Option.Some marker }
     requires len { len ≡ length (start_of syntax.now marker) }
@@ -125,6 +128,7 @@ fn marked_at(syntax: &SyntaxConfig, text: &str, at: usize, marker: StartMarker, 
     }
 }
 
+/// The segment that begins at a place.
 fn found_at(syntax: &SyntaxConfig, text: &str, at: usize) -> Found
     requires within { at < length text.now }
     requires boundary { IsCharBoundary text.now at }
@@ -187,7 +191,16 @@ pub(crate) fn step_outside<'s>(syntax: &SyntaxConfig, cursor: &mut Cursor<'s>) -
             Found::Raw(block) => return step_raw(cursor, text, block),
             Found::Tag(tag, body) => {
                 let span = cursor.span(at, body);
-                return Step::Token(start_token(tag), span, State::Inside(tag, 0, 0, false));
+                return Step::Token(
+                    start_token(tag),
+                    span,
+                    State::Inside {
+                        tag,
+                        opened: 0,
+                        shut: 0,
+                        whole: false,
+                    },
+                );
             }
             Found::Unclosed(fault) => {
                 return Step::Failed(fault, cursor.refusal(text.len()));

@@ -1,14 +1,14 @@
-//! A string at the front of a text.
+//! The string at the front of a text.
 ghost use Rattle.std.specs.Prelude.{◌≡◌, ◌<◌, ◌≤◌, length, slice_index, IsTrue};
 ghost use Rattle.minijinja_lexer.specs.Quoted as spec;
 ghost use Rattle.minijinja_lexer.specs.private.TokenPlaces.{ScanPlaces};
 ghost use Rattle.minijinja_lexer.specs.private.Views.{scan_view};
 
 use crate::escape::has_meaning;
-use crate::fault::Fault;
+use crate::fault::LexFault;
 use crate::scan::Sort;
 
-/// How many bytes stand before the next such quote, where a backslash takes the next byte along.
+/// How many bytes are before the next such quote. A backslash escapes the byte after it.
 fn quoted_len(text: &[u8], quote: u8) -> usize
     ensures value { result ≡ spec.quoted_len quote text.now }
     ensures within { result ≤ length text.now }
@@ -31,8 +31,8 @@ fn has_escapes(inside: &[u8]) -> bool
     inside.iter().any(|b| *b == b'\\')
 }
 
-/// The string whose inside has this length.
-fn quoted_inside(inside: &[u8], len: usize) -> Result<(Sort, usize), (Fault, usize)>
+/// The string with this inside, of this length.
+fn quoted_inside(inside: &[u8], len: usize) -> Result<(Sort, usize), (LexFault, usize)>
     requires { len ≡ length inside.now }
     ensures { scan_view result ≡ spec.quoted_inside inside.now len }
 {
@@ -41,13 +41,13 @@ fn quoted_inside(inside: &[u8], len: usize) -> Result<(Sort, usize), (Fault, usi
     } else if has_meaning(inside) {
         Ok((Sort::String, len + 2))
     } else {
-        Err((Fault::BadEscape, len + 2))
+        Err((LexFault::BadEscape, len + 2))
     }
 }
 
-/// The string at the front and its length, or why it is refused and how many bytes on.
+/// The string at the front and its length, or why it is refused and after how many bytes.
 #[inline]
-pub(crate) fn quoted(text: &str) -> Result<(Sort, usize), (Fault, usize)>
+pub(crate) fn quoted(text: &str) -> Result<(Sort, usize), (LexFault, usize)>
     requires { IsTrue (spec.is_quote (slice_index text.now 0)) }
     ensures value { scan_view result ≡ spec.quoted text.now }
     ensures places { ScanPlaces text.now 0 (scan_view result) }
@@ -56,7 +56,7 @@ pub(crate) fn quoted(text: &str) -> Result<(Sort, usize), (Fault, usize)>
     let rest = &bytes[1..];
     let len = quoted_len(rest, bytes[0]);
     if len == rest.len() {
-        return Err((Fault::UnterminatedString, text.len()));
+        return Err((LexFault::UnterminatedString, text.len()));
     }
     quoted_inside(&rest[..len], len)
 }

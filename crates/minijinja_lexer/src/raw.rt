@@ -1,4 +1,4 @@
-//! Raw blocks.
+//! Raw blocks and their tags.
 ghost use Rattle.std.specs.Prelude.{◌≡◌, ℕ, ◌+◌, ◌<◌, ◌≤◌, codes, length, slice_index, IfSome, Option};
 ghost use Rattle.std.specs.Option.{option_map};
 ghost use Rattle.std.specs.Str.{IsCharBoundary};
@@ -13,8 +13,8 @@ use crate::find::next_delimiter;
 use crate::whitespace::{Control, control_at, past_control, past_space, past_tail, tail_len};
 use minijinja_syntax::syntax::{StartMarker, SyntaxConfig, stands_at};
 
-/// A raw block by its places: the text between its tags runs from `begin` to `end`, what is kept of it from `start` to
-/// `stop`, and `after` is past the block and what is skipped there.
+/// The places of a raw block: the text between its tags is from `begin` to `end`, what is kept of
+/// it from `start` to `stop`, and `after` is past the block and what is skipped after it.
 #[derive(Clone, Copy)]
 pub(crate) struct RawBlock {
     pub begin: usize,
@@ -24,7 +24,7 @@ pub(crate) struct RawBlock {
     pub after: usize,
 }
 
-/// The control at the end of a tag of one word, and where that ends.
+/// The control at the end of a tag of one word, and where the tag ends.
 #[tactic(auto, unfolding(crate::specs::Raw::word_tag))]
 fn word_tag(syntax: &SyntaxConfig, text: &str, word: &str, at: usize) -> Option<(Control, usize)>
     requires word { 0 < length word.now }
@@ -57,7 +57,8 @@ pub(crate) fn raw_at(syntax: &SyntaxConfig, text: &str, at: usize) -> Option<(Co
     word_tag(syntax, text, "raw", at)
 }
 
-/// The same of the endraw tag whose block start ends at a place.
+/// The control at the end of the endraw tag whose block start ends at a place, and where the tag
+/// ends.
 fn endraw_at(syntax: &SyntaxConfig, text: &str, at: usize) -> Option<(Control, usize)>
     requires { IsCharBoundary text.now at }
     ensures value { end_view result ≡ spec.endraw_at syntax.now text.now at }
@@ -67,7 +68,7 @@ fn endraw_at(syntax: &SyntaxConfig, text: &str, at: usize) -> Option<(Control, u
     word_tag(syntax, text, "endraw", past_control(text, at))
 }
 
-/// The first endraw tag from a place on: where it begins, the control at its end, and where it ends.
+/// The first endraw tag from a place on: where it begins, the control at its end and where it ends.
 fn next_endraw(syntax: &SyntaxConfig, text: &str, at: usize) -> Option<(usize, Control, usize)>
     requires { IsCharBoundary text.now at }
     ensures value { endraw_view result ≡ spec.next_endraw syntax.now text.now at }
@@ -91,6 +92,7 @@ fn next_endraw(syntax: &SyntaxConfig, text: &str, at: usize) -> Option<(usize, C
     None
 }
 
+/// How much of a raw block's text is kept before an endraw tag with the control.
 fn raw_kept_len(syntax: &SyntaxConfig, control: Control, text: &str) -> usize
     ensures value { result ≡ spec.raw_kept_len syntax.now (control_view control) text.now }
     ensures boundary { IsCharBoundary text.now result }

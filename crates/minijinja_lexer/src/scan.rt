@@ -1,4 +1,4 @@
-//! One token at a place of a text.
+//! One token at a place in a text.
 ghost use Rattle.std.specs.Prelude.{◌≡◌, ℕ, ◌+◌, ◌<◌, ◌≤◌, length, slice_index};
 ghost use Rattle.std.specs.Char.{is_ascii_whitespace};
 ghost use Rattle.std.specs.List.{prefix_len};
@@ -7,13 +7,13 @@ ghost use Rattle.minijinja_lexer.specs.TokenAt as spec;
 ghost use Rattle.minijinja_lexer.specs.private.TokenPlaces.{ScanPlaces};
 ghost use Rattle.minijinja_lexer.specs.private.Views.{sort_view, scan_view};
 
-use crate::fault::Fault;
+use crate::fault::LexFault;
 use crate::name::{begins_name, name_len};
 use crate::number::number;
 use crate::quoted::quoted;
 use crate::symbol::{Symbol, symbol_front};
 
-/// What sort of token it is.
+/// The sort of a token.
 #[derive(Clone, Copy)]
 pub(crate) enum Sort {
     Ident,
@@ -59,7 +59,7 @@ fn int_sort(value: u128) -> Sort
     }
 }
 
-fn word_front(behind_dot: bool, text: &str) -> Result<(Sort, usize), (Fault, usize)>
+fn word_front(behind_dot: bool, text: &str) -> Result<(Sort, usize), (LexFault, usize)>
     requires { 0 < length text.now }
     ensures value { scan_view result ≡ spec.word_front behind_dot text.now }
     ensures places { ScanPlaces text.now 0 (scan_view result) }
@@ -73,12 +73,12 @@ fn word_front(behind_dot: bool, text: &str) -> Result<(Sort, usize), (Fault, usi
     } else if begins_name(text) {
         Ok((Sort::Ident, name_len(text)))
     } else {
-        Err((Fault::UnexpectedCharacter, 0))
+        Err((LexFault::UnexpectedCharacter, 0))
     }
 }
 
 #[tactic(auto, unfolding(crate::specs::TokenAt::token_front))]
-fn token_front(behind_dot: bool, text: &str) -> Result<(Sort, usize), (Fault, usize)>
+fn token_front(behind_dot: bool, text: &str) -> Result<(Sort, usize), (LexFault, usize)>
     requires { 0 < length text.now }
     ensures value { scan_view result ≡ spec.token_front behind_dot text.now }
     ensures places { ScanPlaces text.now 0 (scan_view result) }
@@ -97,7 +97,7 @@ fn is_behind_dot(text: &[u8], at: usize) -> bool
 
 /// The token at the place and where it stops, or why and where it is refused.
 #[tactic(auto, unfolding(crate::specs::TokenAt::token_at))]
-pub(crate) fn token_at(text: &str, at: usize) -> Result<(Sort, usize), (Fault, usize)>
+pub(crate) fn token_at(text: &str, at: usize) -> Result<(Sort, usize), (LexFault, usize)>
     requires within { at < length text.now }
     requires boundary { IsCharBoundary text.now at }
     ensures value { scan_view result ≡ spec.token_at text.now at }

@@ -1,4 +1,4 @@
-//! The text of a source.
+//! The text of a source, which may lose its last line end.
 ghost use Rattle.std.specs.Prelude.{◌≡◌, ◌<◌, ◌≤◌, length};
 ghost use Rattle.std.specs.Io.BufRead.{strip_last};
 ghost use Rattle.minijinja_lexer.specs.TextTokens as spec;
@@ -16,7 +16,7 @@ fn without_last(text: &str, byte: u8) -> &str
     }
 }
 
-/// The text of a source, which may lose its last line end.
+/// The text of a source: without its last line end, unless the syntax keeps that.
 #[tactic(auto, unfolding(crate::specs::TextTokens::text_of))]
 pub(crate) fn text_of<'s>(syntax: &SyntaxConfig, source: &'s str) -> &'s str
     ensures value { result.now ≡ spec.text_of syntax.now source.now }

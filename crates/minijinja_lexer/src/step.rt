@@ -1,24 +1,31 @@
-//! One step of the tokenizer.
-use crate::fault::Fault;
-use crate::turn::Tag;
+//! The states and steps of the tokenizer.
+use crate::fault::LexFault;
+use crate::tag_part::Tag;
 use minijinja_syntax::tokens::{Span, Token};
 
-/// Where the tokenizer stands: in a tag with the counts of brackets opened and shut in it, where the tag may be the
-/// whole text.
+/// Where the tokenizer stands.
 #[derive(Clone, Copy)]
 pub(crate) enum State {
+    /// Outside any tag.
     Outside,
-    Inside(Tag, usize, usize, bool),
+    /// In a tag, with the counts of brackets opened and shut in it. An expression is a tag that is
+    /// the whole text.
+    Inside {
+        tag: Tag,
+        opened: usize,
+        shut: usize,
+        whole: bool,
+    },
     Over,
-    Failed(Fault, Span),
+    Failed(LexFault, Span),
     NoMemory,
 }
 
-/// What a step gives: a token, its span and the state after it.
+/// What a step yields: a token with its span and the state after it, the end, or a refusal.
 #[derive(Drop)]
 pub(crate) enum Step<'s> {
     Token(Token<'s>, Span, State),
     Over,
-    Failed(Fault, Span),
+    Failed(LexFault, Span),
     NoMemory,
 }

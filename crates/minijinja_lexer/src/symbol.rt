@@ -1,4 +1,4 @@
-//! The symbols inside a tag.
+//! The symbols inside a tag: operators, brackets and other marks.
 ghost use Rattle.std.specs.Prelude.{◌≡◌, ◌<◌, IsSome, IfSome};
 ghost use Rattle.minijinja_syntax.specs.Tokens.{tok_of};
 ghost use Rattle.minijinja_lexer.specs.private.AsciiEnds.{EndsInAscii};
@@ -9,7 +9,7 @@ ghost use Rattle.minijinja_lexer.specs.private.Views.{symbol_view};
 use crate::scan::byte_at;
 use minijinja_syntax::tokens::Token;
 
-/// A token that is written with the same bytes wherever it stands.
+/// A token that is always written with the same bytes.
 #[derive(Clone, Copy)]
 pub(crate) enum Symbol {
     /// `+`
@@ -153,7 +153,7 @@ pub(crate) fn symbol_token<'s>(symbol: Symbol) -> Token<'s>
     }
 }
 
-/// 1 at a bracket of any kind that opens, and else 0.
+/// 1 for an opening bracket of any kind, otherwise 0.
 pub(crate) fn opens(symbol: Symbol) -> usize
     ensures { result ≡ spec.opens (symbol_view symbol) }
 {
@@ -163,7 +163,7 @@ pub(crate) fn opens(symbol: Symbol) -> usize
     }
 }
 
-/// 1 at a bracket of any kind that closes, and else 0.
+/// 1 for a closing bracket of any kind, otherwise 0.
 pub(crate) fn closes(symbol: Symbol) -> usize
     ensures { result ≡ spec.closes (symbol_view symbol) }
 {

@@ -1,4 +1,4 @@
-//! Controls, and the whitespace that is skipped after an end.
+//! Whitespace controls, and the whitespace that is skipped after an end.
 ghost use Rattle.std.specs.Prelude.{◌≡◌, ◌+◌, ◌-◌, ◌≤◌, length, drop, slice_index};
 ghost use Rattle.std.specs.Str.{IsCharBoundary, chars, trim_start};
 ghost use Rattle.minijinja_syntax.specs.Markers as markers;
@@ -9,7 +9,7 @@ ghost use Rattle.minijinja_lexer.specs.private.Views.{control_view};
 use crate::scan::{byte_at, space_len};
 use minijinja_syntax::syntax::{StartMarker, SyntaxConfig};
 
-/// What a `-` or `+` at a marker asks of the whitespace beside it.
+/// What a `-` or `+` at a marker says about the whitespace beside it.
 #[derive(Clone, Copy)]
 pub(crate) enum Control {
     Absent,
@@ -27,12 +27,14 @@ fn control_of(byte: u8) -> Control
     }
 }
 
+/// The control at a place.
 pub(crate) fn control_at(text: &str, at: usize) -> Control
     ensures { control_view result ≡ spec.control_at text.now at }
 {
     control_of(byte_at(text.as_bytes(), at))
 }
 
+/// How many bytes a control has.
 pub(crate) fn control_len(control: Control) -> usize
     ensures { result ≡ spec.control_len (control_view control) }
 {
@@ -42,7 +44,7 @@ pub(crate) fn control_len(control: Control) -> usize
     }
 }
 
-/// Where the control at a place ends.
+/// The end of the control at a place.
 pub(crate) fn past_control(text: &str, at: usize) -> usize
     requires { IsCharBoundary text.now at }
     ensures value { result ≡ at + spec.control_len (spec.control_at text.now at) }
@@ -90,7 +92,7 @@ fn line_space_len(text: &str) -> usize
     len
 }
 
-/// The first place from `at` on that holds no ASCII whitespace.
+/// The first place from `at` on without ASCII whitespace.
 pub(crate) fn past_space(text: &str, at: usize) -> usize
     requires { IsCharBoundary text.now at }
     ensures value { result ≡ spec.past_space text.now at }
@@ -100,7 +102,7 @@ pub(crate) fn past_space(text: &str, at: usize) -> usize
     at + space_len(&text[at..])
 }
 
-/// The first place from `at` on that holds no whitespace other than `\r` and `\n`.
+/// The first place from `at` on without whitespace other than `\r` and `\n`.
 pub(crate) fn past_line_space(text: &str, at: usize) -> usize
     requires { IsCharBoundary text.now at }
     ensures value { result ≡ spec.past_line_space text.now at }
@@ -124,7 +126,7 @@ fn line_end_len(text: &str) -> usize
     newline_len(text.as_bytes())
 }
 
-/// Where the line end at a place ends, if one stands there.
+/// The end of the line end at a place, if there is one, otherwise the place.
 pub(crate) fn past_line_end(text: &str, at: usize) -> usize
     requires { IsCharBoundary text.now at }
     ensures value { result ≡ at + spec.line_end_len (drop at text.now) }
@@ -179,7 +181,7 @@ pub(crate) fn tail_len(
     }
 }
 
-/// Where the tail that is skipped after an end ends.
+/// The place after what is skipped after an end.
 pub(crate) fn past_tail(
     syntax: &SyntaxConfig,
     marker: StartMarker,

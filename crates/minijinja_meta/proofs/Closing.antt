@@ -1,4 +1,4 @@
--- Names in order of their bytes, each once, are told by which they are.
+-- Names in order of their bytes, each once, depend only on which names they are.
 use Rattle.std.proofs.Common.{◌≡◌, refl, sym, ap, ap₂, ◌∙◌, true, false}
 use Rattle.std.specs.Prelude.{Bool, not, ◌&&◌, ◌||◌, List, [], ◌∷◌, map}
 use Rattle.std.specs.Borrow.{Bor}

@@ -1,4 +1,4 @@
--- What is stored, and the log of it.
+-- The stored names, and the log of them.
 use Rattle.std.proofs.Common.{◌≡◌, ◌++◌, refl, sym, ap, ◌∙◌, subst, true, false}
 use Rattle.std.specs.Prelude.{Bool, not, ◌&&◌, ◌||◌, List, [], ◌∷◌, filter, cond}
 use Rattle.std.specs.Borrow.{Bor}

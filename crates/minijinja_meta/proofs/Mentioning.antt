@@ -1,10 +1,10 @@
--- What is met on the way through an expression are the names that occur in it, in any order.
+-- The way through an expression has the names that occur in it, in any order.
 use Rattle.std.proofs.Common.{◌≡◌, refl, sym, ap, ◌∙◌, true, false}
 use Rattle.std.specs.Prelude.{Bool, ◌||◌, []}
 use Rattle.minijinja_syntax.specs.Texts.{Text}
 use Rattle.minijinja_tree.specs.Tree.{Expr, variable, constant, slice, unary, binary, compare, if_expr, filter, test, attribute, item, call, list, tuple, map, Optional, absent, present, Exprs, no_more, more, Comparisons, compared, against, Args, no_args, pos, pos_splat, kwarg, kwarg_splat}
 use Rattle.minijinja_tree.specs.FreeNames.{Way, free, in_row, in_turn, through, through_if_any, through_all, each, through_compared, through_positional, through_keyword}
-use Rattle.minijinja_tree.specs.private.WellFormedTests.{long_side}
+use Rattle.minijinja_tree.specs.internal.WellFormedTests.{long_side}
 use Rattle.minijinja_meta.specs.private.FoundNames.{has}
 use Rattle.minijinja_meta.specs.private.Mentions.{mentions, mentions_any, mentions_all, mentions_compared, mentions_args, mentions_beside, mentions_if_some}
 

@@ -9,13 +9,13 @@ use Rattle.minijinja_tree.specs.Tree.{no_args, Args}
 use Rattle.minijinja_meta.specs.declared.meta.Names.{Names}
 use Rattle.minijinja_meta.specs.private.FoundNames.{among, Notes}
 use Rattle.minijinja_meta.specs.private.Mentions.{mentions, mentions_all, mentions_args, mentions_beside, mentions_compared, mentions_if_some}
-use Rattle.minijinja_tree.specs.private.WellFormedTests.{long_side}
+use Rattle.minijinja_tree.specs.internal.WellFormedTests.{long_side}
 use Rattle.minijinja_meta.proofs.Mentioning.{mentions-sides}
-use Rattle.minijinja_expressions.specs.Sizes.{size_of}
-use Rattle.minijinja_expressions.specs.declared.ast.Expr.{Expr as Node}
-use Rattle.minijinja_expressions.specs.declared.ast.CallArg.{CallArg, Pos, Kwarg, PosSplat, KwargSplat}
-use Rattle.minijinja_expressions.specs.declared.ast.CompareOp.{CompareOp}
-use Rattle.minijinja_expressions.proofs.Sizes.{IsWithin, next-within}
+use Rattle.minijinja_tree_expr.specs.Sizes.{size_of}
+use Rattle.minijinja_tree_expr.specs.declared.ast.Expr.{Expr as Node}
+use Rattle.minijinja_tree_expr.specs.declared.ast.CallArg.{CallArg, Pos, Kwarg, PosSplat, KwargSplat}
+use Rattle.minijinja_tree_expr.specs.declared.ast.CompareOp.{CompareOp}
+use Rattle.minijinja_tree_expr.proofs.Sizes.{IsWithin, next-within}
 
 or-false : (a : Bool) → (a || false) ≡ a
 or-false true = refl

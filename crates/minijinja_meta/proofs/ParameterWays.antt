@@ -9,7 +9,7 @@ use Rattle.minijinja_tree.specs.FreeNames.{Way, through, through_if_any, to_targ
 use Rattle.minijinja_tree.specs.Tree.{Expr, Optional, absent, present, defaulted, parameters, stored_as}
 use Rattle.minijinja_meta.specs.declared.meta.Names.{Names}
 use Rattle.minijinja_meta.specs.private.FoundNames.{log, finds, IsLogged, Walks, Walking}
-use Rattle.minijinja_expressions.specs.declared.ast.Expr.{Expr as Node}
+use Rattle.minijinja_tree_expr.specs.declared.ast.Expr.{Expr as Node}
 
 -- the expression, if there is one
 abbrev pub as_optional : {C : Type 0} → Option (Expr C) → Optional C

@@ -13,9 +13,9 @@ use Rattle.minijinja_tree.specs.declared.ast.Stmt.{Stmt as Node}
 use Rattle.minijinja_meta.specs.declared.meta.Names.{Names}
 use Rattle.minijinja_meta.specs.private.FoundNames.{has, among, log, finds, IsLogged, Walks}
 use Rattle.minijinja_meta.specs.private.Mentions.{mentions}
-use Rattle.minijinja_tree.specs.private.Sizes.{stmt_size}
+use Rattle.minijinja_tree.specs.internal.Sizes.{stmt_size}
 use Rattle.minijinja_meta.specs.private.Ways.{beside_way, way_of}
-use Rattle.minijinja_tree.specs.private.WellFormedTests.{otherwise, only}
+use Rattle.minijinja_tree.specs.internal.WellFormedTests.{otherwise, only}
 use Rattle.minijinja_meta.proofs.Mentioning.{met-through}
 use Rattle.minijinja_tree.proofs.Rows.{body_of}
 use Rattle.minijinja_tree.proofs.StmtSizes.{IsStmtWithin, next-stmt-within}

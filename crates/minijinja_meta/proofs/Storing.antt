@@ -1,4 +1,4 @@
--- A name occurs, is stored, or is stored no longer.
+-- A name occurs, is stored, or is no longer stored.
 use Rattle.std.proofs.Common.{◌≡◌, ◌-◌, ◌++◌, refl, sym, ap, ◌∙◌, subst, true, false, length, take, arith, length-append}
 use Rattle.std.specs.Prelude.{Bool, not, ◌&&◌, ◌||◌, List, [], ◌∷◌, map}
 use Rattle.std.specs.Bool.{OnFalse}

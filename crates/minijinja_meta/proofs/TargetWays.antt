@@ -9,8 +9,8 @@ use Rattle.minijinja_tree.specs.Tree.{Expr, variable, list, Exprs}
 use Rattle.minijinja_meta.specs.declared.meta.Names.{Names}
 use Rattle.minijinja_meta.specs.private.FoundNames.{log, finds, IsLogged, Walks, Walking}
 use Rattle.minijinja_meta.specs.private.TargetRows.{rows_to, rows_count, target_count, targets_count}
-use Rattle.minijinja_tree.specs.private.WellFormedTests.{items_of, is_variable}
-use Rattle.minijinja_expressions.specs.declared.ast.Expr.{Expr as Node}
+use Rattle.minijinja_tree.specs.internal.WellFormedTests.{items_of, is_variable}
+use Rattle.minijinja_tree_expr.specs.declared.ast.Expr.{Expr as Node}
 
 pub list-ways : {C : Type 0} (e : Expr C) (es : Exprs C) (w : Way) → Some es ≡ items_of e → to_targets es w ≡ to_target e w
 list-ways (list xs) es w h = let k : es ≡ xs = cc in ap (λ l. to_targets l w) k

@@ -1,4 +1,4 @@
--- What specifies private functions alone, and need not be believed.
+-- What the crate says of its own private functions.
 pub mod FoundNames
 pub mod Mentions
 pub mod Ways

@@ -1,4 +1,4 @@
-//! What a part of a template needs from outside.
+//! The names that a macro needs from outside of it.
 #![tactic(auto)]
 
 pub mod meta;

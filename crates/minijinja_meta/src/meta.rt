@@ -1,4 +1,4 @@
-//! The names that a part of a template needs from outside.
+//! Finds the names that a macro needs from outside of it.
 ghost use Rattle.std.specs.Prelude.{◌≡◌, ◌+◌, ◌-◌, ◌<◌, ◌||◌, ◌++◌, IfErr, IfOk, IsSome, OnOk, None, [], ◌∷◌, bytes_eq, drop, length, map, option_map, reverse, slice_get, take};
 ghost use Rattle.std.specs.BTreeSet.{IsOrdered, keys};
 ghost use Rattle.std.specs.Cmp.Lexicographic.{slice_cmp};
@@ -12,22 +12,22 @@ ghost use Rattle.minijinja_tree.specs.Tree.{stmts_of};
 ghost use Rattle.minijinja_meta.specs.private.FoundNames.{IsLogged, Notes, Walking, Walks, log};
 ghost use Rattle.minijinja_meta.specs.private.TargetRows.{rows_count, rows_to};
 ghost use Rattle.minijinja_meta.specs.private.Mentions.{mentions, mentions_all, mentions_any, mentions_args, mentions_beside, mentions_compared};
-ghost use Rattle.minijinja_tree.specs.private.WellFormedTests as tests;
+ghost use Rattle.minijinja_tree.specs.internal.WellFormedTests as tests;
 ghost use Rattle.minijinja_meta.specs.private.Ways.{beside_way, in_region, way_of, within_macro};
 
-use minijinja_base::error::Error;
-use minijinja_base::value::TemplateValue;
-use minijinja_expressions::well_formed::{list_of, long_side};
+use minijinja_syntax::error::Error;
 use minijinja_tree::ast::{
     Block, Call, CallArg, CallBlock, CompareOp, Expr, ForLoop, FromImport, IfCond, IfExpr, Import,
     Macro, Map, Set, SetBlock, Slice, Stmt, WithBlock,
 };
 use minijinja_tree::well_formed::{only, otherwise};
+use minijinja_tree_expr::well_formed::{list_of, long_side};
+use minijinja_value::value::TemplateValue;
 use std::alloc::{AllocError, Global};
 use std::collections::BTreeSet;
 
-/// The names that a macro needs from outside of it: those that occur in it, and are not stored before in a region that is still
-/// open. Refused memory is the only error.
+/// The names that a macro needs from outside of it: those that occur in it, and are not stored
+/// before in a region that is still open. Refused memory is the only error.
 pub fn find_macro_closure<'s, V: TemplateValue>(
     alloc: Global,
     declared: &Macro<'s, V>,
@@ -42,15 +42,16 @@ pub fn find_macro_closure<'s, V: TemplateValue>(
     Ok(names.into_free())
 }
 
-/// The names that were found so far, and those that are stored in a region that is still open.
+/// The names found so far, and the names that are stored in a region that is still open.
 #[derive(Drop)]
 struct Names<'s> {
     alloc: Global,
-    /// Those that occurred free.
+    /// Names that occurred free.
     free: BTreeSet<&'s str>,
-    /// Those that are stored.
+    /// Names that are stored.
     stored: BTreeSet<&'s str>,
-    /// The same in the order in which they were, so that a region's are the last ones.
+    /// The stored names in the order in which they were stored, so that those of the innermost
+    /// region come last.
     log: Vec<&'s str>,
 }
 
@@ -68,6 +69,7 @@ impl<'s> Names<'s> {
         }
     }
 
+    /// Notes a name that occurs.
     fn occurs(&mut self, name: &'s str) -> Result<(), AllocError>
         ensures { OnOk result (Notes self.old self.new (λ y. bytes_eq y name.now)) }
     {
@@ -77,6 +79,7 @@ impl<'s> Names<'s> {
         Ok(())
     }
 
+    /// Notes a name that is stored.
     fn stores(&mut self, name: &'s str) -> Result<(), AllocError>
         requires { IsLogged self.old }
         ensures { OnOk result (Walks self.old self.new (way.stores name.now)) }
@@ -87,7 +90,7 @@ impl<'s> Names<'s> {
         Ok(())
     }
 
-    /// Those that occurred free.
+    /// The names that occurred free.
     fn into_free(self) -> BTreeSet<&'s str>
         ensures same { result ≡ self.entry.free }
         ensures ordered { IsOrdered (λ x y. slice_cmp nat_cmp x.now y.now) result }
@@ -104,7 +107,7 @@ impl<'s> Names<'s> {
         self.log.len()
     }
 
-    /// Ends the region that began at the mark: what was stored in it is stored no longer.
+    /// Ends the region that began at the mark: names that were stored in it are no longer stored.
     fn end(&mut self, mark: usize)
         requires { IsLogged self.old }
         ensures logged { IsLogged self.new }
@@ -116,7 +119,7 @@ impl<'s> Names<'s> {
         }
     }
 
-    /// What was stored last is stored no longer.
+    /// Removes the name that was stored last.
     fn forget_last(&mut self)
         requires { IsLogged self.old }
         ensures logged { IsLogged self.new }
@@ -130,7 +133,8 @@ impl<'s> Names<'s> {
     }
 }
 
-/// Goes down the long side in a loop. Within an expression nothing is stored, so the order does not matter.
+/// Notes the names in an expression. Goes down the long side in a loop: within an expression
+/// nothing is stored, so the order does not matter.
 #[cycle(walk)]
 fn expression<'s, V: TemplateValue>(
     names: &mut Names<'s>,
@@ -147,7 +151,7 @@ fn expression<'s, V: TemplateValue>(
     Ok(())
 }
 
-/// All but the long side.
+/// Notes the names in an expression, except those in the long side.
 #[cycle(walk)]
 fn beside<'s, V: TemplateValue>(names: &mut Names<'s>, expr: &Expr<'s, V>) -> Result<(), AllocError>
     ensures { OnOk result (Notes names.old names.new
@@ -187,7 +191,8 @@ fn bounds<'s, V: TemplateValue>(
     if_any(names, &slice.step)
 }
 
-/// The test, and the true part where it is not the long side.
+/// Notes the names in the test of an if expression, and in the true part unless it is the long
+/// side.
 #[cycle(walk)]
 fn choice_beside<'s, V: TemplateValue>(
     names: &mut Names<'s>,
@@ -290,7 +295,7 @@ fn argument<'s, V: TemplateValue>(
     }
 }
 
-/// What is called, and the arguments.
+/// Notes the names in what is called, and in the arguments.
 fn called<'s, V: TemplateValue>(names: &mut Names<'s>, call: &Call<'s, V>) -> Result<(), AllocError>
     ensures { OnOk result (Notes names.old names.new
         (λ y. mentions y (tree.call (expr_tree V.contents call.now.expr)
@@ -300,7 +305,7 @@ fn called<'s, V: TemplateValue>(names: &mut Names<'s>, call: &Call<'s, V>) -> Re
     arguments(names, &call.args)
 }
 
-/// A target: variables are stored.
+/// Stores the variables of a target.
 fn target<'s, V: TemplateValue>(names: &mut Names<'s>, expr: &Expr<'s, V>) -> Result<(), AllocError>
     requires { IsLogged names.old }
     ensures { OnOk result (Walks names.old names.new
@@ -312,7 +317,8 @@ fn target<'s, V: TemplateValue>(names: &mut Names<'s>, expr: &Expr<'s, V>) -> Re
     }
 }
 
-/// Targets in order. Lists of them nest without a bound, so what is left of each is kept in a row.
+/// Stores the variables of targets, in order. Lists of targets nest without a bound, so the rest of
+/// each list is kept in a vector.
 fn targets<'s, V: TemplateValue>(
     names: &mut Names<'s>,
     exprs: &[Expr<'s, V>],
@@ -329,7 +335,8 @@ fn targets<'s, V: TemplateValue>(
     Ok(())
 }
 
-/// The first target of a row. What is left of the row goes onto the rows, and so does the target if it is a list.
+/// Stores the first target of a row. The rest of the row is pushed onto the rows, and so are the
+/// items of the target if it is a list.
 fn next_target<'a, 's, V: TemplateValue>(
     names: &mut Names<'s>,
     rows: &mut Vec<&'a [Expr<'s, V>]>,
@@ -355,7 +362,7 @@ fn next_target<'a, 's, V: TemplateValue>(
     }
 }
 
-/// A target that is no list.
+/// Stores a target that is no list.
 fn single_target<'s, V: TemplateValue>(
     names: &mut Names<'s>,
     expr: &Expr<'s, V>,
@@ -371,7 +378,7 @@ fn single_target<'s, V: TemplateValue>(
     }
 }
 
-/// Each value before its target.
+/// Notes the names in assignments, each value before its target.
 fn assignments<'s, V: TemplateValue>(
     names: &mut Names<'s>,
     pairs: &[(Expr<'s, V>, Expr<'s, V>)],
@@ -387,7 +394,7 @@ fn assignments<'s, V: TemplateValue>(
     Ok(())
 }
 
-/// The names that are taken from a template, the last one first.
+/// Stores the names that are imported from a template, the last one first.
 fn imported<'s, V: TemplateValue>(
     names: &mut Names<'s>,
     taken: &[(Expr<'s, V>, Option<Expr<'s, V>>)],
@@ -404,7 +411,7 @@ fn imported<'s, V: TemplateValue>(
     Ok(())
 }
 
-/// What a name that is taken from a template is stored to.
+/// Stores a name that is imported from a template, or its alias if it has one.
 fn taken_as<'s, V: TemplateValue>(
     names: &mut Names<'s>,
     taken: &(Expr<'s, V>, Option<Expr<'s, V>>),
@@ -420,7 +427,7 @@ fn taken_as<'s, V: TemplateValue>(
     }
 }
 
-/// The arguments of a macro, the last one first, each after its default.
+/// Stores the arguments of a macro, the last one first, each after its default.
 fn parameters<'s, V: TemplateValue>(
     names: &mut Names<'s>,
     declared: &Macro<'s, V>,
@@ -436,7 +443,7 @@ fn parameters<'s, V: TemplateValue>(
     Ok(())
 }
 
-/// The argument at a place, as counted from the end, if there is one, after its default.
+/// Stores the argument at a place, counted from the end, if there is one, after its default.
 fn parameter<'s, V: TemplateValue>(
     names: &mut Names<'s>,
     declared: &Macro<'s, V>,
@@ -474,7 +481,7 @@ fn defaulted<'s, V: TemplateValue>(
     target(names, arg)
 }
 
-/// The expression at a place, as counted from the end.
+/// The expression at a place, counted from the end.
 fn from_end<'a, 's, V: TemplateValue>(
     exprs: &'a [Expr<'s, V>],
     place: usize,
@@ -518,8 +525,8 @@ fn statement<'s, V: TemplateValue>(
     }
 }
 
-/// Goes down false bodies in a loop, so that a row of `elif` takes no more stack than one of them. The regions of these bodies
-/// end together, at the end of the row.
+/// Goes down false bodies in a loop, so that a row of `elif` takes no more stack than one of them.
+/// The regions of these bodies end together, at the end of the row.
 #[cycle(statements)]
 fn row<'s, V: TemplateValue>(names: &mut Names<'s>, stmt: &Stmt<'s, V>) -> Result<(), AllocError>
     requires logged { IsLogged names.old }
@@ -536,7 +543,7 @@ fn row<'s, V: TemplateValue>(names: &mut Names<'s>, stmt: &Stmt<'s, V>) -> Resul
     Ok(())
 }
 
-/// All but the only statement of a false body.
+/// Goes through a statement, except the only statement of a false body.
 #[cycle(statements)]
 fn single<'s, V: TemplateValue>(names: &mut Names<'s>, stmt: &Stmt<'s, V>) -> Result<(), AllocError>
     requires { IsLogged names.old }
@@ -584,7 +591,8 @@ fn single<'s, V: TemplateValue>(names: &mut Names<'s>, stmt: &Stmt<'s, V>) -> Re
     }
 }
 
-/// The test and the bodies, but for a false body that holds one statement.
+/// Goes through the test and the bodies of a condition, except a false body that holds one
+/// statement.
 #[cycle(statements)]
 fn branches<'s, V: TemplateValue>(
     names: &mut Names<'s>,
@@ -604,7 +612,7 @@ fn branches<'s, V: TemplateValue>(
     }
 }
 
-/// A body that is a region of its own.
+/// Goes through a body that is a region of its own.
 #[cycle(statements)]
 fn body<'s, V: TemplateValue>(
     names: &mut Names<'s>,
@@ -642,7 +650,7 @@ fn for_loop<'s, V: TemplateValue>(
     body(names, &repeated.else_body)
 }
 
-/// The pass of a loop's filter, which is a region of its own.
+/// Goes through the filter of a loop, which is a region of its own.
 fn filtered<'s, V: TemplateValue>(
     names: &mut Names<'s>,
     repeated: &ForLoop<'s, V>,
@@ -692,7 +700,7 @@ fn set<'s, V: TemplateValue>(
     target(names, &assignment.target)
 }
 
-/// What a set block does after its body.
+/// Goes through the filters and the target of a set block, after its body.
 fn kept<'s, V: TemplateValue>(
     names: &mut Names<'s>,
     block: &SetBlock<'s, V>,
@@ -749,7 +757,8 @@ fn from_import<'s, V: TemplateValue>(
     imported(names, &import.names)
 }
 
-/// A macro where it stands in a statement: a region of its own, in which the caller is stored.
+/// Goes through a macro where it stands in a statement: a region of its own, in which `caller` is
+/// stored.
 #[cycle(statements)]
 fn within<'s, V: TemplateValue>(
     names: &mut Names<'s>,

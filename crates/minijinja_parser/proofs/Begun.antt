@@ -1,5 +1,5 @@
--- Parsers of whole texts: what holds at the place where a parser begins holds before the first token of the text, or memory was
--- refused for that token.
+-- Parsers of whole texts, at the place where they begin.
+-- What holds there holds before the first token of the text, or memory was refused for that token.
 use Rattle.std.proofs.Common.{◌≡◌, [], ◌⊎◌, inl, inr, None, Result, Ok, Err, IfErr, IsErrAnd, MatchResult, refl, sym, ap, subst}
 use Rattle.minijinja_syntax.specs.Errors.{kind_of, span_of}
 use Rattle.minijinja_syntax.specs.Texts.{Text}
@@ -10,12 +10,12 @@ use Rattle.minijinja_grammar.specs.Forms.{Form, Place}
 use Rattle.minijinja_grammar.specs.Derived.{IsWholeOf}
 use Rattle.minijinja_parser.specs.Causes.{IsLimit, IsRefusal}
 use Rattle.minijinja_parser.specs.Parsing.{AnswersItsRefusal, HasRefused}
-use Rattle.minijinja_stream.specs.TokenStreams.{Comes, first_place, no_place, stream_at}
+use Rattle.minijinja_parser_tokens.specs.TokenStreams.{Comes, first_place, no_place, stream_at}
 
 module _ {A X : Type 0} (f : Form A) (view : X → A) (text : Text) (s : Stream) (p : Place) (r : Result X Error)
     (source : p.source ≡ text) (last : p.last ≡ no_place) (names : p.names ≡ []) (comes : Comes s (stream_at p))
     (again : HasRefused p OutOfMemory None → IsErrAnd r (λ e. (kind_of e ≡ OutOfMemory) × (span_of e ≡ None))) where
-  -- the place is before the first token, or the answer is want of memory
+  -- the place is before the first token, or the result is a refusal for memory
   begun : (first_place text s ≡ p) ⊎ IsErrAnd r (λ e. (kind_of e ≡ OutOfMemory) × (span_of e ≡ None))
   begun = go comes
     where

@@ -1,3 +1,4 @@
 pub mod Wholes
 pub mod NoTokens
 pub mod Begun
+pub mod Unplaced

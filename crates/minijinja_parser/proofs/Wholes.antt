@@ -14,8 +14,8 @@ use Rattle.minijinja_grammar.proofs.Trees.{one_whole, fits_to_end}
 use Rattle.minijinja_grammar.proofs.Whole.{IsAtEnd}
 use Rattle.minijinja_parser.specs.Causes.{IsRefusal}
 use Rattle.minijinja_parser.specs.private.Wholes.{IsOver, IsCutAt, HasMisfit, ReadsWhole, IsOfEnding, IsErrorAt}
-use Rattle.minijinja_stream.specs.declared.refusal.Refusal.{Refusal}
-use Rattle.minijinja_stream.specs.declared.refusal.Refusal.TheVariants as refusal
+use Rattle.minijinja_parser_tokens.specs.declared.refusal.Refusal.{Refusal}
+use Rattle.minijinja_parser_tokens.specs.declared.refusal.Refusal.TheVariants as refusal
 
 abbrev place_or : {A : Type 0} → Place → Read A → Place
 place_or p (got x q) = q
@@ -89,7 +89,7 @@ of_ending e q kind span i h = go q.ending i h
     go finished j k = cc
     go (refused a b) j k = (cc, cc)
 
--- the tokenizer's refusal is answered where all tokens before it fit
+-- the tokenizer's refusal is returned if all tokens before it fit
 pub answers : {A X : Type 0} (f : Form A) (view : X → A) (p q : Place) (r : Refusal) (e : Error) →
     ReadsWhole view (reads f p) (Err r) q → IsErrorAt q r e → (kind : ErrorKind) (span : Option Span) → p.ending ≡ refused kind span → FitsSoFar f p →
     ((kind_of e ≡ kind) × (span_of e ≡ span)) ⊎ (kind_of e ≡ OutOfMemory)

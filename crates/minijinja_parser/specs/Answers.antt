@@ -1,4 +1,4 @@
--- What a parser answers: the one tree that there is, or why there is none.
+-- What a parser returns: the one tree that there is, or why there is none.
 use Rattle.std.specs.Prelude.{◌≡◌, ◌⊎◌, ◌<◌, ◌^◌, Contains, IsErrAnd, MatchResult, Option, Result, length}
 use Rattle.minijinja_syntax.specs.Texts.{Text}
 use Rattle.minijinja_syntax.specs.Errors.{kind_of, span_of}
@@ -12,7 +12,7 @@ use Rattle.minijinja_value.specs.Values.{Functions}
 use Rattle.minijinja_tree.specs.Erasure.{stmt_tree}
 use Rattle.minijinja_tree.specs.SpannedErasure.{expr_node, stmt_node}
 use Rattle.minijinja_tree.specs.Tree.{done, template}
-use Rattle.minijinja_expressions.specs.declared.ast.Expr.{Expr}
+use Rattle.minijinja_tree_expr.specs.declared.ast.Expr.{Expr}
 use Rattle.minijinja_tree.specs.declared.ast.Stmt.{Stmt}
 use Rattle.minijinja_grammar.specs.Derived.{IsTemplateTree, IsExprTree}
 use Rattle.minijinja_grammar.specs.Forms.{Place}
@@ -34,7 +34,7 @@ IsTemplateAt f contents p s = IsTemplateTree f p (stmt_node contents s)
 abbrev pub IsNoTemplateAt : {C F : Type 0} → Functions C F → Place → Error → Type 0
 IsNoTemplateAt f p e = IsRefusal e → (t : _) → IsTemplateTree f p t → ⊥
 
--- the template that is derived from them is answered, unless memory ran out
+-- the template that is derived from them is returned, unless memory ran out
 abbrev pub AnswersTemplateAt : {V E C F : Type 0} → Functions C F → (V → C) → Place → Result (Stmt V E) Error → Type 0
 AnswersTemplateAt f contents p r =
     (t : _) → IsTemplateTree f p t → MatchResult r (λ s. stmt_node contents s ≡ t) (λ e. kind_of e ≡ OutOfMemory)
@@ -47,12 +47,12 @@ IsExprAt f contents p x = IsExprTree f p (expr_node contents x)
 abbrev pub IsNoExprAt : {C F : Type 0} → Functions C F → Place → Error → Type 0
 IsNoExprAt f p e = IsRefusal e → (t : _) → IsExprTree f p t → ⊥
 
--- the expression that is derived from them is answered, unless memory ran out
+-- the expression that is derived from them is returned, unless memory ran out
 abbrev pub AnswersExprAt : {V E C F : Type 0} → Functions C F → (V → C) → Place → Result (Expr V E) Error → Type 0
 AnswersExprAt f contents p r =
     (t : _) → IsExprTree f p t → MatchResult r (λ x. expr_node contents x ≡ t) (λ e. kind_of e ≡ OutOfMemory)
 
--- where no token is left but a refusal, that is the answer
+-- where no token is left but a refusal, that is returned
 abbrev pub Repeats : {A : Type 0} → Place → Result A Error → Type 0
 Repeats p r = (kind : ErrorKind) (span : Option Span) → HasRefused p kind span → IsErrAnd r (λ e. (kind_of e ≡ kind) × (span_of e ≡ span))
 
@@ -60,11 +60,11 @@ Repeats p r = (kind : ErrorKind) (span : Option Span) → HasRefused p kind span
 abbrev pub IsUnrefused : Place → Type 0
 IsUnrefused p = (kind : ErrorKind) (span : Option Span) → HasRefused p kind span → ⊥
 
--- the refusal of the tokenizer that stands after tokens which fit a template is the answer
+-- the refusal of the tokenizer that stands after tokens which fit a template is returned
 abbrev pub AnswersTokenizerAt : {A C F : Type 0} → Functions C F → Place → Result A Error → Type 0
 AnswersTokenizerAt f p r = AnswersItsRefusal (template_at f max_depth) p r
 
--- so of an expression
+-- the refusal of the tokenizer that stands after tokens which fit an expression is returned
 abbrev pub AnswersExprTokenizerAt : {A C F : Type 0} → Functions C F → Place → Result A Error → Type 0
 AnswersExprTokenizerAt f p r = AnswersItsRefusal (expr_at f max_depth) p r
 
@@ -78,7 +78,7 @@ IsTemplateOf f contents syntax source s = IsDerived f syntax source (stmt_node c
 abbrev pub IsNoTemplate : {C F : Type 0} → Functions C F → Syntax → Text → Error → Type 0
 IsNoTemplate f syntax source e = IsRefusal e → (t : _) → IsDerived f syntax source t → ⊥
 
--- the template that is derived is answered, unless memory ran out or the source is too long
+-- the template that is derived is returned, unless memory ran out or the source is too long
 abbrev pub AnswersTemplate : {V E C F : Type 0} → Functions C F → (V → C) → Syntax → Text → Result (Stmt V E) Error → Type 0
 AnswersTemplate f contents syntax source r =
     (t : _) → IsDerived f syntax source t → MatchResult r (λ s. stmt_node contents s ≡ t) IsLimit
@@ -91,16 +91,17 @@ IsExprOf f contents syntax source x = IsExprDerived f syntax source (expr_node c
 abbrev pub IsNoExpr : {C F : Type 0} → Functions C F → Syntax → Text → Error → Type 0
 IsNoExpr f syntax source e = IsRefusal e → (t : _) → IsExprDerived f syntax source t → ⊥
 
--- the expression that is derived is answered, unless memory ran out or the source is too long
+-- the expression that is derived is returned, unless memory ran out or the source is too long
 abbrev pub AnswersExpr : {V E C F : Type 0} → Functions C F → (V → C) → Syntax → Text → Result (Expr V E) Error → Type 0
 AnswersExpr f contents syntax source r =
     (t : _) → IsExprDerived f syntax source t → MatchResult r (λ x. expr_node contents x ≡ t) IsLimit
 
--- the refusal of the tokenizer that stands after tokens which fit a template is the answer
+-- the refusal of the tokenizer that stands after tokens which fit a template is returned
 abbrev pub AnswersTokenizer : {A C F : Type 0} → Functions C F → Syntax → Text → Result A Error → Type 0
 AnswersTokenizer f syntax source r = AnswersTokenizerAt f (template_place syntax source) r
 
--- so of an expression in the default syntax
+-- the refusal of the tokenizer that stands after tokens which fit an expression in the default
+-- syntax is returned
 abbrev pub AnswersExprTokenizer : {A C F : Type 0} → Functions C F → Text → Result A Error → Type 0
 AnswersExprTokenizer f source r = AnswersExprTokenizerAt f (expr_place default_syntax source) r
 
@@ -108,13 +109,15 @@ AnswersExprTokenizer f source r = AnswersExprTokenizerAt f (expr_place default_s
 abbrev pub IsShort : Text → Type 0
 IsShort source = length source < 2 ^ 32
 
--- ---- where nodes stand, and which errors are answered
+-- ---- where nodes stand, and which errors are returned
 
--- each node goes from token to token, the one taken before the place included, and a variable and data stand where their own tokens do
+-- each node goes from token to token, the one taken before the place included, and a variable and
+-- data stand where their own tokens do
 abbrev pub StandsAt : {V E C : Type 0} → (V → C) → Place → Stmt V E → Type 0
 StandsAt contents p s = StmtStands (Contains p.tokens) (IsOfTokens p.tokens p.last) (stmt_node contents s)
 
--- so of an expression
+-- each node of an expression goes from token to token, and a variable stands where its own token
+-- does
 abbrev pub ExprStandsAt : {V E C : Type 0} → (V → C) → Place → Expr V E → Type 0
 ExprStandsAt contents p x = Stands (Contains p.tokens) (IsOfTokens p.tokens p.last) (expr_node contents x)
 

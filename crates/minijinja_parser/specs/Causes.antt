@@ -1,6 +1,6 @@
 -- Why a text is refused.
-use Rattle.std.specs.Prelude.{◌≡◌, ◌⊎◌}
-use Rattle.minijinja_syntax.specs.Errors.{kind_of}
+use Rattle.std.specs.Prelude.{◌≡◌, ◌⊎◌, None}
+use Rattle.minijinja_syntax.specs.Errors.{IsOutOfMemory, kind_of, span_of}
 use Rattle.minijinja_syntax.specs.declared.error.Error.{Error}
 use Rattle.minijinja_syntax.specs.declared.error.ErrorKind.TheVariants.{BadEscape, OutOfMemory, SourceTooLong, SyntaxError}
 
@@ -14,3 +14,9 @@ IsRefusal e = (kind_of e ≡ SyntaxError) ⊎ (kind_of e ≡ BadEscape)
 
 abbrev pub IsCause : Error → Type 0
 IsCause e = IsRefusal e ⊎ IsLimit e
+
+-- where memory ran out, the error has neither name nor place, and where the source is too long, no
+-- place
+pub record IsUnplaced (e : Error) : Type 0 where
+  pub memory : kind_of e ≡ OutOfMemory → IsOutOfMemory e
+  pub length : kind_of e ≡ SourceTooLong → span_of e ≡ None

@@ -8,7 +8,7 @@ use Rattle.minijinja_lexer.specs.TextTokens.{text_of, tokens_of_template, tokens
 use Rattle.minijinja_tree.specs.SpannedTrees.{Expr, Stmt}
 use Rattle.minijinja_grammar.specs.Forms.{Place}
 use Rattle.minijinja_grammar.specs.Derived.{IsTemplateTree, IsExprTree}
-use Rattle.minijinja_stream.specs.TokenStreams.{first_place}
+use Rattle.minijinja_parser_tokens.specs.TokenStreams.{first_place}
 
 -- the tokens of a source that is one expression, or of a template
 abbrev pub tokens_of : Bool → Syntax → Text → Stream

@@ -1,4 +1,4 @@
--- What a parser says of itself, and how it ends.
+-- What a parser is to its callers, and how it ends.
 use Rattle.std.specs.Prelude.{◌≡◌, ◌⊎◌, Option, Result, Ok, Err}
 use Rattle.minijinja_syntax.specs.Texts.{Text}
 use Rattle.minijinja_syntax.specs.Errors.{kind_of, span_of}
@@ -9,7 +9,7 @@ use Rattle.minijinja_syntax.specs.declared.error.ErrorKind.{ErrorKind}
 use Rattle.minijinja_syntax.specs.declared.error.ErrorKind.TheVariants.{OutOfMemory}
 use Rattle.minijinja_grammar.specs.Forms.{Form, Place}
 use Rattle.minijinja_grammar.specs.Derived.{FitsSoFar}
-use Rattle.minijinja_stream.specs.TokenStreams.{stream_at}
+use Rattle.minijinja_parser_tokens.specs.TokenStreams.{stream_at}
 
 -- the name of its source, and the place that it has come to
 pub record Parsing : Type 0 where
@@ -24,11 +24,11 @@ IsSpent p = stream_at p ≡ ended finished
 abbrev pub HasRefused : Place → ErrorKind → Option Span → Type 0
 HasRefused p kind span = stream_at p ≡ ended (refused kind span)
 
--- the answer is a refusal of that kind and span, or memory ran out
+-- the result is a refusal of that kind and span, or memory ran out
 abbrev pub IsRefusedSo : {A : Type 0} → ErrorKind → Option Span → Result A Error → Type 0
 IsRefusedSo kind span (Ok x) = ⊥
 IsRefusedSo kind span (Err e) = ((kind_of e ≡ kind) × (span_of e ≡ span)) ⊎ (kind_of e ≡ OutOfMemory)
 
--- a tokenizer's refusal that stands after tokens which fit the form so far is the answer
+-- a tokenizer's refusal that stands after tokens which fit the form so far is returned
 abbrev pub AnswersItsRefusal : {A X : Type 0} → Form X → Place → Result A Error → Type 0
 AnswersItsRefusal form p r = (kind : ErrorKind) (span : Option Span) → p.ending ≡ refused kind span → FitsSoFar form p → IsRefusedSo kind span r

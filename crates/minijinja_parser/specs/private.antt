@@ -1,2 +1,2 @@
--- What proofs and the contracts of private functions cite.
+-- What the crate says of its own private functions.
 pub mod Wholes

@@ -1,4 +1,5 @@
-//! From the tokens of a template to its tree.
+//! The parser: from the source of a template or of an expression to its tree.
 #![tactic(auto)]
 
+mod details;
 pub mod parser;

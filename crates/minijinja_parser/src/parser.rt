@@ -1,6 +1,6 @@
-//! From the tokens of a template to its tree.
-ghost use Rattle.std.specs.Prelude.{◌≡◌, ◌≢◌, ◌<◌, ◌≤◌, ◌^◌, [], codes, length, IfErr, IfOk, IsErrAnd};
-ghost use Rattle.minijinja_syntax.specs.Errors.{kind_of, span_of};
+//! The parser: from the tokens of a source to its tree, or to an error.
+ghost use Rattle.std.specs.Prelude.{◌≡◌, ◌≢◌, ◌<◌, ◌≤◌, ◌^◌, [], codes, length, IfErr, IfOk, IsErrAnd, None};
+ghost use Rattle.minijinja_syntax.specs.Errors.{IsOutOfMemory, kind_of, span_of};
 ghost use Rattle.minijinja_syntax.specs.Streams.{refused};
 ghost use Rattle.minijinja_syntax.specs.Syntax.{default_syntax};
 ghost use Rattle.minijinja_syntax.specs.declared.error.ErrorKind.TheVariants.{OutOfMemory, SourceTooLong, SyntaxError};
@@ -14,38 +14,38 @@ ghost use Rattle.minijinja_grammar.specs.Forms.{reads};
 ghost use Rattle.minijinja_grammar.specs.Grammar.{expr_at, max_depth};
 ghost use Rattle.minijinja_grammar.specs.Templates.{template_at};
 ghost use Rattle.minijinja_parser.specs.Answers.{AnswersExpr, AnswersExprAt, AnswersExprTokenizer, AnswersExprTokenizerAt, AnswersTemplate, AnswersTemplateAt, AnswersTokenizer, AnswersTokenizerAt, EscapesIn, ExprStandsAt, IsEmptyTemplate, IsExprAt, IsExprOf, IsNoExpr, IsNoExprAt, IsNoTemplate, IsNoTemplateAt, IsShort, IsTemplateAt, IsTemplateOf, IsTooLong, IsUnrefused, Repeats, StandsAt, WantsExpr};
-ghost use Rattle.minijinja_parser.specs.Causes.{IsCause};
+ghost use Rattle.minijinja_parser.specs.Causes.{IsCause, IsUnplaced};
 ghost use Rattle.minijinja_parser.specs.Derived.{expr_place, template_place, tokens_of};
 ghost use Rattle.minijinja_parser.specs.Parsing.{HasRefused, IsSpent};
-ghost use Rattle.minijinja_stream.specs.TokenStreams.{Comes, no_place, stream_at};
+ghost use Rattle.minijinja_parser_tokens.specs.TokenStreams.{Comes, no_place, stream_at};
 ghost use Rattle.minijinja_parser.specs.private.Wholes.{Ends, IsErrorAt, ReadsWhole};
 
-use minijinja_base::error::{Detail, Error, ErrorKind, Expected};
-use minijinja_base::syntax::SyntaxConfig;
-use minijinja_base::value::TemplateValue;
-use minijinja_nodes::expressions::expression;
-use minijinja_nodes::tree_nodes::TreeNodes;
-use minijinja_statement_nodes::tree_statements::template;
-use minijinja_stream::forms::ExprForm;
-use minijinja_stream::marks::expected;
-use minijinja_stream::refusal::{Refusal, Wanted};
-pub use minijinja_stream::token_stream::TokenStream;
-use minijinja_stream::token_stream::{set_refusal, tokenizer_refusal};
-use minijinja_stream::tokens::Tokens;
+use crate::details::LastToken;
+use minijinja_parser_expr::expressions::expression;
+use minijinja_parser_expr::tree_exprs::TreeExprs;
+use minijinja_parser_stmt_nodes::tree_stmts::template;
+use minijinja_parser_tokens::forms::ExprForm;
+use minijinja_parser_tokens::refusal::{Refusal, Wanted};
+pub use minijinja_parser_tokens::token_stream::TokenStream;
+use minijinja_parser_tokens::token_stream::{open_statement, set_refusal, tokenizer_refusal};
+use minijinja_parser_tokens::tokens::Tokens;
+use minijinja_syntax::error::{Detail, Error, ErrorKind, Expected};
+use minijinja_syntax::syntax::SyntaxConfig;
 use minijinja_tree::ast::{Expr, Stmt};
+use minijinja_value::value::TemplateValue;
 use std::alloc::{AllocError, Global};
-use std::marker::{Model, PhantomData};
+use std::marker::Model;
 
 /// How deep statements and expressions may nest.
 const MAX_DEPTH: usize = 150;
 
-/// The first length of a source that is too long, in bytes.
+/// The least length of a source that is too long, in bytes.
 const SOURCE_LIMIT: usize = 1 << 32;
 
-/// The name of a source that is one expression.
+/// The name that errors give a source that is one expression.
 pub const EXPRESSION_NAME: &str = "<expression>";
 
-/// Reads the tokens of one source.
+/// Parses one source.
 #[derive(Drop)]
 pub struct Parser<'s, 'c> {
     tokens: TokenStream<'s, 'c>,
@@ -64,8 +64,8 @@ impl<'s, 'c> Model for Parser<'s, 'c> {
 }
 
 impl<'s, 'c> Parser<'s, 'c> {
-    /// At the first token of a template, for `parse`, or of one expression, for `parse_standalone_expr`.
-    /// The source has fewer than 2^32 bytes.
+    /// A parser at the first token of a template, for `parse`, or, if `in_expr` is set, of one
+    /// expression, for `parse_standalone_expr`. The source has fewer than 2^32 bytes.
     pub fn new(
         alloc: Global,
         source: &'s str,
@@ -95,30 +95,15 @@ impl<'s, 'c> Parser<'s, 'c> {
         self.filename
     }
 
-    /// What exactly is wrong, in words of a refusal. The names are those of the token taken last.
-    fn detail(&self, wanted: Wanted, is_over: bool) -> Detail<'s> {
-        let part = match wanted {
-            Wanted::Mark(mark) => expected(mark),
-            Wanted::Part(part) => part,
-            Wanted::Statement => return Detail::UnknownStatement(self.last_word()),
-            Wanted::Target => return Detail::ReservedName(self.last_word()),
-            Wanted::Flatter => return Detail::TooDeep,
-            Wanted::FewerArguments => return Detail::TooManyArguments,
-            Wanted::Keyword => return Detail::PlainAfterKeyword,
-            Wanted::Loop => return Detail::OutsideLoop(self.last_word()),
-            Wanted::Call => return Detail::NotACall,
-            Wanted::Storable => Expected::Identifier,
-            Wanted::NewName => Expected::Identifier,
-            Wanted::Blank => Expected::BlockKeyword,
-            Wanted::BlockName => Expected::BlockEnd,
-            Wanted::NoBlock => Expected::BlockKeyword,
-            Wanted::PublicName => Expected::Identifier,
+    /// What exactly is wrong with the token taken last, or with the end after it.
+    fn detail(&self, wanted: Wanted, is_last: bool) -> Detail<'s> {
+        let token = LastToken {
+            text: self.last_word(),
+            is_last,
+            syntax: self.syntax,
+            open: open_statement(&self.tokens),
         };
-        if is_over {
-            Detail::UnexpectedEnd(part)
-        } else {
-            Detail::UnexpectedToken(part)
-        }
+        token.detail(wanted)
     }
 
     /// The source of the token taken last.
@@ -142,11 +127,13 @@ impl<'s, 'c> Parser<'s, 'c> {
         )
     }
 
-    /// The refusal, which names the source. Where memory was refused there is no name.
+    /// The refusal with the name of the source, unless memory was refused.
     fn named(&self, refusal: Error<'s>) -> Error<'s>
+        requires { kind_of refusal ≡ OutOfMemory → IsOutOfMemory refusal }
         ensures kind { kind_of result ≡ kind_of refusal.entry }
         ensures span { span_of result ≡ span_of refusal.entry }
         ensures named { kind_of result ≢ OutOfMemory → IsNamed self.now.filename result }
+        ensures memory { kind_of result ≡ OutOfMemory → IsOutOfMemory result }
     {
         if refusal.kind() == ErrorKind::OutOfMemory {
             return refusal;
@@ -160,10 +147,12 @@ impl<'s, 'c> Parser<'s, 'c> {
     }
 
     /// The error for a refusal.
+    #[tactic(auto, using(crate::proofs::Unplaced::of_parser))]
     fn error(&self, refusal: Refusal) -> Error<'s>
         ensures is { IsErrorAt self.now.place refusal result }
         ensures cause { IsTokenizerKind (kind_of result) }
         ensures named { kind_of result ≢ OutOfMemory → IsNamed self.now.filename result }
+        ensures unplaced { IsUnplaced result }
     {
         match refusal {
             Refusal::OutOfMemory => Error::from(AllocError),
@@ -175,12 +164,13 @@ impl<'s, 'c> Parser<'s, 'c> {
         }
     }
 
-    /// The error for a refusal, which stands from then on.
+    /// The error for a refusal, which every later call returns too.
     fn refuse(&mut self, refusal: Refusal) -> Error<'s>
         ensures is { IsErrorAt self.old.place refusal result }
         ensures kept { HasRefused self.new.place (kind_of result) (span_of result) }
         ensures cause { IsTokenizerKind (kind_of result) }
         ensures named { kind_of result ≢ OutOfMemory → IsNamed self.old.filename result }
+        ensures unplaced { IsUnplaced result }
         ensures filename { self.new.filename ≡ self.old.filename }
     {
         let error = self.error(refusal);
@@ -188,12 +178,14 @@ impl<'s, 'c> Parser<'s, 'c> {
         error
     }
 
-    /// Refuses where a refusal stands, with that.
+    /// The error if the next token is refused.
+    #[tactic(auto, using(crate::proofs::Unplaced::of_parser))]
     fn unrefused(&self) -> Result<(), Error<'s>>
         ensures none { IfOk result (λ _. IsUnrefused self.now.place) }
         ensures stands { IfErr result (λ e. HasRefused self.now.place (kind_of e) (span_of e)) }
         ensures cause { IfErr result (λ e. IsTokenizerKind (kind_of e)) }
         ensures named { IfErr result (λ e. kind_of e ≢ OutOfMemory → IsNamed self.now.filename e) }
+        ensures unplaced { IfErr result IsUnplaced }
     {
         match tokenizer_refusal(&self.tokens) {
             Some(error) => Err(self.named(error)),
@@ -201,7 +193,7 @@ impl<'s, 'c> Parser<'s, 'c> {
         }
     }
 
-    /// Refuses any token, and a refusal.
+    /// Takes the end of the tokens. A token or a refusal is an error.
     #[tactic(auto, using(crate::proofs::Wholes::none_taken, crate::proofs::Wholes::one_taken, crate::proofs::Wholes::never_wrong))]
     fn end(&mut self) -> Result<(), Refusal>
         ensures end { Ends self.old.place result self.new.place }
@@ -215,14 +207,9 @@ impl<'s, 'c> Parser<'s, 'c> {
         }
     }
 
-    /// Makes the nodes of the tree.
-    fn nodes<V: TemplateValue>(&self) -> TreeNodes<'s, 'c, V> {
-        TreeNodes {
-            alloc: self.alloc,
-            source: self.tokens.source(),
-            syntax: self.syntax,
-            values: PhantomData,
-        }
+    /// The maker of the nodes of the tree.
+    fn nodes<V: TemplateValue>(&self) -> TreeExprs<'s, 'c, V> {
+        TreeExprs::new(self.alloc, self.tokens.source(), self.syntax)
     }
 
     /// The template, up to the end of the tokens.
@@ -249,42 +236,47 @@ impl<'s, 'c> Parser<'s, 'c> {
         Ok(expr)
     }
 
-    /// The tree of the tokens that are left, as a template. Then none is left, and a later call gives the empty template.
-    /// A refusal stands from then on: each later call answers one of its kind and span.
+    /// The tree of the tokens that are left, as a template. After it none is left, and a later call
+    /// returns the empty template. After an error each later call returns one of its kind and span.
     /// Errors: a syntax error or a bad escape, and memory that was refused.
     pub fn parse<V: TemplateValue>(&mut self) -> Result<Stmt<'s, V>, Error<'s>>
-        // What is answered is derived from the tokens that are left.
+        // The result is derived from the tokens that are left.
         ensures found { IfOk result (IsTemplateAt V.functions V.contents self.old.place) }
 
         // From what is refused as a syntax error or for a bad escape nothing is derived.
         ensures refused { IfErr result (IsNoTemplateAt V.functions self.old.place) }
 
-        // What is derived is answered, and is the one tree, unless memory ran out.
+        // If a tree is derived, it is the only one and the result, unless memory ran out.
         ensures only { AnswersTemplateAt V.functions V.contents self.old.place result }
 
         ensures causes { IfErr result (λ e. IsTokenizerKind (kind_of e)) }
 
         // A refusal names the source, unless memory ran out.
         ensures named { IfErr result (λ e. kind_of e ≢ OutOfMemory → IsNamed self.old.filename e) }
+
+        // Where memory ran out, it has neither name nor place.
+        ensures unplaced { IfErr result IsUnplaced }
+
         ensures filename { self.new.filename ≡ self.old.filename }
 
         // A bad escape is the one that the tokens end with.
         ensures bad_escape { IfErr result (EscapesIn self.old.place) }
 
-        // The tokenizer's refusal is answered where all tokens before it fit.
+        // The tokenizer's refusal is the result if all tokens before it fit.
         ensures first { AnswersTokenizerAt V.functions self.old.place result }
 
         ensures well_formed { IfOk result (λ s. IsWellFormed (stmt_tree V.contents s)) }
 
-        // Each node goes from token to token, and a variable and data stand where their own tokens do.
+        // Each node goes from token to token, and a variable and data stand where their own tokens
+        // do.
         ensures spans { IfOk result (StandsAt V.contents self.old.place) }
 
-        // After a tree no token is left, and after a refusal that refusal, which is answered again from then on.
+        // After a tree no token is left, and after an error each call returns it again.
         ensures spent { IfOk result (λ _. IsSpent self.new.place) }
         ensures kept { IfErr result (λ e. HasRefused self.new.place (kind_of e) (span_of e)) }
         ensures again { Repeats self.old.place result }
 
-        // After the last token stands the empty template, unless memory ran out.
+        // If no token is left, the result is the empty template, unless memory ran out.
         ensures empty { IsSpent self.old.place → IsEmptyTemplate V.contents result }
     {
         self.unrefused()?;
@@ -294,29 +286,34 @@ impl<'s, 'c> Parser<'s, 'c> {
         }
     }
 
-    /// The tree of the tokens that are left, as one expression. Then none is left, and a later call is a syntax error.
-    /// A refusal stands from then on: each later call answers one of its kind and span.
+    /// The tree of the tokens that are left, as one expression. After it none is left, and a later
+    /// call returns a syntax error. After an error each later call returns one of its kind and
+    /// span.
     /// Errors: a syntax error or a bad escape, and memory that was refused.
     pub fn parse_standalone_expr<V: TemplateValue>(&mut self) -> Result<Expr<'s, V>, Error<'s>>
-        // What is answered is derived from the tokens that are left.
+        // The result is derived from the tokens that are left.
         ensures found { IfOk result (IsExprAt V.functions V.contents self.old.place) }
 
         // From what is refused as a syntax error or for a bad escape nothing is derived.
         ensures refused { IfErr result (IsNoExprAt V.functions self.old.place) }
 
-        // What is derived is answered, and is the one tree, unless memory ran out.
+        // If a tree is derived, it is the only one and the result, unless memory ran out.
         ensures only { AnswersExprAt V.functions V.contents self.old.place result }
 
         ensures causes { IfErr result (λ e. IsTokenizerKind (kind_of e)) }
 
         // A refusal names the source, unless memory ran out.
         ensures named { IfErr result (λ e. kind_of e ≢ OutOfMemory → IsNamed self.old.filename e) }
+
+        // Where memory ran out, it has neither name nor place.
+        ensures unplaced { IfErr result IsUnplaced }
+
         ensures filename { self.new.filename ≡ self.old.filename }
 
         // A bad escape is the one that the tokens end with.
         ensures bad_escape { IfErr result (EscapesIn self.old.place) }
 
-        // The tokenizer's refusal is answered where all tokens before it fit.
+        // The tokenizer's refusal is the result if all tokens before it fit.
         ensures first { AnswersExprTokenizerAt V.functions self.old.place result }
 
         ensures well_formed { IfOk result (λ x. IsWhole (expr_tree V.contents x)) }
@@ -324,12 +321,12 @@ impl<'s, 'c> Parser<'s, 'c> {
         // Each node goes from token to token, and a variable stands where its own token does.
         ensures spans { IfOk result (ExprStandsAt V.contents self.old.place) }
 
-        // After a tree no token is left, and after a refusal that refusal, which is answered again from then on.
+        // After a tree no token is left, and after an error each call returns it again.
         ensures spent { IfOk result (λ _. IsSpent self.new.place) }
         ensures kept { IfErr result (λ e. HasRefused self.new.place (kind_of e) (span_of e)) }
         ensures again { Repeats self.old.place result }
 
-        // After the last token stands no expression.
+        // If no token is left, there is no expression.
         ensures nothing { IsSpent self.old.place → IsErrAnd result WantsExpr }
     {
         self.unrefused()?;
@@ -340,9 +337,11 @@ impl<'s, 'c> Parser<'s, 'c> {
     }
 }
 
-/// The refusal of a source that is too long.
+/// The error for a source that is too long.
+#[tactic(auto, using(crate::proofs::Unplaced::of_length))]
 fn too_long<'s>(filename: &'s str) -> Error<'s>
     ensures kind { kind_of result ≡ SourceTooLong }
+    ensures unplaced { IsUnplaced result }
     ensures named { IsNamed filename.now result }
 {
     Error::new(
@@ -354,20 +353,22 @@ fn too_long<'s>(filename: &'s str) -> Error<'s>
 }
 
 /// The tree of a template, which errors name `filename`.
-/// Errors: a syntax error or a bad escape, memory that was refused, and a source of 2^32 bytes or more.
+/// Errors: a syntax error or a bad escape, memory that was refused, and a source of 2^32 bytes or
+/// more.
 pub fn parse<'s, V: TemplateValue>(
     alloc: Global,
     source: &'s str,
     filename: &'s str,
     syntax: &SyntaxConfig,
 ) -> Result<Stmt<'s, V>, Error<'s>>
-    // What is answered is derived.
+    // The result is derived from the source.
     ensures found { IfOk result (IsTemplateOf V.functions V.contents syntax.now source.now) }
 
     // What is refused as a syntax error or for a bad escape is not derived, whatever the tree.
     ensures refused { IfErr result (IsNoTemplate V.functions syntax.now source.now) }
 
-    // What is derived is answered, and is the one tree, unless memory ran out or the source is too long.
+    // If a tree is derived, it is the only one and the result, unless memory ran out or the source
+    // is too long.
     ensures only { AnswersTemplate V.functions V.contents syntax.now source.now result }
 
     // A source is too long exactly from 2^32 bytes on.
@@ -376,13 +377,17 @@ pub fn parse<'s, V: TemplateValue>(
 
     // A bad escape is the one that the tokens end with.
     ensures bad_escape { IfErr result (EscapesIn (template_place syntax.now source.now)) }
-    // The tokenizer's refusal is answered where all tokens before it fit.
+    // The tokenizer's refusal is the result if all tokens before it fit.
     ensures first { IsShort source.now → AnswersTokenizer V.functions syntax.now source.now result }
 
     ensures causes { IfErr result IsCause }
 
     // A refusal names the source, unless memory ran out.
     ensures named { IfErr result (λ e. kind_of e ≢ OutOfMemory → IsNamed filename.now e) }
+
+    // Where memory ran out, it has neither name nor place, and where the source is too long, no
+    // place.
+    ensures unplaced { IfErr result IsUnplaced }
 
     ensures well_formed { IfOk result (λ s. IsWellFormed (stmt_tree V.contents s)) }
     ensures spans { IfOk result (StandsAt V.contents (template_place syntax.now source.now)) }
@@ -395,18 +400,20 @@ pub fn parse<'s, V: TemplateValue>(
 }
 
 /// The tree of one expression, in the default syntax. Errors name the source `<expression>`.
-/// Errors: a syntax error or a bad escape, memory that was refused, and a source of 2^32 bytes or more.
+/// Errors: a syntax error or a bad escape, memory that was refused, and a source of 2^32 bytes or
+/// more.
 pub fn parse_expr<'s, V: TemplateValue>(
     alloc: Global,
     source: &'s str,
 ) -> Result<Expr<'s, V>, Error<'s>>
-    // What is answered is derived.
+    // The result is derived from the source.
     ensures found { IfOk result (IsExprOf V.functions V.contents default_syntax source.now) }
 
     // What is refused as a syntax error or for a bad escape is not derived, whatever the tree.
     ensures refused { IfErr result (IsNoExpr V.functions default_syntax source.now) }
 
-    // What is derived is answered, and is the one tree, unless memory ran out or the source is too long.
+    // If a tree is derived, it is the only one and the result, unless memory ran out or the source
+    // is too long.
     ensures only { AnswersExpr V.functions V.contents default_syntax source.now result }
 
     // A source is too long exactly from 2^32 bytes on.
@@ -415,13 +422,17 @@ pub fn parse_expr<'s, V: TemplateValue>(
 
     // A bad escape is the one that the tokens end with.
     ensures bad_escape { IfErr result (EscapesIn (expr_place default_syntax source.now)) }
-    // The tokenizer's refusal is answered where all tokens before it fit.
+    // The tokenizer's refusal is the result if all tokens before it fit.
     ensures first { IsShort source.now → AnswersExprTokenizer V.functions source.now result }
 
     ensures causes { IfErr result IsCause }
 
     // A refusal names the source, unless memory ran out.
     ensures named { IfErr result (λ e. kind_of e ≢ OutOfMemory → IsNamed (codes "<expression>") e) }
+
+    // Where memory ran out, it has neither name nor place, and where the source is too long, no
+    // place.
+    ensures unplaced { IfErr result IsUnplaced }
 
     ensures well_formed { IfOk result (λ x. IsWhole (expr_tree V.contents x)) }
     ensures spans { IfOk result (ExprStandsAt V.contents (expr_place default_syntax source.now)) }

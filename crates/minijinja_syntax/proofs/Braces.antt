@@ -183,7 +183,7 @@ rest_is text at = let l = length-drop at text in take_all _ _ (omega (arith, l))
 pub next_brace-within : (text : Text) (at ahead : ℕ) → ahead < length (rest_of text at) → at + ahead < length text
 next_brace-within text at ahead high = let l = ap length (rest_is text at) ∙ length-drop at text in omega (arith, l, high)
 
--- what a search for `{` says of the next marker: it is at or after the place that is found, which is within
+-- the next marker is at or after the place that a search for `{` finds, which is within the text
 pub next_marker-to_brace : (s : Syntax) (text : Text) (at ahead : ℕ) → HasDefaultStarts s → at ≤ length text → NoneBefore (Passes (is_byte 123) (rest_of text at)) 0 (length (rest_of text at)) ahead → next_marker s text at ≡ next_marker s text (at + ahead)
 next_marker-to_brace s text at ahead h within found =
     let l = next_brace-within text at ahead found.high in

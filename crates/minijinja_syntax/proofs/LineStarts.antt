@@ -24,7 +24,7 @@ starts_line-blank text at h t = starts_line-next text at h ∙ ap (λ b. cond b 
 pub starts_line-other : (text : Text) (at : ℕ) → at < length text → is_blank (get_or text at 0) ≡ false → starts_line text (at + 1) ≡ is_line_end (get_or text at 0)
 starts_line-other text at h f = starts_line-next text at h ∙ ap (λ b. cond b (starts_line text at) (is_line_end (get_or text at 0))) f
 
--- the same one byte back
+-- whether a line starts at a place, from the byte before it
 pub starts_line-blank_before : (text : Text) (at : ℕ) → 0 < at → at ≤ length text → is_blank (get_or text (at - 1) 0) ≡ true → starts_line text at ≡ starts_line text (at - 1)
 starts_line-blank_before text at some h t = let e : at - 1 + 1 ≡ at = omega arith in ap (starts_line text) (sym e) ∙ starts_line-blank text (at - 1) (omega arith) t
 

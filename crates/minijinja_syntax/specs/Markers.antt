@@ -57,7 +57,7 @@ FindsMarker s text offset (Some found) =
     × NoMarkerBetween s text offset (offset + found.0)
 FindsMarker s text offset None = NoMarkerBetween s text offset (length text)
 
--- The same, to compute it.
+-- ---- the marker that is found, as functions that compute it
 
 -- the longer of two markers, the first where they are as long, or the one that there is
 abbrev pub longer : Syntax → Option StartMarker → Option StartMarker → Option StartMarker

@@ -27,6 +27,10 @@ line_after before = min 65535 (1 + count_by is_newline before)
 abbrev pub column_after : Text → ℕ
 column_after before = min 65535 (count_by is_lead (back_to_newline (reverse before)))
 
+-- the span from the start of one to the end of another
+abbrev pub expanded : Span → Span → Span
+expanded s end = record s { end_line = end.end_line; end_col = end.end_col; end_offset = end.end_offset }
+
 -- the span from a place to another: lines and columns count from what stands before them
 abbrev pub span_at : Text → (start stop : ℕ) → Span
 span_at text start stop = record {

@@ -9,7 +9,8 @@ use Rattle.minijinja_syntax.specs.declared.error.ErrorKind.{ErrorKind}
 abbrev pub SpannedTok : Type 0
 SpannedTok = Tok × Span
 
--- after its last token a text is over, or refused with a kind, and somewhere unless for want of memory
+-- after its last token a text is over, or is refused with a kind, and with a place unless memory
+-- ran out
 pub data Ending : Type 0 where
   finished : Ending
   refused : ErrorKind → Option Span → Ending

@@ -1,4 +1,4 @@
--- A syntax: how tags and lines of statements begin and end, and what becomes of the whitespace round them.
+-- A syntax: how tags and line statements begin and end, and which whitespace is removed.
 use Rattle.std.specs.Prelude.{◌≢◌, ◌<◌, Bool, false, ⊤, [], codes, length}
 use Rattle.minijinja_syntax.specs.Texts.{Text}
 use Rattle.minijinja_syntax.specs.declared.syntax.StartMarker.{StartMarker}

@@ -4,7 +4,7 @@ use Rattle.minijinja_syntax.specs.Texts.{Text}
 use Rattle.minijinja_syntax.specs.declared.tokens.Token.{Token}
 use Rattle.minijinja_syntax.specs.declared.tokens.Token.TheVariants.{TemplateData, VariableStart, VariableEnd, BlockStart, BlockEnd, Ident, Str, String, Int, Int128, Plus, Minus, Mul, Div, FloorDiv, Pow, Mod, Dot, Comma, Colon, Tilde, Assign, Pipe, Eq, Ne, Gt, Gte, Lt, Lte, BracketOpen, BracketClose, ParenOpen, ParenClose, BraceOpen, BraceClose}
 
--- what a message calls a token: its kind in words, or its sign between backticks
+-- what a message calls a token: its kind in words, or its mark between backticks
 abbrev pub token_words : Token → Text
 token_words (TemplateData t) = codes "template-data"
 token_words VariableStart = codes "start of variable block"

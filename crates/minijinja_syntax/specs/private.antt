@@ -1,4 +1,4 @@
--- What the contracts of private functions cite.
+-- What the crate says of its own private functions.
 pub mod Delimiters
 pub mod SyntaxFields
 pub mod DefaultStarts

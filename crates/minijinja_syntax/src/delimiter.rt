@@ -1,10 +1,10 @@
-//! The texts that begin and end tags.
+//! The delimiters of tags: those of Jinja2, and those that a caller sets.
 ghost use Rattle.std.specs.Prelude.{◌≡◌, IfOk};
 ghost use Rattle.minijinja_syntax.specs.private.Delimiters.{delimiter_text, standard_text};
 
 use std::alloc::{AllocError, Global};
 
-/// The texts of Jinja2's own.
+/// The delimiters of Jinja2.
 #[derive(Clone, Copy)]
 pub enum Standard {
     /// `{%`
@@ -26,9 +26,9 @@ pub enum Standard {
 /// A text that begins or ends a tag.
 #[derive(Drop)]
 pub enum Delimiter {
-    /// One of Jinja2's own.
+    /// One of Jinja2.
     Standard(Standard),
-    /// A text of the caller's.
+    /// A text that the caller set.
     Owned(String),
 }
 
@@ -49,7 +49,7 @@ impl Standard {
 }
 
 impl Delimiter {
-    /// The text, in memory of this allocator.
+    /// A delimiter with this text, allocated by this allocator.
     #[tactic(auto, unfolding(crate::specs::private::Delimiters::delimiter_text))]
     pub fn new(alloc: Global, text: &str) -> Result<Self, AllocError>
         ensures { IfOk result (λ d. delimiter_text d ≡ text.now) }
@@ -57,7 +57,7 @@ impl Delimiter {
         Ok(Delimiter::Owned(String::from_str(alloc, text)?))
     }
 
-    /// The same text, in memory of this allocator.
+    /// A copy, allocated by this allocator.
     #[tactic(auto, unfolding(crate::specs::private::Delimiters::delimiter_text))]
     pub fn copied(&self, alloc: Global) -> Result<Self, AllocError>
         ensures { IfOk result (λ d. delimiter_text d ≡ delimiter_text self.now) }
@@ -68,7 +68,7 @@ impl Delimiter {
         }
     }
 
-    /// The same text, in memory of the allocator that it has.
+    /// A copy, allocated by the delimiter's own allocator.
     #[tactic(auto, unfolding(crate::specs::private::Delimiters::delimiter_text))]
     pub fn cloned(&self) -> Result<Self, AllocError>
         ensures { IfOk result (λ d. delimiter_text d ≡ delimiter_text self.now) }
@@ -79,7 +79,7 @@ impl Delimiter {
         }
     }
 
-    /// The text.
+    /// The text of the delimiter.
     #[tactic(auto, unfolding(crate::specs::private::Delimiters::delimiter_text))]
     pub fn as_str(&self) -> &str
         ensures { result.now ≡ delimiter_text self.now }

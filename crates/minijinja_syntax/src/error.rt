@@ -1,17 +1,17 @@
-//! Why a text is refused, and where.
+//! Errors: why a text is refused, in which words, and where.
 ghost use Rattle.std.specs.Prelude.{◌≡◌, Option};
 ghost use Rattle.std.specs.Option.{option_map};
 ghost use Rattle.minijinja_syntax.specs.Errors.{kind_of, detail_of, name_of, span_of};
 ghost use Rattle.minijinja_syntax.specs.declared.tokens.Span.{Span};
 
-use crate::tokens::Span;
+use crate::tokens::{Span, Token};
 use std::alloc::{AllocError, AllocFailed};
 use std::fmt;
 
 /// The kind of a refusal.
 #[derive(Clone, Copy, Debug, PartialEq, Eq)]
 pub enum ErrorKind {
-    /// The delimiters of a syntax cannot be told apart, or one is empty.
+    /// Two delimiters of a syntax are equal, or one is empty.
     InvalidDelimiter,
     /// The grammar does not derive the text.
     SyntaxError,
@@ -38,6 +38,52 @@ impl fmt::Display for ErrorKind {
     }
 }
 
+/// A statement that has a body.
+#[derive(Clone, Copy, Debug, PartialEq, Eq)]
+pub enum BodyStatement {
+    For,
+    If,
+    With,
+    Set,
+    AutoEscape,
+    Filter,
+    Block,
+    Macro,
+    Call,
+}
+
+/// The word that the statement begins with. The one that ends it is `end` and that word.
+impl fmt::Display for BodyStatement {
+    fn fmt<W: fmt::Write>(&self, f: &mut fmt::Formatter<W>) -> fmt::Result {
+        f.write_str(match self {
+            BodyStatement::For => "for",
+            BodyStatement::If => "if",
+            BodyStatement::With => "with",
+            BodyStatement::Set => "set",
+            BodyStatement::AutoEscape => "autoescape",
+            BodyStatement::Filter => "filter",
+            BodyStatement::Block => "block",
+            BodyStatement::Macro => "macro",
+            BodyStatement::Call => "call",
+        })
+    }
+}
+
+/// A statement whose body goes on, and the line of its first word.
+#[derive(Clone, Copy, Debug, PartialEq, Eq)]
+pub struct OpenStatement {
+    pub statement: BodyStatement,
+    pub line: u16,
+}
+
+/// Writes `endif for the if of line 3`.
+impl fmt::Display for OpenStatement {
+    fn fmt<W: fmt::Write>(&self, f: &mut fmt::Formatter<W>) -> fmt::Result {
+        let OpenStatement { statement, line } = *self;
+        write!(f, "end{statement} for the {statement} of line {line}")
+    }
+}
+
 /// What a text should have gone on with.
 #[derive(Clone, Copy, Debug, PartialEq, Eq)]
 pub enum Expected {
@@ -57,41 +103,79 @@ pub enum Expected {
     CommentEnd,
     /// The end of a raw block.
     RawBlockEnd,
+    /// The word `endfor`.
+    EndFor,
+    /// The word `endif`.
+    EndIf,
+    /// The word `endwith`.
+    EndWith,
+    /// The word `endset`.
+    EndSet,
+    /// The word `endautoescape`.
+    EndAutoEscape,
+    /// The word `endfilter`.
+    EndFilter,
+    /// The word `endblock`.
+    EndBlock,
+    /// The word `endmacro`.
+    EndMacro,
+    /// The word `endcall`.
+    EndCall,
     /// The word `if`.
     If,
+    /// The word `elif`.
+    Elif,
     /// The word `else`.
     Else,
+    /// The word `recursive`.
+    Recursive,
+    /// The word `as`.
+    As,
+    /// The word `import`.
+    Import,
+    /// The word `scoped`.
+    Scoped,
+    /// The word `required`.
+    Required,
+    /// The word `ignore`.
+    Ignore,
+    /// The word `missing`.
+    Missing,
+    /// The word `context`.
+    Context,
     /// The word `not`.
     Not,
     /// The word `in`.
     In,
     /// The word `is`.
     Is,
-    /// `.`.
+    /// The mark before an attribute.
     Dot,
-    /// `,`.
+    /// The mark between items.
     Comma,
-    /// `:`.
+    /// The mark between a key and its value, or between the bounds of a slice.
     Colon,
-    /// `=`.
+    /// The mark of an assignment.
     Assign,
-    /// `|`.
+    /// The mark before a filter.
     Pipe,
-    /// `-`.
+    /// The mark of subtraction.
     Minus,
-    /// `*`.
+    /// The mark of multiplication.
     Mul,
-    /// `**`.
+    /// The mark of powers.
     Pow,
-    /// `(`.
+    /// The start of a parenthesis.
     ParenOpen,
-    /// `)`.
+    /// The end of a parenthesis.
     ParenClose,
-    /// `[`.
+    /// The start of a list, an item or a slice.
     BracketOpen,
-    /// `]`.
+    /// The end of a list, an item or a slice.
     BracketClose,
-    /// `}`.
+    /// The start of a map.
+    BraceOpen,
+    /// The end of a map.
     BraceClose,
     /// The end of a variable tag.
     VariableEnd,
@@ -101,35 +185,84 @@ pub enum Expected {
 
 impl fmt::Display for Expected {
     fn fmt<W: fmt::Write>(&self, f: &mut fmt::Formatter<W>) -> fmt::Result {
+        match self {
+            Expected::Expression => f.write_str("expression"),
+            Expected::Identifier => f.write_str("identifier"),
+            Expected::String => f.write_str("string"),
+            Expected::BlockKeyword => f.write_str("block keyword"),
+            Expected::Part => f.write_str("template data or the start of a tag"),
+            Expected::End => f.write_str("end of input"),
+            Expected::CommentEnd => f.write_str("end of comment"),
+            Expected::RawBlockEnd => f.write_str("end of raw block"),
+            Expected::EndFor => f.write_str("`endfor`"),
+            Expected::EndIf => f.write_str("`endif`"),
+            Expected::EndWith => f.write_str("`endwith`"),
+            Expected::EndSet => f.write_str("`endset`"),
+            Expected::EndAutoEscape => f.write_str("`endautoescape`"),
+            Expected::EndFilter => f.write_str("`endfilter`"),
+            Expected::EndBlock => f.write_str("`endblock`"),
+            Expected::EndMacro => f.write_str("`endmacro`"),
+            Expected::EndCall => f.write_str("`endcall`"),
+            Expected::If => f.write_str("`if`"),
+            Expected::Elif => f.write_str("`elif`"),
+            Expected::Else => f.write_str("`else`"),
+            Expected::Recursive => f.write_str("`recursive`"),
+            Expected::As => f.write_str("`as`"),
+            Expected::Import => f.write_str("`import`"),
+            Expected::Scoped => f.write_str("`scoped`"),
+            Expected::Required => f.write_str("`required`"),
+            Expected::Ignore => f.write_str("`ignore`"),
+            Expected::Missing => f.write_str("`missing`"),
+            Expected::Context => f.write_str("`context`"),
+            Expected::Not => f.write_str("`not`"),
+            Expected::In => f.write_str("`in`"),
+            Expected::Is => f.write_str("`is`"),
+            Expected::Dot => f.write_str(Token::Dot.words()),
+            Expected::Comma => f.write_str(Token::Comma.words()),
+            Expected::Colon => f.write_str(Token::Colon.words()),
+            Expected::Assign => f.write_str(Token::Assign.words()),
+            Expected::Pipe => f.write_str(Token::Pipe.words()),
+            Expected::Minus => f.write_str(Token::Minus.words()),
+            Expected::Mul => f.write_str(Token::Mul.words()),
+            Expected::Pow => f.write_str(Token::Pow.words()),
+            Expected::ParenOpen => f.write_str(Token::ParenOpen.words()),
+            Expected::ParenClose => f.write_str(Token::ParenClose.words()),
+            Expected::BracketOpen => f.write_str(Token::BracketOpen.words()),
+            Expected::BracketClose => f.write_str(Token::BracketClose.words()),
+            Expected::BraceOpen => f.write_str(Token::BraceOpen.words()),
+            Expected::BraceClose => f.write_str(Token::BraceClose.words()),
+            Expected::VariableEnd => f.write_str(Token::VariableEnd.words()),
+            Expected::BlockEnd => f.write_str(Token::BlockEnd.words()),
+        }
+    }
+}
+
+/// What stands where something else was expected, if it is named by what it is and not by its text.
+#[derive(Clone, Copy, Debug, PartialEq, Eq)]
+pub enum Found {
+    /// A string.
+    String,
+    /// Text outside of tags.
+    TemplateData,
+    /// The start of a variable tag.
+    VariableStart,
+    /// The end of a variable tag.
+    VariableEnd,
+    /// The start of a block tag.
+    BlockStart,
+    /// The end of a block tag.
+    BlockEnd,
+}
+
+impl fmt::Display for Found {
+    fn fmt<W: fmt::Write>(&self, f: &mut fmt::Formatter<W>) -> fmt::Result {
         f.write_str(match self {
-            Expected::Expression => "expression",
-            Expected::Identifier => "identifier",
-            Expected::String => "string",
-            Expected::BlockKeyword => "block keyword",
-            Expected::Part => "template data or the start of a tag",
-            Expected::End => "end of input",
-            Expected::CommentEnd => "end of comment",
-            Expected::RawBlockEnd => "end of raw block",
-            Expected::If => "if",
-            Expected::Else => "else",
-            Expected::Not => "not",
-            Expected::In => "in",
-            Expected::Is => "is",
-            Expected::Dot => "`.`",
-            Expected::Comma => "`,`",
-            Expected::Colon => "`:`",
-            Expected::Assign => "assignment operator",
-            Expected::Pipe => "`|`",
-            Expected::Minus => "`-`",
-            Expected::Mul => "`*`",
-            Expected::Pow => "`**`",
-            Expected::ParenOpen => "`(`",
-            Expected::ParenClose => "`)`",
-            Expected::BracketOpen => "`[`",
-            Expected::BracketClose => "`]`",
-            Expected::BraceClose => "`}`",
-            Expected::VariableEnd => "end of variable block",
-            Expected::BlockEnd => "end of block",
+            Found::String => "string",
+            Found::TemplateData => "template data",
+            Found::VariableStart => Token::VariableStart.words(),
+            Found::VariableEnd => Token::VariableEnd.words(),
+            Found::BlockStart => Token::BlockStart.words(),
+            Found::BlockEnd => Token::BlockEnd.words(),
         })
     }
 }
@@ -157,12 +290,22 @@ pub enum Detail<'s> {
     FloatLiteral,
     /// The text ends where something else was expected.
     UnexpectedEnd(Expected),
-    /// A token stands where something else was expected.
-    UnexpectedToken(Expected),
+    /// This word, number or mark stands where something else was expected.
+    UnexpectedToken { expected: Expected, found: &'s str },
+    /// A token that is no such one stands where something else was expected.
+    Unexpected(Found, Expected),
+    /// The text ends in the body of the statement.
+    Unclosed(OpenStatement),
+    /// This word stands where the body of the statement ends.
+    WrongEnd { open: OpenStatement, found: &'s str },
+    /// This word ends or continues a statement, and none is open.
+    StrayEnd(&'s str),
     /// A block tag begins with a word that names no statement.
     UnknownStatement(&'s str),
     /// A name that cannot be assigned to.
     ReservedName(&'s str),
+    /// An expression that is neither a variable, an attribute nor a list of such.
+    NotATarget,
     /// Expressions and statements nest deeper than 150.
     TooDeep,
     /// A call has more than 2000 arguments.
@@ -171,8 +314,18 @@ pub enum Detail<'s> {
     PlainAfterKeyword,
     /// The word, `break` or `continue`, stands in no loop's body.
     OutsideLoop(&'s str),
-    /// What follows `do` is no call.
+    /// What follows `do` or `call` is no call.
     NotACall,
+    /// Two blocks have this name.
+    DuplicateBlock(&'s str),
+    /// A block stands in a macro or in a call block.
+    BlockInMacro,
+    /// A required block has more than whitespace in it.
+    FilledRequiredBlock,
+    /// The name after `endblock` is not that of the block.
+    OtherBlockName(&'s str),
+    /// A name that begins with an underscore is imported.
+    PrivateName(&'s str),
     /// Memory was refused.
     OutOfMemory,
     /// The source has 2^32 bytes or more.
@@ -183,41 +336,50 @@ pub enum Detail<'s> {
 
 impl fmt::Display for Detail<'_> {
     fn fmt<W: fmt::Write>(&self, f: &mut fmt::Formatter<W>) -> fmt::Result {
-        f.write_str(match self {
-            Detail::InvalidDelimiter => "invalid delimiter",
-            Detail::UnexpectedCharacter => "unexpected character",
-            Detail::UnterminatedString => "unexpected end of string",
-            Detail::BadEscape => "invalid string escape",
-            Detail::MissingDigits => "a number has no digits",
-            Detail::DigitOutOfRange => "a digit is out of the number's radix",
-            Detail::TrailingUnderscore => "'_' may not occur at end of number",
-            Detail::IntegerTooLarge => "integer too large",
-            Detail::FloatLiteral => "float literals are not supported",
+        match self {
+            Detail::InvalidDelimiter => f.write_str("invalid delimiter"),
+            Detail::UnexpectedCharacter => f.write_str("unexpected character"),
+            Detail::UnterminatedString => f.write_str("unexpected end of string"),
+            Detail::BadEscape => f.write_str("invalid string escape"),
+            Detail::MissingDigits => f.write_str("a number has no digits"),
+            Detail::DigitOutOfRange => f.write_str("a digit is out of the number's radix"),
+            Detail::TrailingUnderscore => f.write_str("'_' may not occur at end of number"),
+            Detail::IntegerTooLarge => f.write_str("integer too large"),
+            Detail::FloatLiteral => f.write_str("float literals are not supported"),
             Detail::UnexpectedEnd(wanted) => {
-                return write!(f, "unexpected end of input, expected {wanted}");
+                write!(f, "unexpected end of input, expected {wanted}")
             }
-            Detail::UnexpectedToken(wanted) => {
-                return write!(f, "unexpected token, expected {wanted}");
+            Detail::UnexpectedToken { expected, found } => {
+                write!(f, "unexpected `{found}`, expected {expected}")
             }
-            Detail::UnknownStatement(word) => return write!(f, "unknown statement {word}"),
-            Detail::ReservedName(name) => {
-                return write!(f, "cannot assign to reserved name {name}");
+            Detail::Unexpected(found, wanted) => {
+                write!(f, "unexpected {found}, expected {wanted}")
             }
-            Detail::TooDeep => "template exceeds maximum recursion limits",
-            Detail::TooManyArguments => "too many arguments in function call",
-            Detail::PlainAfterKeyword => "non-keyword arg after keyword arg",
-            Detail::OutsideLoop(word) => {
-                return write!(f, "'{word}' must be placed inside a loop");
-            }
-            Detail::NotACall => "expected call expression",
-            Detail::OutOfMemory => "out of memory",
-            Detail::SourceTooLong => "source too long",
-            Detail::TooManyInstructions => "too many instructions",
-        })
+            Detail::Unclosed(open) => write!(f, "unexpected end of input, expected {open}"),
+            Detail::WrongEnd { open, found } => write!(f, "expected {open}, found {found}"),
+            Detail::StrayEnd(word) => write!(f, "unexpected {word}, no statement is open"),
+            Detail::UnknownStatement(word) => write!(f, "unknown statement {word}"),
+            Detail::ReservedName(name) => write!(f, "cannot assign to reserved name {name}"),
+            Detail::NotATarget => f.write_str("cannot assign to this expression"),
+            Detail::TooDeep => f.write_str("template exceeds maximum recursion limits"),
+            Detail::TooManyArguments => f.write_str("too many arguments in function call"),
+            Detail::PlainAfterKeyword => f.write_str("non-keyword arg after keyword arg"),
+            Detail::OutsideLoop(word) => write!(f, "'{word}' must be placed inside a loop"),
+            Detail::NotACall => f.write_str("expected call expression"),
+            Detail::DuplicateBlock(name) => write!(f, "block {name} is defined twice"),
+            Detail::BlockInMacro => f.write_str("a block cannot stand in a macro"),
+            Detail::FilledRequiredBlock => f.write_str("a required block has to be blank"),
+            Detail::OtherBlockName(name) => write!(f, "endblock names another block, {name}"),
+            Detail::PrivateName(name) => write!(f, "cannot import private name {name}"),
+            Detail::OutOfMemory => f.write_str("out of memory"),
+            Detail::SourceTooLong => f.write_str("source too long"),
+            Detail::TooManyInstructions => f.write_str("too many instructions"),
+        }
     }
 }
 
-/// A refusal: its kind, what exactly is wrong, the name of the source and where in it. It takes no memory.
+/// A refusal: its kind, what exactly is wrong, the name of the source and where in it.
+/// It allocates nothing.
 #[derive(Clone, Copy, Debug)]
 pub struct Error<'s> {
     kind: ErrorKind,
@@ -284,26 +446,37 @@ impl<'s> Error<'s> {
             None => None,
         }
     }
+
+    /// The column in its line, from 0, in characters: that of the span's start.
+    pub fn column(&self) -> Option<usize>
+        ensures { result ≡ option_map (λ (s : Span). s.start_col) (span_of self.now) }
+    {
+        match self.span {
+            Some(span) => Some(usize::from(span.start_col)),
+            None => None,
+        }
+    }
 }
 
-/// `KIND: DETAIL`, and after it the name and the line where they are known.
+/// `KIND: DETAIL`, and after it ` (in NAME:LINE:COLUMN)`, ` (in NAME)` or ` (at LINE:COLUMN)`, as
+/// far as these are known.
 impl fmt::Display for Error<'_> {
     fn fmt<W: fmt::Write>(&self, f: &mut fmt::Formatter<W>) -> fmt::Result {
         let Error {
             kind,
             detail,
             name,
-            ..
+            span,
         } = *self;
         write!(f, "{kind}: {detail}")?;
-        if let Some(name) = name {
-            write!(f, " (in {name}")?;
-            if let Some(line) = self.line() {
-                write!(f, ":{line}")?;
+        match (name, span) {
+            (Some(name), Some(span)) => {
+                write!(f, " (in {name}:{}:{})", span.start_line, span.start_col)
             }
-            write!(f, ")")?;
+            (Some(name), None) => write!(f, " (in {name})"),
+            (None, Some(span)) => write!(f, " (at {}:{})", span.start_line, span.start_col),
+            (None, None) => Ok(()),
         }
-        Ok(())
     }
 }
 

@@ -1,4 +1,4 @@
-//! What every layer of the template compiler says of a text: errors, the syntax and tokens.
+//! What every layer of the template compiler uses: errors, the syntax, tokens and where they stand.
 #![tactic(auto)]
 
 mod delimiter;

@@ -1,4 +1,4 @@
-//! How tags and lines of statements begin and end, and where the next one of a text begins.
+//! The syntax: how tags and line statements begin and end, and where the next one of a text begins.
 ghost use Rattle.std.specs.Prelude.{◌≡◌, ◌<◌, ◌↔◌, length, IsSome, IfSome, IfOk};
 ghost use Rattle.minijinja_syntax.specs.private.Delimiters.{delimiter_text};
 ghost use Rattle.minijinja_syntax.specs.Syntax.{start_of, default_syntax};
@@ -55,7 +55,8 @@ const PAIRS: [(StartMarker, StartMarker); 10] = [
     (StartMarker::LineStatement, StartMarker::LineComment),
 ];
 
-/// The fields of a syntax, which a builder may leave in a state that is refused. An empty prefix is off.
+/// The fields of a syntax, which a builder may leave in a state that is refused. An empty prefix is
+/// off.
 #[derive(Drop)]
 struct Settings {
     block_start: Delimiter,
@@ -221,8 +222,8 @@ impl Settings {
     }
 }
 
-/// Sets how tags and lines of statements begin and end, from what Jinja2 has or from another syntax. A setter that
-/// copies a text leaves the builder as it was where memory is refused.
+/// Sets how tags and line statements begin and end, starting with the default syntax or with
+/// another. A setter that copies a text leaves the builder as it was if memory is refused.
 #[derive(Drop)]
 pub struct SyntaxConfigBuilder {
     settings: Settings,
@@ -315,7 +316,8 @@ impl SyntaxConfigBuilder {
         Ok(())
     }
 
-    /// Sets what a comment up to the end of its line begins with; the empty text turns such comments off.
+    /// Sets what a comment up to the end of its line begins with; the empty text turns such
+    /// comments off.
     pub fn line_comment_prefix(&mut self, alloc: Global, prefix: &str) -> Result<(), Error<'static>>
         ensures ok { OnOk result (self.new ≡ record self.old { line_comment = prefix.now }) }
         ensures err { OnErr result (self.new ≡ self.old) }
@@ -353,7 +355,8 @@ impl SyntaxConfigBuilder {
         self
     }
 
-    /// The syntax, if its tags can be told apart. The builder may be used further.
+    /// The syntax, if no delimiter is empty and no two starts are equal. The builder can be used
+    /// further.
     pub fn build(&self, alloc: Global) -> Result<SyntaxConfig, Error<'static>>
         ensures value { IfOk result (λ syntax. syntax ≡ self.now) }
         ensures built { OnOk result (IsBuildable self.now) }
@@ -372,12 +375,12 @@ impl SyntaxConfigBuilder {
     }
 }
 
-/// How tags and lines of statements begin and end. The default is that of Jinja2: `{% %}` for blocks, `{{ }}` for
-/// variables and `{# #}` for comments, no prefixes, and no flag set.
+/// How tags and line statements begin and end. The default is that of Jinja2: `{% %}` for blocks,
+/// `{{ }}` for variables and `{# #}` for comments, no prefixes, and no flag set.
 #[derive(Drop)]
 pub struct SyntaxConfig {
     settings: Settings,
-    /// Whether start markers can be sought by the `{` that they all begin with.
+    /// Whether all start markers begin with `{`, so that a search can look for that byte.
     has_default_starts: bool,
 }
 
@@ -434,7 +437,7 @@ impl SyntaxConfig {
         })
     }
 
-    /// The same syntax once more.
+    /// A copy of the syntax.
     pub fn try_clone(&self) -> Result<Self, Error<'static>>
         ensures ok { IfOk result (λ copy. copy ≡ self.now) }
         ensures err { IfErr result IsOutOfMemory }
@@ -521,8 +524,9 @@ impl SyntaxConfig {
         self.settings.keep_trailing_newline
     }
 
-    /// The next start marker at or after the byte `offset`: how many bytes after it, the marker, and its length in
-    /// bytes without control. The leftmost eligible one; at one place the longest. It takes no memory.
+    /// The next start marker at or after the byte `offset`: how many bytes after it, the marker,
+    /// and its length in bytes without control. It is the leftmost eligible one, and of several at
+    /// one place the longest. Nothing is allocated.
     #[inline(always)]
     pub fn find_marker(&self, source: &str, offset: usize) -> Option<(usize, StartMarker, usize)>
         requires { offset ≤ length source.now }
@@ -550,7 +554,7 @@ fn some_text<'t>(text: &'t Delimiter) -> Option<&'t str>
     }
 }
 
-/// Finds the start markers of a syntax, which it has copied.
+/// Finds the start markers of a syntax, of which it holds a copy.
 #[derive(Drop)]
 pub struct StartMarkerMatcher {
     syntax: SyntaxConfig,
@@ -583,7 +587,8 @@ impl StartMarkerMatcher {
         })
     }
 
-    /// The next start marker at or after the byte `offset`, as [`SyntaxConfig::find_marker`] finds it.
+    /// The next start marker at or after the byte `offset`, as [`SyntaxConfig::find_marker`]
+    /// returns it.
     pub fn find(&self, source: &str, offset: usize) -> Option<(usize, StartMarker, usize)>
         requires { offset ≤ length source.now }
         ensures value { result ≡ found_marker self.now source.now offset }

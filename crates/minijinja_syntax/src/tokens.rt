@@ -1,11 +1,12 @@
-//! Tokens, and where they stand.
-ghost use Rattle.std.specs.Prelude.{Some};
+//! Tokens, what messages call them, and where they stand.
+ghost use Rattle.std.specs.Prelude.{◌≡◌, Some};
+ghost use Rattle.minijinja_syntax.specs.Positions.{expanded};
 ghost use Rattle.minijinja_syntax.specs.TokenWords.{token_words};
 ghost use Rattle.minijinja_syntax.specs.SpanWords.{span_words};
 
 use std::fmt;
 
-/// A token of a template. Its texts are slices of the source, but for a decoded string.
+/// A token of a template. Its texts are slices of the source, except a decoded string.
 #[derive(Debug, Drop, PartialEq, Eq)]
 pub enum Token<'s> {
     /// Text outside of tags.
@@ -80,11 +81,12 @@ pub enum Token<'s> {
     BraceClose,
 }
 
-impl fmt::Display for Token<'_> {
-    ghost output = { λ t. Some (token_words t) };
-
-    fn fmt<W: fmt::Write>(&self, f: &mut fmt::Formatter<W>) -> fmt::Result {
-        f.write_str(match self {
+impl Token<'_> {
+    /// What a message calls the token: its kind in words, or its mark between backticks.
+    pub fn words(&self) -> &'static str
+        ensures { result.now ≡ token_words self.now }
+    {
+        match self {
             Token::TemplateData(_) => "template-data",
             Token::VariableStart => "start of variable block",
             Token::VariableEnd => "end of variable block",
@@ -118,12 +120,20 @@ impl fmt::Display for Token<'_> {
             Token::ParenClose => "`)`",
             Token::BraceOpen => "`{`",
             Token::BraceClose => "`}`",
-        })
+        }
     }
 }
 
-/// Where a token or a node begins and ends. Lines count from 1 and columns from 0, in characters; both stop at 65535.
-/// Offsets are in bytes. The default is a span of zeros, which stands for no place.
+impl fmt::Display for Token<'_> {
+    ghost output = { λ t. Some (token_words t) };
+
+    fn fmt<W: fmt::Write>(&self, f: &mut fmt::Formatter<W>) -> fmt::Result {
+        f.write_str(self.words())
+    }
+}
+
+/// Where a token or a node begins and ends. Lines count from 1 and columns from 0, in characters;
+/// both stop at 65535. Offsets are in bytes. The default is a span of zeros, which is no place.
 #[derive(Clone, Copy, Default, PartialEq, Eq)]
 pub struct Span {
     pub start_line: u16,
@@ -132,6 +142,20 @@ pub struct Span {
     pub end_line: u16,
     pub end_col: u16,
     pub end_offset: u32,
+}
+
+impl Span {
+    /// The span from the start of this one to the end of another.
+    pub fn to(self, end: Span) -> Span
+        ensures { result ≡ expanded self end }
+    {
+        Span {
+            end_line: end.end_line,
+            end_col: end.end_col,
+            end_offset: end.end_offset,
+            ..self
+        }
+    }
 }
 
 /// Writes ` @ SL:SC-EL:EC`.

@@ -1,17 +1,17 @@
 -- The tree of a node without its spans is the bare tree of the node.
 use Rattle.std.proofs.Common.{◌≡◌, refl, ap, ap₂, ◌∙◌}
 use Rattle.std.specs.Prelude.{List, [], ◌∷◌, map, Option}
-use Rattle.minijinja_expressions.specs.Nodes.{node_of}
+use Rattle.minijinja_tree_expr.specs.Nodes.{node_of}
 use Rattle.minijinja_tree.specs.Erasure.{expr_tree, names_of, stmt_tree, stmts_tree}
 use Rattle.minijinja_tree.specs.SpannedErasure.{trees, stmt_node, stmts_node}
 use Rattle.minijinja_tree.specs.SpannedErasure as spanned
 use Rattle.minijinja_tree.specs.SpannedTrees.{bare_list, bare_names, bare_stmt, bare_stmts}
 use Rattle.minijinja_tree.specs.Tree as tree
-use Rattle.minijinja_expressions.specs.declared.ast.Expr.{Expr}
+use Rattle.minijinja_tree_expr.specs.declared.ast.Expr.{Expr}
 use Rattle.minijinja_tree.specs.declared.ast.Stmt.TheBlock as stmt_block
 use Rattle.minijinja_tree.specs.declared.ast.Stmt.{Stmt, Row_of-Stmt, end_of-Stmt, more_of-Stmt}
 use Rattle.minijinja_tree.specs.declared.ast.Stmt.TheVariants.{Template', EmitExpr, EmitRaw, ForLoop', IfCond', WithBlock', Set, SetBlock', AutoEscape', FilterBlock', Block', Extends, Include, Import, FromImport, Macro', CallBlock', Continue, Break, Do}
-use Rattle.minijinja_expressions.proofs.Bare.{expr_is, any_is, args_of_are, bindings_are}
+use Rattle.minijinja_tree_expr.proofs.Bare.{expr_is, any_is, args_of_are, bindings_are}
 
 ap₃ : {A B C D : Type 0} (f : A → B → C → D) {a a' : A} {b b' : B} {c c' : C} → a ≡ a' → b ≡ b' → c ≡ c' → f a b c ≡ f a' b' c'
 ap₃ f {a} {a'} {b} {b'} {c} {c'} h k l = ap (λ x. f x b c) h ∙ ap (λ y. f a' y c) k ∙ ap (f a' b') l

@@ -1,14 +1,14 @@
--- A statement is well formed where its head and its bodies are, and the only statement of a false body.
+-- A statement is well formed where its head, its bodies and a false body's only statement are.
 use Rattle.std.proofs.Common.{◌≡◌, ◌<◌, refl, sym, ap, ◌∙◌, true, false, arith}
 use Rattle.std.specs.Prelude.{Bool, ◌&&◌, List, [], ◌∷◌, Option, Some, None, IfSome, option_map}
 use Rattle.std.specs.Borrow.{Bor}
 use Rattle.minijinja_tree.specs.Tree.{Stmt, template, data_text, output, assignment, for_loop, if_cond, with_block, set_block, auto_escape, filter_block, named_block, extends, include, import_all, from_import, declare, call_block, do_call, break_loop, continue_loop, Stmts, done, also, Macro, macro}
 use Rattle.minijinja_tree.specs.Erasure.{stmt_tree}
-use Rattle.minijinja_tree.specs.private.Sizes.{stmt_size}
+use Rattle.minijinja_tree.specs.internal.Sizes.{stmt_size}
 use Rattle.minijinja_tree.specs.declared.ast.Stmt.{Stmt as Node}
 use Rattle.minijinja_tree.proofs.Rows.{body_of}
 use Rattle.minijinja_tree.proofs.StmtSizes.{IsStmtWithin, next-stmt-within}
-use Rattle.minijinja_tree.specs.private.WellFormedTests.{is_whole, is_target, takes_arguments, are_names, is_macro_headed, is_inner, are_inner, is_headed, has_bodies, only, only_item, otherwise, are_inner_but_one}
+use Rattle.minijinja_tree.specs.internal.WellFormedTests.{is_whole, is_target, takes_arguments, are_names, is_macro_headed, is_inner, are_inner, is_headed, has_bodies, only, only_item, otherwise, are_inner_but_one}
 
 and-true : (a : Bool) → (a && true) ≡ a
 and-true true = refl

@@ -9,9 +9,9 @@ use Rattle.std.proofs.lemmas.List.Sums.{sum_by-append}
 use Rattle.minijinja_syntax.specs.Texts.{Text}
 use Rattle.minijinja_tree.specs.Tree.{Stmt, template, data_text, output, assignment, for_loop, if_cond, with_block, set_block, auto_escape, filter_block, named_block, extends, include, import_all, from_import, declare, call_block, do_call, break_loop, continue_loop, Stmts, done, also, macro, Block, blocks, all_blocks, names_of_blocks, block_names, all_block_names}
 use Rattle.minijinja_tree.specs.Erasure.{stmt_tree}
-use Rattle.minijinja_tree.specs.private.BlockNames.{own, first_body, second_body, many, beside}
-use Rattle.minijinja_tree.specs.private.Sizes.{stmt_size}
-use Rattle.minijinja_tree.specs.private.WellFormedTests.{are_single, otherwise, only}
+use Rattle.minijinja_tree.specs.internal.BlockNames.{own, first_body, second_body, many, beside}
+use Rattle.minijinja_tree.specs.internal.Sizes.{stmt_size}
+use Rattle.minijinja_tree.specs.internal.WellFormedTests.{are_single, otherwise, only}
 use Rattle.minijinja_tree.specs.declared.ast.Stmt.{Stmt as Node}
 use Rattle.minijinja_tree.proofs.Rows.{body_of}
 use Rattle.minijinja_tree.proofs.StmtSizes.{IsStmtWithin, next-stmt-within}

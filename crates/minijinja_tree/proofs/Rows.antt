@@ -1,9 +1,9 @@
 -- The bodies of statements, as the lists that they are.
 use Rattle.std.proofs.Common.{◌≡◌, map, List, refl, sym, ap, ap₂, ◌∙◌}
-use Rattle.minijinja_expressions.specs.Nodes.{node_of}
+use Rattle.minijinja_tree_expr.specs.Nodes.{node_of}
 use Rattle.minijinja_tree.specs.Tree.{template, for_loop, if_cond, with_block, set_block, auto_escape, filter_block, named_block, declare, call_block, macro, Stmts, also, stmts_of}
 use Rattle.minijinja_tree.specs.Erasure.{expr_tree, optional_of, args_of, assignments_of, macro_tree, stmt_tree, stmts_tree}
-use Rattle.minijinja_expressions.specs.declared.ast.Spanned.{Spanned}
+use Rattle.minijinja_tree_expr.specs.declared.ast.Spanned.{Spanned}
 use Rattle.minijinja_tree.specs.declared.ast.Template.{Template}
 use Rattle.minijinja_tree.specs.declared.ast.ForLoop.{ForLoop}
 use Rattle.minijinja_tree.specs.declared.ast.IfCond.{IfCond}
@@ -14,7 +14,7 @@ use Rattle.minijinja_tree.specs.declared.ast.FilterBlock.{FilterBlock}
 use Rattle.minijinja_tree.specs.declared.ast.Block.{Block}
 use Rattle.minijinja_tree.specs.declared.ast.Macro.{Macro}
 use Rattle.minijinja_tree.specs.Tree as tree
-use Rattle.minijinja_expressions.specs.declared.ast.Call.{Call}
+use Rattle.minijinja_tree_expr.specs.declared.ast.Call.{Call}
 use Rattle.minijinja_tree.specs.declared.ast.CallBlock.{CallBlock, out-CallBlock}
 use Rattle.minijinja_tree.specs.declared.ast.Stmt.TheBlock as stmt_block
 use Rattle.minijinja_tree.specs.declared.ast.Stmt.{Stmt, Row_of-Stmt, end_of-Stmt, more_of-Stmt, items-the_row-Stmt, items_hidden-the_row-Stmt-0, items_shown-the_row-Stmt-0}

@@ -8,9 +8,9 @@ use Rattle.minijinja_tree.specs.SpannedTrees as tree
 use Rattle.minijinja_tree.specs.SpannedTrees.{also, macro_of, stmts_of}
 use Rattle.minijinja_tree.specs.SpannedErasure.{any_tree, args_of, bindings_of, expr_node, params_of, stmt_node, stmts_node, trees}
 use Rattle.minijinja_syntax.specs.declared.tokens.Span.{Span}
-use Rattle.minijinja_expressions.specs.declared.ast.Spanned.{Spanned}
-use Rattle.minijinja_expressions.specs.declared.ast.Call.{Call}
-use Rattle.minijinja_expressions.specs.declared.ast.Expr.{Expr}
+use Rattle.minijinja_tree_expr.specs.declared.ast.Spanned.{Spanned}
+use Rattle.minijinja_tree_expr.specs.declared.ast.Call.{Call}
+use Rattle.minijinja_tree_expr.specs.declared.ast.Expr.{Expr}
 use Rattle.minijinja_tree.specs.declared.ast.Stmt.TheBlock as stmt_block
 use Rattle.minijinja_tree.specs.declared.ast.Block.{Block}
 use Rattle.minijinja_tree.specs.declared.ast.Macro.{Macro}

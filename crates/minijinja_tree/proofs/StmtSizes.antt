@@ -2,7 +2,7 @@
 use Rattle.std.proofs.Common.{◌≡◌, ℕ, suc, ◌<◌, ◌≤◌, sym, subst, arith}
 use Rattle.std.specs.Prelude.{Option, Some, None, IfSome}
 use Rattle.std.specs.Borrow.{Bor}
-use Rattle.minijinja_tree.specs.private.Sizes.{stmt_size}
+use Rattle.minijinja_tree.specs.internal.Sizes.{stmt_size}
 use Rattle.minijinja_tree.specs.declared.ast.Stmt.{Stmt}
 
 -- no deeper than the whole

@@ -10,8 +10,8 @@ use Rattle.minijinja_syntax.specs.Texts.{Text}
 use Rattle.std.proofs.lemmas.Bool.Decides.{nat_tests}
 use Rattle.minijinja_tree.specs.Tree.{Expr, variable, constant, slice, unary, binary, compare, if_expr, filter, test, attribute, item, call, list, tuple, map, Optional, absent, present, Exprs, no_more, more, Comparisons, compared, against, Args, no_args, pos, pos_splat, kwarg, kwarg_splat, Stmt, template, data_text, output, assignment, for_loop, if_cond, with_block, set_block, auto_escape, filter_block, named_block, extends, include, import_all, from_import, declare, call_block, do_call, break_loop, continue_loop, Stmts, done, also, Macro, macro, Block, blocks, all_blocks, macro_blocks, names_of_blocks, block_names}
 use Rattle.minijinja_tree.specs.WellFormed.{most_arguments, expr_count, arg_count, IsChain, IsWhole, IsWholeIfAny, AreWhole, AreCompared, AreArguments, IsTarget, AreTargets, AreAssignments, IsChainOfFilters, IsChainIfAny, IsVariable, AreVariables, AreAllWhole, IsVariableIfAny, AreNames, AreDistinct, IsInner, AreInner, IsMacro, IsRoot, IsWellFormed}
-use Rattle.minijinja_tree.specs.private.WellFormedTests.{is_chain, is_whole, is_whole_if_any, are_whole, are_compared, are_arguments, takes_arguments, is_target, are_targets, are_assignments, is_chain_of_filters, is_chain_if_any, is_variable, are_variables, are_all_whole, is_variable_if_any, are_names, is_macro_headed, is_inner, are_inner, is_macro, is_root, are_distinct, is_well_formed}
-use Rattle.minijinja_expressions.proofs.WellFormedTesting.{both, left, right, whole-holds, any-holds, whole-tests, any-tests, target-holds, target-tests, assignments-hold, assignments-test, taken-hold, taken-few, taken-test, filters-hold, filters-test, any-filters-hold, any-filters-test, variables-hold, variables-test, all-whole-hold, all-whole-test, names-hold, names-test, no-more-holds, no-more-tests}
+use Rattle.minijinja_tree.specs.internal.WellFormedTests.{is_chain, is_whole, is_whole_if_any, are_whole, are_compared, are_arguments, takes_arguments, is_target, are_targets, are_assignments, is_chain_of_filters, is_chain_if_any, is_variable, are_variables, are_all_whole, is_variable_if_any, are_names, is_macro_headed, is_inner, are_inner, is_macro, is_root, are_distinct, is_well_formed}
+use Rattle.minijinja_tree_expr.proofs.WellFormedTesting.{both, left, right, whole-holds, any-holds, whole-tests, any-tests, target-holds, target-tests, assignments-hold, assignments-test, taken-hold, taken-few, taken-test, filters-hold, filters-test, any-filters-hold, any-filters-test, variables-hold, variables-test, all-whole-hold, all-whole-test, names-hold, names-test, no-more-holds, no-more-tests}
 
 -- ---- blocks
 

@@ -1,7 +1,7 @@
 -- The tree that a node stands for, without its spans, and with values seen as what they hold.
-pub use Rattle.minijinja_expressions.specs.Erasure.{unary_op, bin_op, compare_op, expr_tree, optional_tree, exprs_tree, args_tree, arg_tree, compare_tree, comparisons_tree, optional_of, exprs_of, args_of, comparisons_of, assignments_of, names_of}
+pub use Rattle.minijinja_tree_expr.specs.Erasure.{unary_op, bin_op, compare_op, expr_tree, optional_tree, exprs_tree, args_tree, arg_tree, compare_tree, comparisons_tree, optional_of, exprs_of, args_of, comparisons_of, assignments_of, names_of}
 use Rattle.std.specs.Prelude.{map}
-use Rattle.minijinja_expressions.specs.Nodes.{node_of}
+use Rattle.minijinja_tree_expr.specs.Nodes.{node_of}
 use Rattle.minijinja_tree.specs.Tree as tree
 use Rattle.minijinja_tree.specs.declared.ast.Stmt.TheBlock as stmt_block
 use Rattle.minijinja_tree.specs.declared.ast.Macro.{Macro}

@@ -8,15 +8,16 @@ use Rattle.minijinja_syntax.specs.Texts.{Text}
 use Rattle.minijinja_tree.specs.Tree as tree
 use Rattle.minijinja_tree.specs.Tree.{Expr, variable, constant, slice, unary, binary, compare, if_expr, test, attribute, item, call, list, tuple, map, Optional, absent, present, Exprs, no_more, more, Comparisons, compared, against, Args, no_args, pos, pos_splat, kwarg, kwarg_splat, Stmt, template, data_text, output, assignment, for_loop, if_cond, with_block, set_block, auto_escape, filter_block, named_block, extends, include, import_all, from_import, declare, call_block, do_call, break_loop, continue_loop, Stmts, done, also, Macro, macro, macro_name, Parameter, parameters, stored_as}
 
--- What is met on the way through a part, in order of execution: names that occur, names that are stored, and regions. What is
--- stored in a region is stored up to its end.
+-- The way through a part, in order of execution: names that occur, names that are stored, and
+-- regions. A name that is stored in a region is stored up to the end of the region.
 pub data Way : Type 0 where
   end : Way
   occurs : Text → Way → Way
   stores : Text → Way → Way
   region : (within : Way) → Way → Way
 
--- the names that occur free, in order: those that are not stored before, in a region that is still open
+-- the names that occur free, in order: those that are not stored before, in a region that is still
+-- open
 abbrev pub free : Way → List Text
 free end = []
 free (occurs x w) = x ∷ free w
@@ -33,13 +34,13 @@ abbrev pub in_row : List (Way → Way) → Way → Way
 in_row [] w = w
 in_row (v ∷ vs) w = v (in_row vs w)
 
--- likewise, in turn from two rows
+-- one piece of the way after another, in turn from two rows
 abbrev pub in_turn : List (Way → Way) → List (Way → Way) → Way → Way
 in_turn [] vs w = in_row vs w
 in_turn (k ∷ ks) [] w = k (in_turn ks [] w)
 in_turn (k ∷ ks) (v ∷ vs) w = k (v (in_turn ks vs w))
 
--- the way through an expression, and what is met after it
+-- the way through an expression, and the rest of the way
 abbrev mutual
   pub through : {C : Type 0} → Expr C → Way → Way
   through (variable x) w = occurs x w
@@ -92,7 +93,7 @@ abbrev mutual
   through_keyword (kwarg x e args) w = through e (through_keyword args w)
   through_keyword (kwarg_splat e args) w = through e (through_keyword args w)
 
--- the way through a target: a variable is stored, of an attribute what it is one of is looked up
+-- the way through a target: a variable is stored, and the operand of an attribute is looked up
 abbrev mutual
   pub to_target : {C : Type 0} → Expr C → Way → Way
   to_target (variable x) w = stores x w
@@ -108,7 +109,7 @@ abbrev pub to_assignments : {C : Type 0} → List (Expr C × Expr C) → Way →
 to_assignments [] w = w
 to_assignments (a ∷ rest) w = through a.1 (to_target a.0 (to_assignments rest w))
 
--- names that are taken from a template are stored, the last one first
+-- names that are imported from a template are stored, the last one first
 abbrev pub to_names : {C : Type 0} → List (Expr C × Optional C) → Way → Way
 to_names [] w = w
 to_names (n ∷ rest) w = to_names rest (to_target (stored_as n) w)

@@ -1,8 +1,8 @@
 -- The tree that a node stands for, with its spans, and with values seen as what they hold.
-pub use Rattle.minijinja_expressions.specs.SpannedErasure.{expr_node, optional_node, exprs_node, args_node, arg_node, compare_node, comparisons_node, trees, any_tree, arg_view, args_view, compared, all_compared, optional_of, args_of, bindings_of, names_of}
+pub use Rattle.minijinja_tree_expr.specs.SpannedErasure.{expr_node, optional_node, exprs_node, args_node, arg_node, compare_node, comparisons_node, trees, any_tree, arg_view, args_view, compared, all_compared, optional_of, args_of, bindings_of, names_of}
 use Rattle.std.specs.Prelude.{List, map, Option}
-use Rattle.minijinja_expressions.specs.declared.ast.Expr.{Expr}
-use Rattle.minijinja_expressions.specs.Nodes.{node_of, span_of}
+use Rattle.minijinja_tree_expr.specs.declared.ast.Expr.{Expr}
+use Rattle.minijinja_tree_expr.specs.Nodes.{node_of, span_of}
 use Rattle.minijinja_tree.specs.SpannedTrees as tree
 use Rattle.minijinja_tree.specs.declared.ast.Stmt.TheBlock as stmt_block
 use Rattle.minijinja_tree.specs.declared.ast.Stmt.{Stmt, Row_of-Stmt, end_of-Stmt, more_of-Stmt}

@@ -1,5 +1,5 @@
--- Trees whose nodes have spans, over what values hold: the same trees as without them, and where each node stands.
-pub use Rattle.minijinja_expressions.specs.SpannedTrees.{Expr, variable, constant, slice, unary, binary, compare, if_expr, filter, test, attribute, item, call, list, tuple, map, Optional, absent, present, Exprs, no_more, more, Comparisons, compared, against, Args, no_args, pos, pos_splat, kwarg, kwarg_splat, Arg, positional, starred, keyword, double_starred, optional_of, exprs_of, comparisons_of, args_of, bare_expr, bare_optional, bare_exprs, bare_comparisons, bare_args, bare_bindings, bare_list, bare_names}
+-- Trees whose nodes have spans, over what values hold.
+pub use Rattle.minijinja_tree_expr.specs.SpannedTrees.{Expr, variable, constant, slice, unary, binary, compare, if_expr, filter, test, attribute, item, call, list, tuple, map, Optional, absent, present, Exprs, no_more, more, Comparisons, compared, against, Args, no_args, pos, pos_splat, kwarg, kwarg_splat, Arg, positional, starred, keyword, double_starred, optional_of, exprs_of, comparisons_of, args_of, bare_expr, bare_optional, bare_exprs, bare_comparisons, bare_args, bare_bindings, bare_list, bare_names}
 use Rattle.std.specs.Prelude.{Bool, List, [], ◌∷◌, Option}
 use Rattle.std.specs.Prelude as std
 use Rattle.std.specs.List.{filter_map}

@@ -1,5 +1,5 @@
 -- Trees without spans, over what values hold.
-pub use Rattle.minijinja_expressions.specs.Tree.{UnaryOp, logical_not, negation, Expr, variable, constant, slice, unary, binary, compare, if_expr, filter, test, attribute, item, call, list, tuple, map, Optional, absent, present, Exprs, no_more, more, Comparisons, compared, against, Args, no_args, pos, pos_splat, kwarg, kwarg_splat}
+pub use Rattle.minijinja_tree_expr.specs.Tree.{UnaryOp, logical_not, negation, Expr, variable, constant, slice, unary, binary, compare, if_expr, filter, test, attribute, item, call, list, tuple, map, Optional, absent, present, Exprs, no_more, more, Comparisons, compared, against, Args, no_args, pos, pos_splat, kwarg, kwarg_splat}
 use Rattle.std.specs.Prelude.{Bool, true, false, List, [], ◌∷◌, ◌++◌, reverse}
 use Rattle.minijinja_syntax.specs.Texts.{Text}
 
@@ -12,7 +12,8 @@ mutual
     output : Expr C → Stmt C L
     -- the target and the value
     assignment : Expr C → Expr C → Stmt C L
-    -- the target, the iterable, the test that items have to pass, whether it is recursive, the body, and the else body
+    -- the target, the iterable, the test that items have to pass, whether it is recursive, the
+    -- body, and the else body
     for_loop : L → Expr C → Expr C → Optional C → Bool → Stmts C L → Stmts C L → Stmt C L
     -- the test, the true body and the false body
     if_cond : Expr C → Stmts C L → Stmts C L → Stmt C L
@@ -30,18 +31,19 @@ mutual
     extends : Expr C → Stmt C L
     -- the name of a template, and whether a missing one is ignored
     include : Expr C → Bool → Stmt C L
-    -- the name of a template, and the target of all that it stores
+    -- the name of a template, and the target that its exports are stored to
     import_all : Expr C → Expr C → Stmt C L
-    -- the name of a template, and the names that are taken from it, each with its alias
+    -- the name of a template, and the names that are imported from it, each with its alias
     from_import : Expr C → List (Expr C × Optional C) → Stmt C L
     declare : Macro C L → Stmt C L
-    -- what is called, the arguments, and the macro that they take along
+    -- what is called, the arguments, and the macro that is passed with them
     call_block : Expr C → Args C → Macro C L → Stmt C L
     -- what is called, and the arguments
     do_call : Expr C → Args C → Stmt C L
     break_loop continue_loop : Stmt C L
 
-  -- the label, the name, the arguments, the defaults, which are those of the last arguments, and the body
+  -- the label, the name, the arguments, the defaults, which are those of the last arguments, and
+  -- the body
   pub data Macro (C L : Type 0) : Type 0 where
     macro : L → Text → List (Expr C) → List (Expr C) → Stmts C L → Macro C L
 
@@ -76,7 +78,7 @@ defaulted (e ∷ es) (d ∷ ds) = record { target = e; default = present d } ∷
 abbrev pub parameters : {C : Type 0} → (args defaults : List (Expr C)) → List (Parameter C)
 parameters args defaults = defaulted (reverse args) (reverse defaults)
 
--- what a name that is taken from a template is stored to
+-- the target of a name that is imported from a template: its alias, if it has one
 abbrev pub stored_as : {C : Type 0} → Expr C × Optional C → Expr C
 stored_as (e, absent) = e
 stored_as (e, present alias) = alias
@@ -94,7 +96,7 @@ pub record Block (C L : Type 0) : Type 0 where
   pub required : Bool
   pub body : Stmts C L
 
--- each before those within it
+-- the blocks within a statement, each before those within it
 abbrev mutual
   pub blocks : {C L : Type 0} → Stmt C L → List (Block C L)
   blocks (template ss) = all_blocks ss

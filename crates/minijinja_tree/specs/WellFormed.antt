@@ -1,5 +1,5 @@
--- Which trees code is made of.
-pub use Rattle.minijinja_expressions.specs.WellFormed.{most_arguments, expr_count, arg_count, IsChain, IsWhole, IsWholeIfAny, AreWhole, AreCompared, AreArguments, IsTarget, AreTargets, AreAssignments, IsChainOfFilters, IsChainIfAny, IsVariable, AreVariables, AreAllWhole, IsVariableIfAny, AreNames}
+-- Which trees are well formed, so that code can be generated from them.
+pub use Rattle.minijinja_tree_expr.specs.WellFormed.{most_arguments, expr_count, arg_count, IsChain, IsWhole, IsWholeIfAny, AreWhole, AreCompared, AreArguments, IsTarget, AreTargets, AreAssignments, IsChainOfFilters, IsChainIfAny, IsVariable, AreVariables, AreAllWhole, IsVariableIfAny, AreNames}
 use Rattle.std.specs.Prelude.{◌≡◌, ◌≢◌, ◌≤◌, Bool, true, false, IsTrue, List, [], length, AllPairs}
 use Rattle.minijinja_syntax.specs.Texts.{Text}
 use Rattle.minijinja_tree.specs.Tree.{call, Stmt, template, data_text, output, assignment, for_loop, if_cond, with_block, set_block, auto_escape, filter_block, named_block, extends, include, import_all, from_import, declare, call_block, do_call, break_loop, continue_loop, Stmts, done, also, Macro, macro, block_names, all_block_names}
@@ -8,8 +8,9 @@ use Rattle.minijinja_tree.specs.Tree.{call, Stmt, template, data_text, output, a
 abbrev pub AreDistinct : List Text → Type 0
 AreDistinct xs = AllPairs (λ x y. x ≢ y) xs
 
--- A whole template stands only at the root. Loops are left only in a loop's body, to which its else body does not belong, nor does
--- a block or a macro within it. No block stands in a macro.
+-- A whole template stands only at the root. `break` and `continue` stand only in a loop's body, and
+-- not in the loop's else body, nor in a block or a macro within the body. No block stands in a
+-- macro.
 abbrev mutual
   pub IsInner : {C L : Type 0} → (in_loop : Bool) → Stmt C L → Type 0
   IsInner l (template ss) = ⊥
@@ -47,6 +48,6 @@ abbrev pub IsRoot : {C L : Type 0} → Stmt C L → Type 0
 IsRoot (template ss) = AreInner false ss
 IsRoot s = IsInner false s
 
--- of which no two blocks have one name
+-- a root in which no two blocks have the same name
 abbrev pub IsWellFormed : {C L : Type 0} → Stmt C L → Type 0
 IsWellFormed s = IsRoot s × AreDistinct (block_names s)

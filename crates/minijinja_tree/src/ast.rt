@@ -1,10 +1,10 @@
-//! The nodes of a template's tree. Each borrows the source alone.
-use minijinja_base::value::{TemplateValue, Value};
-pub use minijinja_expressions::ast::{
+//! The nodes of a template's tree. A node borrows from the source alone.
+pub use minijinja_tree_expr::ast::{
     BinOp, BinOpKind, Call, CallArg, CallType, Compare, CompareOp, CompareOpKind, Const, Expr,
     Filter, GetAttr, GetItem, IfExpr, List, MOST_ARGUMENTS, Map, Slice, Spanned, Test, Tuple,
     UnaryOp, UnaryOpKind, Var,
 };
+use minijinja_value::value::{TemplateValue, Value};
 
 /// A statement.
 #[cycle(stmt)]
@@ -31,9 +31,10 @@ pub enum Stmt<'s, V: TemplateValue = Value> {
     Do(Spanned<Do<'s, V>>),
 }
 
-/// Written out, so that whoever lets a statement go calls this, and how each kind of node is let go is proved here alone.
-/// A node that holds statements is taken off the heap, and its parts go by themselves: a box goes by a call that is handed how
-/// what it holds is let go, which would make each of these kinds a function of the cycle.
+/// Written by hand, so that code which drops a statement calls this function, and the drops of all
+/// kinds of nodes are proved here alone. A node that holds statements is moved off the heap before
+/// it is dropped: dropping its box would pass the node's drop to a generic call, and so make a
+/// function of the cycle for each of these kinds.
 impl<'s, V: TemplateValue> Drop for Stmt<'s, V> {
     #[cycle(stmt)]
     fn drop(self) {
@@ -86,7 +87,7 @@ impl<'s, V: TemplateValue> Stmt<'s, V> {
     ghost use Rattle.std.specs.Prelude.{◌≡◌, IfErr, IfOk};
     ghost use Rattle.minijinja_tree.specs.declared.ast.Stmt.TheVariants as kinds;
 
-    /// The condition that the statement is, or the statement.
+    /// The condition, if the statement is one; otherwise the statement.
     fn into_condition(self) -> Result<Spanned<IfCond<'s, V>>, Self>
         ensures condition { IfOk result (λ condition. self.entry ≡ kinds.IfCond condition) }
         ensures other { IfErr result (λ other. other ≡ self.entry) }
@@ -117,8 +118,8 @@ pub struct EmitRaw<'s> {
     pub raw: &'s str,
 }
 
-/// A loop: `{% for target in iter %}`. Only items that pass `filter_expr` are gone through; the else body stands in where
-/// there are none.
+/// A loop: `{% for target in iter %}`. It runs its body for the items that pass `filter_expr`, and
+/// its else body where there are none.
 #[cycle(stmt)]
 #[derive(Drop)]
 pub struct ForLoop<'s, V: TemplateValue = Value> {
@@ -138,7 +139,8 @@ pub struct IfCond<'s, V: TemplateValue = Value> {
     pub false_body: Vec<Stmt<'s, V>>,
 }
 
-/// A condition that ends a false body goes in a loop, so that a row of `elif` takes no more stack than one of them.
+/// Drops a condition that ends a false body in a loop, so that a row of `elif` takes no more stack
+/// than one of them.
 impl<'s, V: TemplateValue> Drop for IfCond<'s, V> {
     #[cycle(stmt)]
     fn drop(mut self) {
@@ -174,7 +176,7 @@ pub struct Set<'s, V: TemplateValue = Value> {
     pub expr: Expr<'s, V>,
 }
 
-/// An assignment of what a body writes: `{% set target | filter %}`.
+/// An assignment of the output of a body: `{% set target | filter %}`.
 #[cycle(stmt)]
 #[derive(Drop)]
 pub struct SetBlock<'s, V: TemplateValue = Value> {
@@ -191,7 +193,7 @@ pub struct AutoEscape<'s, V: TemplateValue = Value> {
     pub body: Vec<Stmt<'s, V>>,
 }
 
-/// Filters over what a body writes: `{% filter filter %}`.
+/// Filters on the output of a body: `{% filter filter %}`.
 #[cycle(stmt)]
 #[derive(Drop)]
 pub struct FilterBlock<'s, V: TemplateValue = Value> {
@@ -199,7 +201,8 @@ pub struct FilterBlock<'s, V: TemplateValue = Value> {
     pub body: Vec<Stmt<'s, V>>,
 }
 
-/// A part that another template may override: `{% block name %}`. One that is required has to be.
+/// A part that another template may override: `{% block name %}`. A required block has to be
+/// overridden.
 #[cycle(stmt)]
 #[derive(Drop)]
 pub struct Block<'s, V: TemplateValue = Value> {
@@ -208,27 +211,28 @@ pub struct Block<'s, V: TemplateValue = Value> {
     pub body: Vec<Stmt<'s, V>>,
 }
 
-/// The template whose blocks are overridden: `{% extends name %}`.
+/// The template whose blocks this one overrides: `{% extends name %}`.
 #[derive(Drop)]
 pub struct Extends<'s, V: TemplateValue = Value> {
     pub name: Expr<'s, V>,
 }
 
-/// Another template in this one's place: `{% include name %}`.
+/// A template that is included: `{% include name %}`.
 #[derive(Drop)]
 pub struct Include<'s, V: TemplateValue = Value> {
     pub name: Expr<'s, V>,
     pub ignore_missing: bool,
 }
 
-/// All that another template stores: `{% import expr as name %}`.
+/// A template whose exports are stored to a target: `{% import expr as name %}`.
 #[derive(Drop)]
 pub struct Import<'s, V: TemplateValue = Value> {
     pub expr: Expr<'s, V>,
     pub name: Expr<'s, V>,
 }
 
-/// Names that another template stores, each with the name that it has here, if that is another: `{% from expr import names %}`.
+/// Names that are imported from a template, each with its alias, if it has one:
+/// `{% from expr import names %}`.
 #[derive(Drop)]
 pub struct FromImport<'s, V: TemplateValue = Value> {
     pub expr: Expr<'s, V>,
@@ -245,7 +249,7 @@ pub struct Macro<'s, V: TemplateValue = Value> {
     pub body: Vec<Stmt<'s, V>>,
 }
 
-/// The output of a call that takes a macro along: `{% call(args) call %}`.
+/// The output of a call to which a macro is passed: `{% call(args) call %}`.
 #[cycle(stmt)]
 #[derive(Drop)]
 pub struct CallBlock<'s, V: TemplateValue = Value> {
@@ -253,16 +257,16 @@ pub struct CallBlock<'s, V: TemplateValue = Value> {
     pub macro_decl: Spanned<Macro<'s, V>>,
 }
 
-/// A call whose answer is dropped: `{% do call %}`.
+/// A call whose result is dropped: `{% do call %}`.
 #[derive(Drop)]
 pub struct Do<'s, V: TemplateValue = Value> {
     pub call: Spanned<Call<'s, V>>,
 }
 
-/// On to the loop's next item: `{% continue %}`.
+/// Goes on to the loop's next item: `{% continue %}`.
 #[derive(Drop)]
 pub struct Continue;
 
-/// Out of the loop: `{% break %}`.
+/// Leaves the loop: `{% break %}`.
 #[derive(Drop)]
 pub struct Break;

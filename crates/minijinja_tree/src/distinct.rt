@@ -1,23 +1,25 @@
-//! Whether no two blocks have one name.
+//! Tests that no two blocks of a tree have the same name.
 ghost use Rattle.std.specs.Prelude.{◌≡◌, ◌<◌, ◌≤◌, ◌&&◌, bytes_eq, count_by, map, min};
 ghost use Rattle.minijinja_tree.specs.Erasure.{stmt_tree};
 ghost use Rattle.minijinja_tree.specs.Tree.{all_block_names, block_names, stmts_of};
-ghost use Rattle.minijinja_tree.specs.private.BlockNames as names;
-ghost use Rattle.minijinja_tree.specs.private.Sizes.{body_size, stmt_size};
-ghost use Rattle.minijinja_tree.specs.private.WellFormedTests as tests;
+ghost use Rattle.minijinja_tree.specs.internal.BlockNames as names;
+ghost use Rattle.minijinja_tree.specs.internal.Sizes.{body_size, stmt_size};
+ghost use Rattle.minijinja_tree.specs.internal.WellFormedTests as tests;
 
 use crate::ast::Stmt;
 use crate::well_formed::otherwise;
-use minijinja_base::value::TemplateValue;
+use minijinja_value::value::TemplateValue;
 
-/// Whether no two blocks have one name. It takes no memory: each name is counted in the whole tree.
+/// Whether no two blocks have the same name. It allocates nothing: it counts each name in the whole
+/// tree.
 pub(crate) fn has_distinct_blocks<V: TemplateValue>(root: &Stmt<'_, V>) -> bool
     ensures { result ≡ tests.are_distinct (block_names (stmt_tree V.contents root.now)) }
 {
     is_named_once(root, root)
 }
 
-/// Whether the name of each block within a statement stands once in the root. Goes down false bodies in a loop.
+/// Whether the name of each block within a statement occurs once in the root. Goes down false
+/// bodies in a loop.
 #[cycle(named)]
 fn is_named_once<'s, V: TemplateValue>(stmt: &Stmt<'s, V>, root: &Stmt<'s, V>) -> bool
     ensures { result ≡ tests.are_single (block_names (stmt_tree V.contents stmt.now))
@@ -33,7 +35,7 @@ fn is_named_once<'s, V: TemplateValue>(stmt: &Stmt<'s, V>, root: &Stmt<'s, V>) -
     true
 }
 
-/// All but the only statement of a false body.
+/// Whether each name occurs once in the root, except those of the only statement of a false body.
 #[cycle(named)]
 fn is_named_once_beside<'s, V: TemplateValue>(stmt: &Stmt<'s, V>, root: &Stmt<'s, V>) -> bool
     ensures { result ≡ (tests.are_single (names.own (stmt_tree V.contents stmt.now))
@@ -71,7 +73,7 @@ fn are_named_once<'s, V: TemplateValue>(stmts: &[Stmt<'s, V>], root: &Stmt<'s, V
     true
 }
 
-/// Whether the statement's own name, if it is a block, stands once in the root.
+/// Whether the statement's own name, if it is a block, occurs once in the root.
 fn is_single<'s, V: TemplateValue>(stmt: &Stmt<'s, V>, root: &Stmt<'s, V>) -> bool
     ensures { result ≡ tests.are_single (names.own (stmt_tree V.contents stmt.now))
         (block_names (stmt_tree V.contents root.now)) }
@@ -82,7 +84,7 @@ fn is_single<'s, V: TemplateValue>(stmt: &Stmt<'s, V>, root: &Stmt<'s, V>) -> bo
     }
 }
 
-/// How many blocks of that name there are, at most `usize::MAX`. Goes down false bodies in a loop.
+/// The number of blocks of a name, at most `usize::MAX`. Goes down false bodies in a loop.
 #[cycle(counted)]
 fn times<V: TemplateValue>(stmt: &Stmt<'_, V>, name: &str) -> usize
     ensures { result ≡ min (count_by (bytes_eq name.now)
@@ -97,7 +99,7 @@ fn times<V: TemplateValue>(stmt: &Stmt<'_, V>, name: &str) -> usize
     count
 }
 
-/// All but the only statement of a false body.
+/// The number of blocks of a name, except those in the only statement of a false body.
 #[cycle(counted)]
 fn times_beside<V: TemplateValue>(stmt: &Stmt<'_, V>, name: &str) -> usize
     ensures { result ≡ min (count_by (bytes_eq name.now)
@@ -120,7 +122,7 @@ fn all_times<V: TemplateValue>(stmts: &[Stmt<'_, V>], name: &str) -> usize
     count
 }
 
-/// One if the statement is a block of that name.
+/// One if the statement is a block of that name, and otherwise zero.
 fn own_times<V: TemplateValue>(stmt: &Stmt<'_, V>, name: &str) -> usize
     ensures { result ≡ count_by (bytes_eq name.now) (names.own (stmt_tree V.contents stmt.now)) }
 {
@@ -160,7 +162,7 @@ fn first_body<'a, 's, V: TemplateValue>(stmt: &'a Stmt<'s, V>) -> &'a [Stmt<'s, 
     }
 }
 
-/// The second body of a statement, but for a false body that holds one statement.
+/// The second body of a statement, except a false body that holds one statement.
 fn second_body<'a, 's, V: TemplateValue>(stmt: &'a Stmt<'s, V>) -> &'a [Stmt<'s, V>]
     ensures body { stmts_of (map (stmt_tree V.contents) result.now) ≡ names.second_body
         (stmt_tree V.contents stmt.now) }
@@ -173,7 +175,7 @@ fn second_body<'a, 's, V: TemplateValue>(stmt: &'a Stmt<'s, V>) -> &'a [Stmt<'s,
     }
 }
 
-/// The statements, if there is not one alone.
+/// The statements, unless there is exactly one.
 fn unless_alone<'a, 's, V: TemplateValue>(stmts: &'a [Stmt<'s, V>]) -> &'a [Stmt<'s, V>]
     ensures body { stmts_of (map (stmt_tree V.contents) result.now) ≡ names.many
         (stmts_of (map (stmt_tree V.contents) stmts.now)) }

@@ -1,4 +1,4 @@
-//! The tree of a template.
+//! The tree of a template: the nodes of its statements, and which trees are well formed.
 #![tactic(auto)]
 
 pub mod ast;
@@ -6,4 +6,4 @@ mod distinct;
 pub mod nodes;
 pub mod well_formed;
 
-pub use minijinja_expressions::{constants, fold};
+pub use minijinja_tree_expr::{constants, fold};

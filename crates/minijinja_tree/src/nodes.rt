@@ -1,4 +1,4 @@
-//! The nodes of statements, each on the heap. Refused memory is the only error.
+//! Makes the nodes of statements, each on the heap. Refused memory is the only error.
 ghost use Rattle.std.specs.Prelude.{◌≡◌, codes, map, IfOk};
 ghost use Rattle.std.specs.List.{filter_map};
 ghost use Rattle.minijinja_tree.specs.Nodes.{node_of, span_of};
@@ -11,9 +11,9 @@ use crate::ast::{
     FilterBlock, ForLoop, FromImport, IfCond, Import, Include, Macro, Set, SetBlock, Spanned, Stmt,
     Template, WithBlock,
 };
-use minijinja_base::tokens::Span;
-use minijinja_base::value::TemplateValue;
-use minijinja_expressions::nodes::spanned;
+use minijinja_syntax::tokens::Span;
+use minijinja_tree_expr::nodes::spanned;
+use minijinja_value::value::TemplateValue;
 use std::alloc::{AllocError, Global};
 
 /// The name of the macro of a call block.
@@ -54,7 +54,7 @@ pub fn assignment<'s, V: TemplateValue>(
     Ok(Stmt::Set(spanned(alloc, set, span)?))
 }
 
-/// A template of these statements.
+/// A template.
 pub fn template<'s, V: TemplateValue>(
     alloc: Global,
     children: Vec<Stmt<'s, V>>,
@@ -115,7 +115,7 @@ pub fn if_cond<'s, V: TemplateValue>(
     Ok(Stmt::IfCond(spanned(alloc, node, span)?))
 }
 
-/// A scope with these assignments.
+/// A scope with assignments.
 pub fn with_block<'s, V: TemplateValue>(
     alloc: Global,
     assignments: Vec<(Expr<'s, V>, Expr<'s, V>)>,
@@ -129,7 +129,7 @@ pub fn with_block<'s, V: TemplateValue>(
     Ok(Stmt::WithBlock(spanned(alloc, WithBlock { assignments, body }, span)?))
 }
 
-/// An assignment of what a body writes.
+/// An assignment of the output of a body.
 pub fn set_block<'s, V: TemplateValue>(
     alloc: Global,
     target: Expr<'s, V>,
@@ -163,7 +163,7 @@ pub fn auto_escape<'s, V: TemplateValue>(
     Ok(Stmt::AutoEscape(spanned(alloc, AutoEscape { enabled, body }, span)?))
 }
 
-/// Filters over what a body writes.
+/// Filters on the output of a body.
 pub fn filter_block<'s, V: TemplateValue>(
     alloc: Global,
     filter: Expr<'s, V>,
@@ -177,7 +177,7 @@ pub fn filter_block<'s, V: TemplateValue>(
     Ok(Stmt::FilterBlock(spanned(alloc, FilterBlock { filter, body }, span)?))
 }
 
-/// A block, which is to be overridden where it is required.
+/// A block, which another template has to override where it is required.
 pub fn named_block<'s, V: TemplateValue>(
     alloc: Global,
     name: &'s str,
@@ -196,7 +196,7 @@ pub fn named_block<'s, V: TemplateValue>(
     Ok(Stmt::Block(spanned(alloc, node, span)?))
 }
 
-/// The template whose blocks are overridden.
+/// The template whose blocks this one overrides.
 pub fn extends<'s, V: TemplateValue>(
     alloc: Global,
     name: Expr<'s, V>,
@@ -208,7 +208,7 @@ pub fn extends<'s, V: TemplateValue>(
     Ok(Stmt::Extends(spanned(alloc, Extends { name }, span)?))
 }
 
-/// Another template in this one's place.
+/// A template that is included.
 pub fn include<'s, V: TemplateValue>(
     alloc: Global,
     name: Expr<'s, V>,
@@ -225,7 +225,7 @@ pub fn include<'s, V: TemplateValue>(
     Ok(Stmt::Include(spanned(alloc, node, span)?))
 }
 
-/// All that another template stores.
+/// A template whose exports are stored to a target.
 pub fn import_all<'s, V: TemplateValue>(
     alloc: Global,
     import: Import<'s, V>,
@@ -237,7 +237,7 @@ pub fn import_all<'s, V: TemplateValue>(
     Ok(Stmt::Import(spanned(alloc, import, span)?))
 }
 
-/// Names that another template stores.
+/// Names that are imported from a template.
 pub fn from_import<'s, V: TemplateValue>(
     alloc: Global,
     import: FromImport<'s, V>,
@@ -250,7 +250,7 @@ pub fn from_import<'s, V: TemplateValue>(
     Ok(Stmt::FromImport(spanned(alloc, import, span)?))
 }
 
-/// A macro of these arguments, each with its default.
+/// A macro, with its arguments and their defaults.
 fn macro_node<'s, V: TemplateValue>(
     alloc: Global,
     name: &'s str,
@@ -279,7 +279,7 @@ fn macro_node<'s, V: TemplateValue>(
     })
 }
 
-/// A macro of that name.
+/// The declaration of a macro.
 pub fn declared<'s, V: TemplateValue>(
     alloc: Global,
     name: &'s str,
@@ -295,7 +295,7 @@ pub fn declared<'s, V: TemplateValue>(
     Ok(Stmt::Macro(spanned(alloc, node, span)?))
 }
 
-/// The output of a call that takes a macro along, which stands where the statement does.
+/// The output of a call to which a macro is passed. The macro has the span of the statement.
 pub fn call_block<'s, V: TemplateValue>(
     alloc: Global,
     call: Spanned<Call<'s, V>>,
@@ -314,7 +314,7 @@ pub fn call_block<'s, V: TemplateValue>(
     Ok(Stmt::CallBlock(spanned(alloc, CallBlock { call, macro_decl }, span)?))
 }
 
-/// A call whose answer is dropped.
+/// A call whose result is dropped.
 pub fn do_call<'s, V: TemplateValue>(
     alloc: Global,
     call: Spanned<Call<'s, V>>,

@@ -1,26 +1,28 @@
-//! Which trees code is made of.
+//! Tests that a tree is well formed, so that code can be generated from it.
 ghost use Rattle.std.specs.Prelude.{◌≡◌, ◌↔◌, ◌<◌, ◌&&◌, IfSome, IsTrue, map, option_map, true};
 ghost use Rattle.minijinja_tree.specs.Erasure.{expr_tree, optional_of, macro_tree, stmt_tree};
 ghost use Rattle.minijinja_tree.specs.Tree.{stmts_of};
 ghost use Rattle.minijinja_tree.specs.WellFormed.{IsWellFormed};
-ghost use Rattle.minijinja_tree.specs.private.Sizes.{stmt_size};
-ghost use Rattle.minijinja_tree.specs.private.WellFormedTests as tests;
-ghost use Rattle.minijinja_tree.specs.private.WellFormedTests.{only_item};
+ghost use Rattle.minijinja_tree.specs.internal.Sizes.{stmt_size};
+ghost use Rattle.minijinja_tree.specs.internal.WellFormedTests as tests;
+ghost use Rattle.minijinja_tree.specs.internal.WellFormedTests.{only_item};
 
 use crate::ast::{ForLoop, IfCond, Macro, Stmt};
 use crate::distinct::has_distinct_blocks;
-use minijinja_base::value::TemplateValue;
-use minijinja_expressions::well_formed::{
+use minijinja_tree_expr::well_formed::{
     are_assignments, are_names, are_variables, have_arguments, is_call, is_chain_if_any,
     is_chain_of_filters, is_target, is_whole, is_whole_if_any,
 };
+use minijinja_value::value::TemplateValue;
 
 impl<'s, V: TemplateValue> Stmt<'s, V> {
-    /// Whether no template stands within it, its targets are variables, attributes or lists of targets, `break` and `continue`
-    /// stand only in a loop's body, the filter of a set or filter block is a chain of filters whose innermost has no operand,
-    /// the arguments of macros are variables and not fewer than the defaults, names that are taken from a template and their
-    /// aliases are variables, no block stands in a macro, no two blocks have one name, and its other expressions are well
-    /// formed. It looks for each block's name among the blocks after it, without memory.
+    /// Whether no template stands within it, its targets are variables, attributes or lists of
+    /// targets, `break` and `continue` stand only in a loop's body, the filter of a set or filter
+    /// block is a chain of filters whose innermost has no operand, the arguments of macros are
+    /// variables and not fewer than the defaults, names that are imported from a template and their
+    /// aliases are variables, no block stands in a macro, no two blocks have the same name, and its
+    /// other expressions are well formed. It allocates nothing: it counts each block's name among
+    /// all blocks.
     pub fn is_well_formed(&self) -> bool
         ensures { IsTrue result ↔ IsWellFormed (stmt_tree V.contents self.now) }
     {
@@ -56,7 +58,8 @@ fn are_inner<V: TemplateValue>(stmts: &[Stmt<'_, V>], in_loop: bool, in_macro: b
     true
 }
 
-/// Goes down false bodies in a loop, so that a row of `elif` takes no more stack than one of them.
+/// Whether a statement is well formed where it stands. Goes down false bodies in a loop, so that a
+/// row of `elif` takes no more stack than one of them.
 #[cycle(inner)]
 fn is_inner<V: TemplateValue>(stmt: &Stmt<'_, V>, in_loop: bool, in_macro: bool) -> bool
     ensures { result ≡ tests.is_inner in_loop in_macro (stmt_tree V.contents stmt.now) }
@@ -71,7 +74,7 @@ fn is_inner<V: TemplateValue>(stmt: &Stmt<'_, V>, in_loop: bool, in_macro: bool)
     true
 }
 
-/// The only statement of a false body: rows of `elif` nest in it without a bound.
+/// The only statement of a false body, in which rows of `elif` nest without a bound.
 pub fn otherwise<'a, 's, V: TemplateValue>(stmt: &'a Stmt<'s, V>) -> Option<&'a Stmt<'s, V>>
     ensures part { option_map (λ s. stmt_tree V.contents s.now) result ≡ tests.otherwise
         (stmt_tree V.contents stmt.now) }
@@ -83,7 +86,7 @@ pub fn otherwise<'a, 's, V: TemplateValue>(stmt: &'a Stmt<'s, V>) -> Option<&'a 
     }
 }
 
-/// The statement, if there is one alone.
+/// The statement, if there is exactly one.
 pub fn only<'a, 's, V: TemplateValue>(stmts: &'a [Stmt<'s, V>]) -> Option<&'a Stmt<'s, V>>
     ensures { option_map (λ s. s.now) result ≡ only_item stmts.now }
 {
@@ -93,7 +96,7 @@ pub fn only<'a, 's, V: TemplateValue>(stmts: &'a [Stmt<'s, V>]) -> Option<&'a St
     }
 }
 
-/// Whether all but that statement is well formed.
+/// Whether a statement is well formed, except the only statement of a false body.
 #[cycle(inner)]
 fn is_inner_beside<V: TemplateValue>(stmt: &Stmt<'_, V>, in_loop: bool, in_macro: bool) -> bool
     ensures { result ≡ (tests.is_headed in_loop in_macro (stmt_tree V.contents stmt.now)
@@ -102,7 +105,7 @@ fn is_inner_beside<V: TemplateValue>(stmt: &Stmt<'_, V>, in_loop: bool, in_macro
     is_headed(stmt, in_loop, in_macro) && has_bodies(stmt, in_loop, in_macro)
 }
 
-/// Whether the bodies are well formed, but for the only statement of a false body.
+/// Whether the bodies are well formed, except the only statement of a false body.
 #[cycle(inner)]
 fn has_bodies<V: TemplateValue>(stmt: &Stmt<'_, V>, in_loop: bool, in_macro: bool) -> bool
     ensures { result ≡ tests.has_bodies in_loop in_macro (stmt_tree V.contents stmt.now) }
@@ -128,7 +131,7 @@ fn has_macro_body<V: TemplateValue>(declared: &Macro<'_, V>) -> bool
     are_inner(&declared.body, false, true)
 }
 
-/// A loop's else body does not belong to it.
+/// Whether the bodies of a loop are well formed. The else body does not stand in the loop.
 #[cycle(inner)]
 fn has_loop_bodies<V: TemplateValue>(
     repeated: &ForLoop<'_, V>,
@@ -166,7 +169,7 @@ fn are_inner_but_one<V: TemplateValue>(stmts: &[Stmt<'_, V>], in_loop: bool, in_
     }
 }
 
-/// Whether a statement is well formed but for its bodies.
+/// Whether a statement is well formed, except its bodies.
 fn is_headed<V: TemplateValue>(stmt: &Stmt<'_, V>, in_loop: bool, in_macro: bool) -> bool
     ensures { result ≡ tests.is_headed in_loop in_macro (stmt_tree V.contents stmt.now) }
 {
@@ -209,7 +212,8 @@ fn is_headed<V: TemplateValue>(stmt: &Stmt<'_, V>, in_loop: bool, in_macro: bool
     }
 }
 
-/// Whether the arguments of a macro are variables, its defaults well formed, and no more than the arguments.
+/// Whether the arguments of a macro are variables, and its defaults are well formed and no more
+/// than the arguments.
 fn is_macro_headed<V: TemplateValue>(declared: &Macro<'_, V>) -> bool
     ensures { result ≡ tests.is_macro_headed (macro_tree V.contents declared.now) }
 {

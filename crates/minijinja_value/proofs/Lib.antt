@@ -1,3 +1,4 @@
+-- The lemmas about values.
 mod Quotes
 mod Printing
 pub mod MapViews

@@ -19,7 +19,7 @@ abbrev AllTurn : Pairs → Type 0
 AllTurn no_pairs = Unit {0}
 AllTurn (pair k v ps) = Turns k × Turns v × AllTurn ps
 
--- the pairs but for the first that passes both tests
+-- the pairs without the first that passes both tests
 abbrev without : (Contents → Bool) → (Contents → Bool) → Pairs → Pairs
 without f g no_pairs = no_pairs
 without f g (pair k v ps) = if f k && g v then ps else pair k v (without f g ps)

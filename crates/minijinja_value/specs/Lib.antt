@@ -1,3 +1,4 @@
+-- The definitions of values that contracts cite.
 pub mod Values
 pub mod Integers
 pub mod Outcomes

@@ -1,15 +1,16 @@
--- What an operator answers, seen on contents.
+-- What an operator returns, seen on contents.
 use Rattle.std.specs.Prelude.{◌≡◌, Result, Ok, Err, List, map}
 use Rattle.minijinja_value.specs.declared.value.OpError.{OpError}
 use Rattle.minijinja_value.specs.declared.value.OpError.TheVariants.{OutOfMemory, Fault}
 
--- unless memory was refused, the answer is the outcome, its value and its fault seen as what they hold
+-- unless memory was refused, the result is the outcome, its value and its fault seen as what they
+-- hold
 abbrev pub IsOutcome : {A F C G : Type 0} → (A → C) → (F → G) → Result C G → Result A (OpError F) → Type 0
 IsOutcome value fault outcome (Ok a) = outcome ≡ Ok (value a)
 IsOutcome value fault outcome (Err (Fault f)) = outcome ≡ Err (fault f)
 IsOutcome value fault outcome (Err OutOfMemory) = Unit {0}
 
--- the answer is not that memory was refused
+-- the result is not that memory was refused
 abbrev pub IsNotOutOfMemory : {A F : Type 0} → Result A (OpError F) → Type 0
 IsNotOutOfMemory (Ok a) = Unit {0}
 IsNotOutOfMemory (Err (Fault f)) = Unit {0}

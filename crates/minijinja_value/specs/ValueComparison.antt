@@ -23,7 +23,8 @@ abbrev pub has_pair : (Contents → Bool) → (Contents → Bool) → Pairs → 
 has_pair is_key is_value no_pairs = false
 has_pair is_key is_value (pair k v ps) = (is_key k && is_value v) || has_pair is_key is_value ps
 
--- values of one kind that hold equal things; both undefined are equal, and the pairs of maps stand in any order
+-- values of one kind that hold equal things; both undefined are equal, and the pairs of maps stand
+-- in any order
 abbrev mutual
   pub equals : Contents → Contents → Bool
   equals undefined c = is_undefined c
@@ -49,7 +50,7 @@ abbrev mutual
   are_pairs_in no_pairs qs = true
   are_pairs_in (pair k v ps) qs = has_pair (equals k) (equals v) qs && are_pairs_in ps qs
 
--- equal whichever stands first, which is the same where no map has two equal keys
+-- equal both ways round: where no map has two equal keys, one way decides
 abbrev pub equals_both_ways : Contents → Contents → Bool
 equals_both_ways a b = equals a b && equals b a
 

@@ -1,4 +1,4 @@
--- What the calls of `Value` answer.
+-- What the calls of `Value` return.
 use Rattle.std.specs.Prelude.{ℕ, nat_eq, Bool, true, false, not, ◌==◌, ◌||◌, ℤ, pos, negsuc, neg_ℤ, ◌+ℤ◌, ◌-ℤ◌, ◌*ℤ◌, length, List, [], ◌∷◌, ◌++◌, fold, Option, Some, None, Result, Ok, Err, if◌then◌else◌}
 use Rattle.std.specs.Int.{int_div_euclid, int_rem_euclid, int_pow}
 use Rattle.std.specs.List.{starts_with}
@@ -7,7 +7,7 @@ use Rattle.minijinja_value.specs.Values.{Functions}
 use Rattle.minijinja_value.specs.Integers.{in_range, is_zero, count_in}
 use Rattle.minijinja_value.specs.ValueContents.{Contents, undefined, silent_undefined, none, truth, integer, text, list, tuple, mapping, keywords, no_items, item, Pairs, no_pairs, pair, items_of}
 use Rattle.minijinja_value.specs.ValueComparison.{is_undefined, equals, order, has_item, has_key}
-use Rattle.minijinja_value.specs.ValueWords.{joined_words}
+use Rattle.minijinja_value.specs.ValueWords.{rendered}
 use Rattle.minijinja_value.specs.declared.value.ValueFault.{ValueFault}
 use Rattle.minijinja_value.specs.declared.value.ValueFault.TheVariants.{WrongType, DivisionByZero, Overflow}
 
@@ -56,9 +56,9 @@ contains (mapping ps) c = Ok (has_key c ps)
 contains (keywords ps) c = Ok (has_key c ps)
 contains _ _ = Err WrongType
 
--- the texts of two values, joined
+-- what a template prints for two values, joined
 abbrev pub concat : Contents → Contents → Contents
-concat a b = text (joined_words a ++ joined_words b)
+concat a b = text (rendered a ++ rendered b)
 
 -- the integer that a value is, if it is one
 abbrev pub as_integer : Contents → Option ℤ

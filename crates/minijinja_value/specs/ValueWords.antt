@@ -1,4 +1,4 @@
--- The printed form of a value.
+-- The printed form of a value, and what a template prints for it.
 use Rattle.std.specs.Prelude.{true, false, codes, List, [], ◌∷◌, ◌++◌}
 use Rattle.std.specs.Fmt.{signed_decimal}
 use Rattle.std.specs.List.{flat_map}
@@ -17,7 +17,8 @@ tuple_words [] = codes "()"
 tuple_words (t ∷ []) = codes "(" ++ t ++ codes ",)"
 tuple_words ts = codes "(" ++ joined ts ++ codes ")"
 
--- undefined is `undefined` or `silent`, a text stands between quotes, and a map of keywords begins with `kwargs`
+-- undefined is `undefined` or `silent`, a text stands between quotes, and a map of keywords begins
+-- with `kwargs`
 abbrev mutual
   pub words : Contents → Text
   words undefined = codes "undefined"
@@ -41,9 +42,10 @@ abbrev mutual
   pair_words no_pairs = []
   pair_words (pair k v ps) = (words k ++ codes ": " ++ words v) ∷ pair_words ps
 
--- what a value stands for in a joined text: a text for itself, undefined for nothing, and any other as it is printed
-abbrev pub joined_words : Contents → Text
-joined_words (text t) = t
-joined_words undefined = []
-joined_words silent_undefined = []
-joined_words c = words c
+-- what a template prints for a value, and what `~` joins: a text as it is, both undefined as
+-- nothing, and any other value as its words
+abbrev pub rendered : Contents → Text
+rendered (text t) = t
+rendered undefined = []
+rendered silent_undefined = []
+rendered c = words c

@@ -3,7 +3,7 @@ use Rattle.std.specs.Prelude.{ℕ, Bool, List, Option, Result}
 use Rattle.std.specs.declared.cmp.Ordering.{Ordering}
 use Rattle.minijinja_syntax.specs.Texts.{Text}
 
--- the functions of a value type on contents; operators may answer a fault
+-- the functions of a value type on contents; operators may return a fault
 pub record Functions (Contents FaultContents : Type 0) : Type 0 where
   pub none : Contents
   pub silent_undefined : Contents

@@ -1,4 +1,4 @@
-//! Laws of the definitions.
+//! Laws of the definitions of values: maps have distinct keys, and equality is an equivalence.
 ghost use Rattle.std.specs.Prelude.{◌≡◌, List, true};
 ghost use Rattle.minijinja_value.specs.ValueContents.{Contents, Pairs};
 ghost use Rattle.minijinja_value.specs.ValueComparison.{equals};

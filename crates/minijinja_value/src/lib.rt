@@ -1,4 +1,4 @@
-//! The values that templates hold.
+//! Template values, and the laws of their definitions.
 #![tactic(auto)]
 
 pub mod laws;

@@ -1,12 +1,15 @@
-//! The values that templates hold, and what the compiler needs of them.
-ghost use Rattle.std.specs.Prelude.{◌≡◌, ℕ, ◌+◌, ◌<◌, ◌^◌, ◌↔◌, Bool, IsTrue, IfOk, OnOk, OnErr, Some, Ok, map, option_map};
+//! The values that templates hold, and the trait of what the compiler needs of a value type.
+ghost use Rattle.std.specs.Prelude.{◌≡◌, ℕ, ◌+◌, ◌<◌, ◌^◌, ◌↔◌, Bool, IsTrue, IfOk, OnOk, OnErr, Some, Ok, length, map, option_map};
 ghost use Rattle.std.specs.Option.{option_copied};
+ghost use Rattle.std.specs.Slice.Iter.{iter_rest};
+ghost use Rattle.std.specs.Iterator.Adapters.{IterYieldsInOrder};
 ghost use Rattle.minijinja_value.specs.Values.{Functions};
 ghost use Rattle.minijinja_value.specs.Outcomes.{IsOutcome, IsNotOutOfMemory, map_pairs};
-ghost use Rattle.minijinja_value.specs.ValueContents.{Contents, no_pairs};
+ghost use Rattle.minijinja_value.specs.ValueContents.{Contents, no_pairs, text};
 ghost use Rattle.minijinja_value.specs.ValueComparison.{pair_count, value_for};
 ghost use Rattle.minijinja_value.specs.ValueFunctions.{value_functions, put, built};
 ghost use Rattle.minijinja_value.specs.ValueViews.{contents_of, pairs_view, map_view};
+ghost use Rattle.minijinja_value.specs.declared.value.Value.{Value};
 ghost use Rattle.minijinja_value.specs.declared.value.ValueFault.{ValueFault};
 ghost use Rattle.std.proofs.Common.{rules};
 
@@ -18,17 +21,19 @@ mod print;
 pub mod text;
 
 pub use crate::value::integer::Integer;
-pub use crate::value::print::Quoted;
+pub use crate::value::print::{Quoted, Rendered};
 pub use crate::value::text::Text;
 use std::alloc::{AllocError, AllocFailed, Global};
 use std::cmp::Ordering;
 use std::mem::size_of;
+use std::slice;
 
-/// A value type of templates. Each answer is a function of the contents of the values that it is asked of, so that values
-/// of equal contents are interchangeable in every call. Where memory is refused, a call answers [`AllocError`] or
-/// [`OpError::OutOfMemory`], and where an operator has no answer for its operands, [`OpError::Fault`].
+/// A value type of templates. Each result is a function of the contents of the arguments, so values
+/// of equal contents are interchangeable in every call. Where memory is refused, a call returns
+/// [`AllocError`] or [`OpError::OutOfMemory`], and where an operator has no result for its
+/// operands, [`OpError::Fault`].
 pub trait TemplateValue: Sized + Drop {
-    /// Why an operator has no answer.
+    /// Why an operator has no result.
     type Fault: Drop;
 
     // What a value holds, and what a fault says.
@@ -46,7 +51,7 @@ pub trait TemplateValue: Sized + Drop {
     fn none() -> Self
         ensures { contents result ≡ functions.none };
 
-    /// What an if expression gives that has no else part and whose test fails.
+    /// The value of an if expression without an else part whose test fails.
     fn silent_undefined() -> Self
         ensures { contents result ≡ functions.silent_undefined };
 
@@ -107,7 +112,7 @@ pub trait TemplateValue: Sized + Drop {
     fn order(&self, other: &Self) -> Option<Ordering>
         ensures { result ≡ functions.order (contents self.now) (contents other.now) };
 
-    /// The texts of two values, joined, in the first one's memory where it has some.
+    /// The texts of two values joined, in the memory of the first where it has some.
     fn concat(self, alloc: Global, other: &Self) -> Result<Self, AllocError>
         ensures { IfOk result
             (λ v. contents v ≡ functions.concat (contents self) (contents other.now)) };
@@ -168,11 +173,11 @@ pub trait TemplateValue: Sized + Drop {
 pub enum OpError<F> {
     /// Memory was refused.
     OutOfMemory,
-    /// The operands have no answer.
+    /// The operator has no result for its operands.
     Fault(F),
 }
 
-/// Refused memory is no fault.
+/// Refused memory is [`OpError::OutOfMemory`].
 impl<F> From<AllocError> for OpError<F> {
     ghost use Rattle.std.specs.Prelude.{◌≡◌};
     ghost use Rattle.minijinja_value.specs.declared.value.OpError.TheVariants.{OutOfMemory};
@@ -195,7 +200,7 @@ impl<F, T: Drop> From<AllocFailed<T>> for OpError<F> {
     }
 }
 
-/// Why an operator of [`Value`] has no answer.
+/// Why an operator of [`Value`] has no result.
 #[derive(Clone, Copy, Debug, PartialEq, Eq)]
 pub enum ValueFault {
     /// An operand of a kind that the operator does not take.
@@ -211,7 +216,7 @@ pub enum ValueFault {
 #[derive(Debug, Drop)]
 pub enum Value {
     Undefined,
-    /// What an if expression gives that has no else part and whose test fails.
+    /// The value of an if expression without an else part whose test fails.
     SilentUndefined,
     None,
     Bool(bool),
@@ -224,11 +229,11 @@ pub enum Value {
     Kwargs(ValueMap),
 }
 
-// A value is no larger than an integer makes it, with its kind before it: short texts have room in that.
+// A value is no larger than an integer with the value's kind before it: short texts fit in that.
 const _: () = prove!(size_of::<Value>() == 16 + size_of::<Integer>());
 
-/// As [`TemplateValue::equals`] says, which is asked both ways round: so `==` is an equivalence even of values with maps whose
-/// keys are not known to be distinct.
+/// [`TemplateValue::equals`], tried both ways round: so `==` is an equivalence even for values with
+/// maps whose keys are not known to be distinct.
 impl PartialEq for Value {
     ghost use Rattle.minijinja_value.specs.ValueComparison.{equals_both_ways};
     ghost use Rattle.minijinja_value.specs.ValueViews.{contents_of};
@@ -249,15 +254,16 @@ impl Eq for Value {
     ghost laws = { equal_values-equivalence };
 }
 
-/// Keys, each with its value, in the order in which the keys were put first.
+/// Keys, each with its value, in the order in which the keys were first inserted.
 ///
-/// No two keys are equal, by [`TemplateValue::equals`]: a map is made by [`ValueMap::new`], [`ValueMap::from_pairs`],
-/// [`ValueMap::insert`] and copying alone, and `laws::keys_are_distinct` says of what the first three put that its keys are
-/// distinct. The privacy of the pairs holds it so; no contract can assume it of a map that comes in.
+/// No two keys are equal by [`TemplateValue::equals`]: a map is made only by [`ValueMap::new`],
+/// [`ValueMap::from_pairs`], [`ValueMap::insert`] and copying, and `laws::keys_are_distinct` says
+/// that what the first three make has distinct keys. The pairs are private, which keeps it so; no
+/// contract can assume it of a map that comes in.
 #[cycle(value)]
 #[derive(Debug, Drop)]
 pub struct ValueMap {
-    // Made by `put` alone, and by copies of what it made.
+    // Made only by `put`, and by copying what it made.
     pairs: Vec<(Value, Value)>,
 }
 
@@ -271,7 +277,8 @@ impl ValueMap {
         }
     }
 
-    /// The pairs put one after another: an equal key keeps its place and takes the new value.
+    /// A map of the pairs, inserted one after another: an equal key keeps its place and takes the
+    /// new value.
     pub fn from_pairs(alloc: Global, pairs: Vec<(Value, Value)>) -> Result<ValueMap, AllocError>
         ensures { IfOk result (λ m. map_view m ≡ built (map_pairs contents_of pairs.items)) }
     {
@@ -280,8 +287,8 @@ impl ValueMap {
         })
     }
 
-    /// Puts a value for a key. An equal key keeps its place and takes the new value. Where memory is refused, the map stays
-    /// as it was.
+    /// Inserts a value for a key. An equal key keeps its place and takes the new value. Where
+    /// memory is refused, the map is unchanged.
     pub fn insert(&mut self, key: Value, value: Value) -> Result<(), AllocError>
         ensures ok { OnOk result
             (map_view self.new ≡ put (contents_of key) (contents_of value) (map_view self.old)) }
@@ -296,6 +303,17 @@ impl ValueMap {
             (map_view self.now) }
     {
         match compare::position_of_key(&self.pairs, key) {
+            Some(at) => Some(&self.pairs[at].1),
+            None => None,
+        }
+    }
+
+    /// The value of the key that is this text.
+    pub fn get_str(&self, key: &str) -> Option<&Value>
+        ensures { option_map contents_of (option_copied result) ≡ value_for (text key.now)
+            (map_view self.now) }
+    {
+        match compare::position_of_text(&self.pairs, key) {
             Some(at) => Some(&self.pairs[at].1),
             None => None,
         }
@@ -320,6 +338,41 @@ impl ValueMap {
         ensures { pairs_view result.now ≡ map_view self.now }
     {
         &self.pairs
+    }
+
+    /// Goes over the keys, each with its value, in order.
+    pub fn iter(&self) -> slice::Iter<'_, (Value, Value)>
+        ensures pairs { pairs_view (iter_rest result) ≡ map_view self.now }
+        ensures bound { length (iter_rest result) < 2 ^ 64 }
+        ensures in_order { IterYieldsInOrder (Value × Value) }
+    {
+        self.pairs.iter()
+    }
+
+    /// Takes the pairs out, in order.
+    pub fn into_pairs(self) -> Vec<(Value, Value)>
+        ensures { pairs_view result.items ≡ map_view self }
+    {
+        self.pairs
+    }
+}
+
+impl<'m> IntoIterator for &'m ValueMap {
+    type Item = &'m (Value, Value);
+
+    type IntoIter = slice::Iter<'m, (Value, Value)>;
+
+    ghost use Rattle.std.specs.Prelude.{◌≡◌, ◌<◌, ◌^◌, length};
+    ghost use Rattle.std.specs.Slice.Iter.{iter_rest};
+    ghost use Rattle.std.specs.Iterator.Adapters.{IterYieldsInOrder};
+    ghost use Rattle.minijinja_value.specs.ValueViews.{pairs_view, map_view};
+    ghost use Rattle.minijinja_value.specs.declared.value.Value.{Value};
+
+    ghost into_iter_gives = { λ map it. (pairs_view (iter_rest it) ≡ map_view map.now)
+        × (length (iter_rest it) < 2 ^ 64) × IterYieldsInOrder (Value × Value) };
+
+    fn into_iter(self) -> Self::IntoIter {
+        self.iter()
     }
 }
 
@@ -400,7 +453,7 @@ impl TemplateValue for Value {
         build::copy(self)
     }
 
-    /// False are both undefined, `none`, `false`, `0` and what is empty.
+    /// False for both undefined, `none`, `false`, `0` and whatever is empty.
     fn is_true(&self) -> bool {
         match self {
             Value::Undefined | Value::SilentUndefined | Value::None => false,
@@ -424,17 +477,19 @@ impl TemplateValue for Value {
         }
     }
 
-    /// Equal are values of one kind that hold equal things, maps without regard to order, and both undefined.
+    /// Values of one kind are equal if they hold equal things, in maps in any order. Both undefined
+    /// are equal.
     fn equals(&self, other: &Value) -> bool {
         compare::equals(self, other)
     }
 
-    /// In order are two integers, two truth values, two texts by bytes, and two lists or two tuples item by item.
+    /// Two integers, two truth values, two texts, and two lists or two tuples have an order: texts
+    /// byte by byte, lists and tuples item by item.
     fn order(&self, other: &Value) -> Option<Ordering> {
         compare::order(self, other)
     }
 
-    /// Undefined stands as nothing, and a value that is no text as it is printed.
+    /// Joins what [`Rendered`] prints for them.
     fn concat(self, alloc: Global, other: &Value) -> Result<Value, AllocError> {
         operate::concat(self, alloc, other)
     }

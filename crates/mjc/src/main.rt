@@ -1,14 +1,14 @@
-//! The program `mjc`, which shows the tokens of a template, and what a template or an expression compiles to.
+//! The program `mjc`, which prints the tokens and the code of templates and of expressions.
 #![tactic(auto)]
 
 mod source;
 #[cfg(test)]
 mod tests;
 
-use minijinja_commands::fault::Fault;
-use minijinja_commands::file_named;
-use minijinja_commands::run::{refuse, run, status};
-use minijinja_commands::watched::Watched;
+use mjc_commands::failure::Failure;
+use mjc_commands::file_named;
+use mjc_commands::run::{refuse, run, status};
+use mjc_commands::watched::Watched;
 use source::Source;
 use std::env;
 use std::io::{self, BufWriter};
@@ -38,7 +38,7 @@ fn start(rt: &HostRuntime) -> io::Result<u8> {
 fn main(rt: HostRuntime) -> ExitCode {
     let status = match start(&rt) {
         Ok(status) => status,
-        Err(error) => refuse(&mut rt.stderr(), Fault::of_words(&error)),
+        Err(error) => refuse(&mut rt.stderr(), Failure::of_words(&error)),
     };
     ExitCode::from(status)
 }

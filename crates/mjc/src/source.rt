@@ -1,4 +1,4 @@
-//! Where the text of a template comes from.
+//! The file or the standard input that a template is read from.
 use std::fs::File;
 use std::io::{self, Read, Stdin};
 

@@ -1,6 +1,8 @@
-//! Runs of the program in memory: what is printed is proved by no clause, nor which of several faults comes first.
+//! Runs of the program in memory.
 //!
-//! The rows of a subject stand in one text, since a test is proved too, with each text that it names spelled out.
+//! They test what no contract says: what is printed, and which of several failures comes first.
+//! The rows of a subject stand in one text, since a test is proved too, with each text that it
+//! names spelled out.
 mod blocks;
 mod calls;
 mod expr;
@@ -12,8 +14,8 @@ mod statements;
 mod tokens;
 mod words;
 
-use minijinja_commands::run::{run, status};
-use minijinja_commands::watched::Watched;
+use mjc_commands::run::{run, status};
+use mjc_commands::watched::Watched;
 use std::alloc::{AllocError, Global};
 use std::io::{self, Read, Write};
 use std::process::Abort;
@@ -105,7 +107,8 @@ fn parted<'t>(text: &'t str, mark: &str) -> (&'t str, &'t str) {
     text.split_once(mark).unwrap_or((text, ""))
 }
 
-/// The text that a row writes, in which each symbol of a control character or a space is that character. `␀` is nothing.
+/// The text that a row writes, in which each symbol of a control character or a space is that
+/// character. `␀` is nothing.
 fn decoded(alloc: Global, written: &str) -> Result<String, AllocError> {
     written.chars().filter_map(character).collect(alloc)
 }
@@ -133,7 +136,8 @@ fn status_of_run<R: Read, W: Write, X: Write>(
     status(&run(alloc, args, &mut file, &mut io::empty(), &mut out, err))
 }
 
-/// What a run on a reader prints, and after it, where the status is not 0 or something is said, `! STATUS ` and what is said.
+/// What a run on a reader prints, and after it, where the status is not 0 or something is said, `!
+/// STATUS ` and what is said.
 fn output<R: Read>(alloc: Global, args: &[&str], file: &mut R) -> Result<String, Fail> {
     let (mut out, mut err) = (Vec::new(alloc), Vec::new(alloc));
     let status = status_of_run(alloc, args, file, &mut out, &mut err);
@@ -226,7 +230,8 @@ fn reads_to_the_end(rt: HostRuntime) -> Result<(), Fail> {
     Ok(())
 }
 
-/// Whether a run succeeds that can write so often. It says where it cannot, and what it wrote is the start of the output.
+/// Whether a run succeeds that can write so often. It says where it cannot, and what it wrote is
+/// the start of the output.
 fn succeeds(rt: &impl Abort, alloc: Global, writes: usize) -> bool {
     let (mut out, mut err) = (Short::new(alloc, writes), Vec::new(alloc));
     let file = &mut GREETING.as_bytes();

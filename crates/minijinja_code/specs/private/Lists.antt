@@ -1,4 +1,4 @@
--- The lists of blocks while they are being made.
+-- The lists of instructions of blocks, while they are being made.
 use Rattle.std.specs.Prelude.{Bool, true, false, List, [], ◌∷◌, map, reverse, if◌then◌else◌}
 use Rattle.std.specs.Borrow.{Bor}
 use Rattle.minijinja_tree.specs.Erasure.{stmt_tree}
@@ -57,6 +57,6 @@ abbrev pub from_nesting : {C L : Type 0} → Stmts C L → Stmts C L
 from_nesting done = done
 from_nesting (also s rest) = if is_nesting s then also s rest else from_nesting rest
 
--- rows of statements that wait, the next one first
+-- the rows of statements that are still to do, the next one first
 abbrev pub rows_of : {V F C : Type 0} → (V → C) → List (Bor (List (Stmt V F))) → List (Stmts C (Unit {0}))
 rows_of {V} {F} c rows = map (λ (r : Bor (List (Stmt V F))). stmts_of (map (stmt_tree c) r.now)) (reverse rows)

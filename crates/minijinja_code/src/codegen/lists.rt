@@ -1,4 +1,4 @@
-//! The lists of blocks.
+//! The lists of instructions of blocks.
 ghost use Rattle.std.specs.Prelude.{IsTrue, ◌≡◌, ◌≤◌, ◌^◌, ◌∷◌, [], ◌++◌, false, length, map, IfErr, IfOk, OnOk};
 ghost use Rattle.minijinja_tree.specs.Erasure.{stmt_tree};
 ghost use Rattle.minijinja_tree.specs.Tree.{blocks, stmts_of};
@@ -6,24 +6,24 @@ ghost use Rattle.minijinja_tree.specs.WellFormed.{AreInner, IsWellFormed};
 ghost use Rattle.minijinja_instructions.specs.Instructions.{instr_of};
 ghost use Rattle.minijinja_code.specs.BlockLists.{AddsLists};
 ghost use Rattle.minijinja_code.specs.Generator.{HaveTooLong};
-ghost use Rattle.minijinja_code.specs.declared.codegen.lists.Refusal.TheVariants.{TooMany};
+ghost use Rattle.minijinja_code.specs.declared.codegen.lists.ListError.TheVariants.{TooMany};
 ghost use Rattle.minijinja_code.specs.private.Lists.{block_tree, bodies_of, from_nesting, is_nesting, own_block, rows_of};
-ghost use Rattle.minijinja_statement_code.specs.private.Statements.{StandsSomewhere};
-ghost use Rattle.minijinja_expression_code.specs.private.Making.{capped};
-ghost use Rattle.minijinja_meaning.specs.Layout as layout;
+ghost use Rattle.minijinja_code.specs.private.Statements.{StandsSomewhere};
+ghost use Rattle.minijinja_code_expr.specs.internal.Making.{capped};
+ghost use Rattle.minijinja_semantics.specs.Layout as layout;
 
-use minijinja_base::value::TemplateValue;
-use minijinja_expression_code::emit::Emitter;
-use minijinja_expression_code::memory;
+use crate::stmt::statements;
+use minijinja_code_expr::emit::Emitter;
+use minijinja_code_expr::memory;
+use minijinja_code_parts::enclosing_loop::EnclosingLoop;
 use minijinja_instructions::instructions::{Instruction, Instructions};
 use minijinja_instructions::lists::{LIMIT, listed};
-use minijinja_statement_code::stmt::statements;
-use minijinja_statement_parts::turn::Turn;
 use minijinja_tree::ast::{Block, Stmt};
+use minijinja_value::value::TemplateValue;
 use std::alloc::{AllocError, AllocFailed, Global};
 use std::collections::BTreeMap;
 
-/// The lists of blocks, by the names of the blocks.
+/// The list of each block, under its name.
 pub(super) type Lists<'s, V> = BTreeMap<&'s str, Instructions<'s, V>>;
 
 /// The name and the text of a source.
@@ -33,60 +33,60 @@ pub(super) struct Source<'s> {
     pub(super) text: &'s str,
 }
 
-/// Why a list is not made.
+/// Why the list of a block cannot be made.
 #[derive(Clone, Copy)]
-pub(super) enum Refusal {
+pub(super) enum ListError {
     /// Memory was refused.
     OutOfMemory,
     /// The list would have 2^32 instructions or more.
     TooMany,
 }
 
-impl From<AllocError> for Refusal {
+impl From<AllocError> for ListError {
     ghost use Rattle.std.specs.Prelude.{◌≡◌};
-    ghost use Rattle.minijinja_code.specs.declared.codegen.lists.Refusal.TheVariants.{OutOfMemory};
+    ghost use Rattle.minijinja_code.specs.declared.codegen.lists.ListError.TheVariants.{OutOfMemory};
 
     ghost from_gives = { λ _ r. r ≡ OutOfMemory };
 
     fn from(_error: AllocError) -> Self {
-        Refusal::OutOfMemory
+        ListError::OutOfMemory
     }
 }
 
-impl<T: Drop> From<AllocFailed<T>> for Refusal {
+impl<T: Drop> From<AllocFailed<T>> for ListError {
     ghost use Rattle.std.specs.Prelude.{◌≡◌};
-    ghost use Rattle.minijinja_code.specs.declared.codegen.lists.Refusal.TheVariants.{OutOfMemory};
+    ghost use Rattle.minijinja_code.specs.declared.codegen.lists.ListError.TheVariants.{OutOfMemory};
 
     ghost from_gives = { λ _ r. r ≡ OutOfMemory };
 
     fn from(_error: AllocFailed<T>) -> Self {
-        Refusal::OutOfMemory
+        ListError::OutOfMemory
     }
 }
 
-impl From<memory::OutOfMemory> for Refusal {
+impl From<memory::OutOfMemory> for ListError {
     ghost use Rattle.std.specs.Prelude.{◌≡◌};
-    ghost use Rattle.minijinja_code.specs.declared.codegen.lists.Refusal.TheVariants.{OutOfMemory};
+    ghost use Rattle.minijinja_code.specs.declared.codegen.lists.ListError.TheVariants.{OutOfMemory};
 
     ghost from_gives = { λ _ r. r ≡ OutOfMemory };
 
     fn from(_error: memory::OutOfMemory) -> Self {
-        Refusal::OutOfMemory
+        ListError::OutOfMemory
     }
 }
 
-/// Adds the list of each block of a statement. The bodies are gone through in a loop, so that one in another takes no more
-/// stack than one by itself.
+/// Adds the list of each block of a statement. A loop goes through the bodies, so that nested
+/// bodies take no more stack than one.
 pub(super) fn add_lists<'s, V: TemplateValue>(
     lists: &mut Lists<'s, V>,
     alloc: Global,
     source: Source<'s>,
     stmt: &Stmt<'s, V>,
-) -> Result<(), Refusal>
+) -> Result<(), ListError>
     requires { IsWellFormed (stmt_tree V.contents stmt.now) }
     ensures added { OnOk result (AddsLists V.functions V.contents source.entry.text.now
         source.entry.name.now (blocks (stmt_tree V.contents stmt.now)) lists.old lists.new) }
-    ensures too_many { IfErr result (λ refusal. refusal ≡ TooMany → HaveTooLong V.functions
+    ensures too_many { IfErr result (λ error. error ≡ TooMany → HaveTooLong V.functions
         (blocks (stmt_tree V.contents stmt.now))) }
 {
     if is_flat(stmt) {
@@ -105,7 +105,7 @@ pub(super) fn add_lists<'s, V: TemplateValue>(
     Ok(())
 }
 
-/// Whether the statement is a template in whose statements none are nested, so that it has no blocks.
+/// Whether a statement is a template without nested statements, which has no blocks.
 fn is_flat<V: TemplateValue>(stmt: &Stmt<'_, V>) -> bool
     ensures { IsTrue result → blocks (stmt_tree V.contents stmt.now) ≡ [] }
 {
@@ -115,7 +115,8 @@ fn is_flat<V: TemplateValue>(stmt: &Stmt<'_, V>) -> bool
     }
 }
 
-/// The statements from the first one on in which others are nested. Most have none nested in them, and cost little so.
+/// The statements of a row from the first one on that has nested statements. Most have none, and
+/// are skipped here.
 fn nesting<'a, 's, V: TemplateValue>(row: &'a [Stmt<'s, V>]) -> &'a [Stmt<'s, V>]
     ensures { stmts_of (map (stmt_tree V.contents) result.now)
         ≡ from_nesting (stmts_of (map (stmt_tree V.contents) row.now)) }
@@ -127,7 +128,7 @@ fn nesting<'a, 's, V: TemplateValue>(row: &'a [Stmt<'s, V>]) -> &'a [Stmt<'s, V>
     &row[first..]
 }
 
-/// Whether other statements are nested in the statement.
+/// Whether a statement has nested statements.
 fn nests<V: TemplateValue>(stmt: &Stmt<'_, V>) -> bool
     ensures { result ≡ is_nesting (stmt_tree V.contents stmt.now) }
 {
@@ -155,7 +156,7 @@ fn nests<V: TemplateValue>(stmt: &Stmt<'_, V>) -> bool
     }
 }
 
-/// Adds the bodies of a statement to rows that wait, the first one last.
+/// Adds the bodies of a statement to the rows that are still to do, the first one last.
 fn push_bodies<'a, 's, V: TemplateValue>(
     rows: &mut Vec<&'a [Stmt<'s, V>]>,
     stmt: &'a Stmt<'s, V>,
@@ -193,7 +194,7 @@ fn push_bodies<'a, 's, V: TemplateValue>(
     }
 }
 
-/// Adds a row of statements that waits.
+/// Adds a row of statements to those that are still to do.
 fn push_row<'a, 's, V: TemplateValue>(
     rows: &mut Vec<&'a [Stmt<'s, V>]>,
     row: &'a [Stmt<'s, V>],
@@ -205,17 +206,17 @@ fn push_row<'a, 's, V: TemplateValue>(
     Ok(())
 }
 
-/// Adds the list of a statement that is a block.
+/// Adds the list of a statement, if it is a block.
 fn add_list_of<'s, V: TemplateValue>(
     lists: &mut Lists<'s, V>,
     alloc: Global,
     source: Source<'s>,
     stmt: &Stmt<'s, V>,
-) -> Result<(), Refusal>
+) -> Result<(), ListError>
     requires { StandsSomewhere (stmt_tree V.contents stmt.now) }
     ensures added { OnOk result (AddsLists V.functions V.contents source.entry.text.now
         source.entry.name.now (own_block (stmt_tree V.contents stmt.now)) lists.old lists.new) }
-    ensures too_many { IfErr result (λ refusal. refusal ≡ TooMany → HaveTooLong V.functions
+    ensures too_many { IfErr result (λ error. error ≡ TooMany → HaveTooLong V.functions
         (own_block (stmt_tree V.contents stmt.now))) }
 {
     match stmt {
@@ -224,29 +225,30 @@ fn add_list_of<'s, V: TemplateValue>(
     }
 }
 
-/// Adds the list of a block. Refused are memory, and a list that would have 2^32 instructions or more.
+/// Adds the list of a block. It fails if memory is refused, or if the list would have 2^32
+/// instructions or more.
 fn add_list<'s, V: TemplateValue>(
     lists: &mut Lists<'s, V>,
     alloc: Global,
     source: Source<'s>,
     block: &Block<'s, V>,
-) -> Result<(), Refusal>
+) -> Result<(), ListError>
     requires { AreInner false (block_tree V.contents block.now).body }
     ensures added { OnOk result (AddsLists V.functions V.contents source.entry.text.now
         source.entry.name.now (block_tree V.contents block.now ∷ []) lists.old lists.new) }
-    ensures too_many { IfErr result (λ refusal. refusal ≡ TooMany → 2 ^ 32 ≤ length
+    ensures too_many { IfErr result (λ error. error ≡ TooMany → 2 ^ 32 ≤ length
         (layout.block_code V.functions (block_tree V.contents block.now).body)) }
 {
     let instructions = body_code(alloc, &block.body)?;
     if instructions.len() >= LIMIT {
-        return Err(Refusal::TooMany);
+        return Err(ListError::TooMany);
     }
     let list = listed(instructions, source.name, source.text, block.required);
     lists.insert(block.name, list)?;
     Ok(())
 }
 
-/// The instructions of a body by itself.
+/// The instructions of a body, as a list of their own.
 fn body_code<'s, V: TemplateValue>(
     alloc: Global,
     body: &[Stmt<'s, V>],
@@ -257,7 +259,7 @@ fn body_code<'s, V: TemplateValue>(
 {
     let mut code = Emitter::new(alloc);
     code.make_room(body.len().saturating_mul(2))?;
-    let mut turn = Turn::outside(alloc);
-    statements(&mut code, &mut turn, body)?;
+    let mut enclosing = EnclosingLoop::outside(alloc);
+    statements(&mut code, &mut enclosing, body)?;
     Ok(code.into_list())
 }

@@ -1,6 +1,7 @@
-//! The generator and its lists of instructions. What they make of texts stands in the tests of the program.
+//! The generator and its lists of instructions. What they make of texts stands in the tests of the
+//! program.
 ghost use Rattle.std.specs.Prelude.{◌≡◌, None, OnOk};
-ghost use Rattle.minijinja_code.specs.private.AtGenerator.{refusal_of};
+ghost use Rattle.minijinja_code.specs.internal.AtGenerator.{refusal_of};
 
 use super::{Subject, hold};
 use crate::ast::{Expr, Spanned, Var};
@@ -113,7 +114,8 @@ fn a_node_is_made_with_ample_memory(rt: HostRuntime) -> Result<(), Fail> {
     Ok(())
 }
 
-/// The code of an expression, of an assignment of its value and of a template, with the hint and how many blocks there are.
+/// The code of an expression, of an assignment of its value and of a template, with the hint and
+/// how many blocks there are.
 fn code_of_each(
     alloc: Global,
 ) -> Result<(Instructions<'static, Value>, usize, usize), Error<'static>> {

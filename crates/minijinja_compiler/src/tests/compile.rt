@@ -1,3 +1,4 @@
+//! Whole compiles: templates and expressions with ample memory, and what is refused.
 use super::{Subject, compile_page, hold, page_length};
 use crate::compile::{Compiled, compile_expression};
 use crate::error::{Error, ErrorKind};
@@ -7,15 +8,17 @@ use std::alloc::{AllocError, Global};
 use std::process::Abort;
 use std::test::Fail;
 
-/// The kind of a refusal, and the end of its words, which are to name the source and the line that it shows.
+/// The kind of a refusal, and the end of its words, which are to name the source and the line that
+/// it shows.
 fn refusal(alloc: Global, error: Error<'_>) -> Result<String, AllocError> {
     let name = error.name().unwrap_or("");
-    let end = format!(in alloc; " (in {name}:{})", error.line().unwrap_or(0))?;
+    let place = format!(in alloc; " (in {name}:{}", error.line().unwrap_or(0))?;
+    let end = format!(in alloc; "{place}:{})", error.column().unwrap_or(0))?;
     let words = error.to_string(alloc)?;
     if !words.ends_with(end.as_str()) {
         return Ok(words);
     }
-    format!(in alloc; "{:?}{end}", error.kind())
+    format!(in alloc; "{:?}{place})", error.kind())
 }
 
 /// The name and the length of a template's code and the hint.
@@ -161,7 +164,8 @@ impl Subject for Expressions {
     }
 }
 
-/// The lengths are those of the upstream program's code, with constants folded as this project's values fold.
+/// The lengths are those of the upstream program's code, with constants folded as this project's
+/// values fold.
 #[test]
 fn code_of_expressions_is_as_long_as_upstream(rt: HostRuntime) -> Result<(), Fail> {
     let rows = r#"
@@ -175,7 +179,8 @@ a.0.b['c'](d) => <expression>: 8
     hold::<Expressions>(&rt, rt.alloc(), rows)
 }
 
-/// The places are those of the upstream program but for floats and bad escapes, to which it gives none.
+/// The places are those of the upstream program, except for floats and bad escapes, to which it
+/// gives none.
 #[test]
 fn refusals_of_expressions_name_their_place(rt: HostRuntime) -> Result<(), Fail> {
     let rows = r#"

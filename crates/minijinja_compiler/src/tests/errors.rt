@@ -1,5 +1,5 @@
 //! The words of refusals and of places.
-use crate::error::{Detail, Error, ErrorKind, Expected};
+use crate::error::{BodyStatement, Detail, Error, ErrorKind, Expected, Found, OpenStatement};
 use crate::tokens::{Span, Token};
 use std::alloc::{AllocError, Global};
 use std::process::Abort;
@@ -14,8 +14,13 @@ const THIRD_LINE: Span = Span {
     end_offset: 31,
 };
 
+const OPEN_IF: OpenStatement = OpenStatement {
+    statement: BodyStatement::If,
+    line: 3,
+};
+
 /// What can be wrong, each with a kind.
-fn details() -> [(ErrorKind, Detail<'static>); 21] {
+fn details() -> [(ErrorKind, Detail<'static>); 31] {
     let syntax = ErrorKind::SyntaxError;
     [
         (ErrorKind::InvalidDelimiter, Detail::InvalidDelimiter),
@@ -28,7 +33,23 @@ fn details() -> [(ErrorKind, Detail<'static>); 21] {
         (syntax, Detail::IntegerTooLarge),
         (syntax, Detail::FloatLiteral),
         (syntax, Detail::UnexpectedEnd(Expected::BlockEnd)),
-        (syntax, Detail::UnexpectedToken(Expected::Identifier)),
+        (
+            syntax,
+            Detail::UnexpectedToken {
+                expected: Expected::Identifier,
+                found: ")",
+            },
+        ),
+        (syntax, Detail::Unexpected(Found::String, Expected::Pow)),
+        (syntax, Detail::Unclosed(OPEN_IF)),
+        (
+            syntax,
+            Detail::WrongEnd {
+                open: OPEN_IF,
+                found: "endfor",
+            },
+        ),
+        (syntax, Detail::StrayEnd("endfor")),
         (syntax, Detail::UnknownStatement("unless")),
         (syntax, Detail::ReservedName("loop")),
         (syntax, Detail::TooDeep),
@@ -36,6 +57,12 @@ fn details() -> [(ErrorKind, Detail<'static>); 21] {
         (syntax, Detail::PlainAfterKeyword),
         (syntax, Detail::OutsideLoop("break")),
         (syntax, Detail::NotACall),
+        (syntax, Detail::NotATarget),
+        (syntax, Detail::DuplicateBlock("a")),
+        (syntax, Detail::BlockInMacro),
+        (syntax, Detail::FilledRequiredBlock),
+        (syntax, Detail::OtherBlockName("a")),
+        (syntax, Detail::PrivateName("_a")),
         (ErrorKind::OutOfMemory, Detail::OutOfMemory),
         (ErrorKind::SourceTooLong, Detail::SourceTooLong),
         (ErrorKind::TooManyInstructions, Detail::TooManyInstructions),
@@ -66,14 +93,18 @@ fn is_printed_at_each_place(
             alloc,
             Error::new(kind, detail, page, line),
             words,
-            " (in page:3)",
+            " (in page:3:4)",
         )? && is_printed(
             alloc,
             Error::new(kind, detail, page, None),
             words,
             " (in page)",
-        )? && is_printed(alloc, Error::new(kind, detail, None, line), words, "")?
-            && is_printed(alloc, Error::new(kind, detail, None, None), words, "")?,
+        )? && is_printed(
+            alloc,
+            Error::new(kind, detail, None, line),
+            words,
+            " (at 3:4)",
+        )? && is_printed(alloc, Error::new(kind, detail, None, None), words, "")?,
     )
 }
 
@@ -89,7 +120,11 @@ syntax error: '_' may not occur at end of number
 syntax error: integer too large
 syntax error: float literals are not supported
 syntax error: unexpected end of input, expected end of block
-syntax error: unexpected token, expected identifier
+syntax error: unexpected `)`, expected identifier
+syntax error: unexpected string, expected `**`
+syntax error: unexpected end of input, expected endif for the if of line 3
+syntax error: expected endif for the if of line 3, found endfor
+syntax error: unexpected endfor, no statement is open
 syntax error: unknown statement unless
 syntax error: cannot assign to reserved name loop
 syntax error: template exceeds maximum recursion limits
@@ -97,6 +132,12 @@ syntax error: too many arguments in function call
 syntax error: non-keyword arg after keyword arg
 syntax error: 'break' must be placed inside a loop
 syntax error: expected call expression
+syntax error: cannot assign to this expression
+syntax error: block a is defined twice
+syntax error: a block cannot stand in a macro
+syntax error: a required block has to be blank
+syntax error: endblock names another block, a
+syntax error: cannot import private name _a
 out of memory: out of memory
 source too long: source too long
 too many instructions: too many instructions";
@@ -136,7 +177,10 @@ fn tokens_and_details_can_be_compared(rt: HostRuntime) {
     assert!(rt; Token::Int(1) != Token::Int(2));
     let (end, token) = (
         Detail::UnexpectedEnd(Expected::BlockEnd),
-        Detail::UnexpectedToken(Expected::BlockEnd),
+        Detail::UnexpectedToken {
+            expected: Expected::BlockEnd,
+            found: "x",
+        },
     );
     assert!(rt; end == end && end != token);
 }

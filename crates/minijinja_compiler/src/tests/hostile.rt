@@ -1,5 +1,6 @@
-//! Texts of about 1 MiB, of the forms that a search that goes back would read in square time, and rows of what a parser or a
-//! generator that calls itself would end the process at: a test has a minute.
+//! Texts of about 1 MiB, of the forms that a search that goes back would read in square time, and
+//! rows of what a parser or a generator that calls itself would end the process at: a test has a
+//! minute.
 use super::{Subject, hold, page_length, parted, repeated, syntax_of};
 use crate::lexer::Tokenizer;
 use crate::syntax::SyntaxConfig;
@@ -60,7 +61,8 @@ default | {{␠ | 1048576 * x | ␠}} => 3
     hold::<Large>(&rt, rt.alloc(), rows)
 }
 
-/// Half as large, since each place of such a syntax is looked at for each marker. A line has three tokens.
+/// Half as large, since each place of such a syntax is looked at for each marker. A line has three
+/// tokens.
 #[test]
 fn large_texts_of_lines_are_read_in_linear_time(rt: HostRuntime) -> Result<(), Fail> {
     let rows = r#"
@@ -70,7 +72,7 @@ line_statement #, line_comment ## | 524288 * ␠ | # x => 3
     hold::<Large>(&rt, rt.alloc(), rows)
 }
 
-/// A template in pieces: how many instructions it has. Its tree and its code are let go after that.
+/// A template in pieces: how many instructions it has. Its tree and its code are dropped after that.
 enum Rows {}
 
 impl Subject for Rows {
@@ -160,7 +162,8 @@ fn rows_of_parts_of_statements_are_compiled(rt: HostRuntime) -> Result<(), Fail>
     hold::<Rows>(&rt, rt.alloc(), rows)
 }
 
-/// The same within macros, whose closures are looked for too, and of what only they and imports have.
+/// Rows within macros, whose closures are looked for too, and of what only they and imports
+/// have.
 #[test]
 fn rows_of_parts_in_macros_are_compiled(rt: HostRuntime) -> Result<(), Fail> {
     let rows = r#"

@@ -1,5 +1,6 @@
-//! The tokens of texts, and where a text that is none is refused. The lines and columns of tokens stand in the tests of
-//! the program.
+//! The tokens of texts, and where wrong texts are refused.
+//!
+//! The program's tests have the lines and columns of tokens.
 use super::{Subject, hold, parted, syntax_of};
 use crate::error::Error;
 use crate::lexer::Tokenizer;
@@ -11,7 +12,7 @@ use std::test::Fail;
 /// What a row shows of a text's tokens.
 #[derive(Clone, Copy)]
 enum View {
-    /// Each token with the bytes between which it stands, and a refusal likewise.
+    /// Each token or refusal with the offsets where it begins and ends.
     Places,
     /// Each token as messages name it.
     Words,
@@ -46,7 +47,7 @@ fn push_refusal(words: &mut String, error: &Error<'_>) -> Result<(), AllocError>
     )
 }
 
-/// Appends the next token, or why there is none, and says whether there is one.
+/// Appends the next token, or why there is none, and returns whether there is one.
 fn push_next(words: &mut String, tokens: &mut Tokenizer<'_, '_>, view: View) -> Result<bool, Fail> {
     match tokens.next_token() {
         Ok(Some((token, span))) => {
@@ -162,7 +163,7 @@ $ => unexpected character 0-1
 _ => Ident("_") 0-1, end
 é1_b.c => Ident("é1_b") 0-5, Dot 5-6, Ident("c") 6-7, end
 a-b => Ident("a") 0-1, Minus 1-2, Ident("b") 2-3, end
-a}} b => Ident("a") 0-1, VariableEnd 1-3, unexpected token, expected end of input 3-4
+a}} b => Ident("a") 0-1, VariableEnd 1-3, unexpected template data, expected end of input 3-4
 "#;
     hold::<Expressions>(&rt, rt.alloc(), rows)
 }

@@ -38,7 +38,7 @@ fn push_part(
     }
 }
 
-/// The names that each of a template's macros outside of all else needs.
+/// The names that each macro at the top of a template needs.
 fn closures_of(alloc: Global, template: &Stmt<'_, Value>) -> Result<String, Fail> {
     let mut words = String::from_str(alloc, "of")?;
     if let Stmt::Template(template) = template {
@@ -49,7 +49,7 @@ fn closures_of(alloc: Global, template: &Stmt<'_, Value>) -> Result<String, Fail
     Ok(words)
 }
 
-/// Templates: the names that their macros need.
+/// Templates, told by the names that their macros need.
 enum Closures {}
 
 impl Subject for Closures {
@@ -59,7 +59,7 @@ impl Subject for Closures {
     }
 }
 
-/// These are the upstream program's too.
+/// The upstream program finds the same names.
 #[test]
 fn closures_are_what_is_used_before_it_is_there(rt: HostRuntime) -> Result<(), Fail> {
     let rows = r#"
@@ -79,7 +79,7 @@ fn closures_are_what_is_used_before_it_is_there(rt: HostRuntime) -> Result<(), F
     hold::<Closures>(&rt, rt.alloc(), rows)
 }
 
-/// The upstream program does not see some of these uses, or sees the store first.
+/// The upstream program misses some of these uses, or finds a store before the use.
 #[test]
 fn closures_are_in_order_of_execution(rt: HostRuntime) -> Result<(), Fail> {
     let rows = r#"

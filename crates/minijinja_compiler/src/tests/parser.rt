@@ -270,7 +270,8 @@ fn after_a_tree_stands_the_empty_template(rt: HostRuntime) {
     assert_ends(&rt, &mut parser);
 }
 
-/// Appends the token in view, if there is one, its place and that of the one before it, and takes the token.
+/// Appends the token in view, if there is one, its place and that of the one before it, and takes
+/// the token.
 fn push_view(words: &mut String, stream: &mut TokenStream<'_, '_>) -> Result<(), Fail> {
     match stream.current() {
         Ok(Some((token, _))) => write!(words, "{token}")?,
@@ -283,7 +284,8 @@ fn push_view(words: &mut String, stream: &mut TokenStream<'_, '_>) -> Result<(),
     Ok(())
 }
 
-/// Two tokens and the end in view. Last comes the span from the start of the first token to the end of the last.
+/// Two tokens and the end in view. Last comes the span from the start of the first token to the end
+/// of the last.
 fn tokens_in_view(alloc: Global, stream: &mut TokenStream<'_, '_>) -> Result<String, Fail> {
     let mut words = String::new(alloc);
     let first = stream.current_span();

@@ -143,7 +143,8 @@ fn is_same(found: Found, other: Found) -> bool {
     found == other
 }
 
-/// Whether both syntaxes and a matcher of the first find the same marker there, if that is a place of the text.
+/// Whether both syntaxes and a matcher of the first find the same marker there, if that is a place
+/// of the text.
 fn agree(
     syntax: &SyntaxConfig,
     matcher: &StartMarkerMatcher,
@@ -199,8 +200,8 @@ fn marker_found(
     }
 }
 
-/// A text after its options and the place from which it is searched: which marker is found, how many bytes on, and how
-/// many it has.
+/// A text after its options and the place from which it is searched: which marker is found, how
+/// many bytes on, and how many it has.
 enum Markers {}
 
 impl Subject for Markers {
@@ -245,7 +246,8 @@ fn differs_at(
     None
 }
 
-/// The first place of a text at which a search in this syntax and one in the default syntax do not agree.
+/// The first place of a text at which a search in this syntax and one in the default syntax do not
+/// agree.
 fn differs_from_default(
     alloc: Global,
     other: &SyntaxConfig,
@@ -256,8 +258,8 @@ fn differs_from_default(
     Ok(differs_at(&default, &matcher, other, source))
 }
 
-/// The first place of a text at which two searches do not agree. A prefix that does not stand in it changes nothing but
-/// the way in which it is searched.
+/// The first place of a text at which two searches do not agree. A prefix that does not stand in it
+/// changes nothing but the way in which it is searched.
 fn difference(alloc: Global, source: &str) -> Result<Option<usize>, Error<'static>> {
     let general = syntax_of(alloc, "line_comment \u{1}\u{2}")?;
     differs_from_default(alloc, &general, source)

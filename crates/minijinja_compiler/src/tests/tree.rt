@@ -8,7 +8,8 @@ use minijinja_tree::constants::constant_kwargs;
 use std::alloc::{AllocError, Global};
 use std::test::Fail;
 
-/// A node has the value of a constant, of items or keys that are constants, and of operators over what has a value.
+/// A node has a value if it is a constant, if its items or keys and values are constants, and if it
+/// is an operator over operands that have values.
 #[test]
 fn expressions_of_constants_have_values(rt: HostRuntime) -> Result<(), Fail> {
     let rows = r#"
@@ -64,7 +65,7 @@ fn callee(alloc: Global, callee: CallType<'_, '_, Value>) -> Result<String, Allo
     }
 }
 
-/// Calls: what they call.
+/// Calls, told by what they call.
 enum Callees {}
 
 impl Subject for Callees {
@@ -90,7 +91,7 @@ x[y]() => object
     hold::<Callees>(&rt, rt.alloc(), rows)
 }
 
-/// Calls: their constant keyword arguments.
+/// Calls, told by their constant keyword arguments.
 enum KeywordArguments {}
 
 impl Subject for KeywordArguments {
@@ -116,7 +117,7 @@ f(x, k=1, *y, **z) => unknown
     hold::<KeywordArguments>(&rt, rt.alloc(), rows)
 }
 
-/// What a node is called, its place, and those of the operands of an operator.
+/// The description of a node, its span, and the spans of the operands of an operator.
 fn described(alloc: Global, node: &Expr<'_, Value>) -> Result<String, Fail> {
     let mut words = format!(in alloc; "{}{:?}", node.description(), node.span())?;
     if !node.is_well_formed() {
@@ -129,7 +130,7 @@ fn described(alloc: Global, node: &Expr<'_, Value>) -> Result<String, Fail> {
     Ok(words)
 }
 
-/// Expressions, which are well formed: what they are, and the operands of an operator.
+/// Well formed expressions, told by their descriptions and spans.
 enum Nodes {}
 
 impl Subject for Nodes {
@@ -139,8 +140,8 @@ impl Subject for Nodes {
     }
 }
 
-/// As in the upstream crate, filters and tests go from their names on, and comparisons and if expressions from the token
-/// before them, which the first of a text has not.
+/// As in the upstream crate, the span of a filter or a test begins at its name, and that of a
+/// comparison or an if expression at the token before it, or at 0:0 where there is none.
 #[test]
 fn expressions_are_described_and_have_their_place(rt: HostRuntime) -> Result<(), Fail> {
     let rows = r#"

@@ -1,14 +1,14 @@
-//! What values are printed as, and what operators make of them.
+//! How values are printed, and the results of their operators and calls.
 use super::{Subject, hold, parted};
 use crate::error::Error;
 use crate::parser::parse_expr;
-use crate::value::{OpError, TemplateValue, Value, ValueFault, ValueMap};
+use crate::value::{OpError, Rendered, TemplateValue, Value, ValueFault, ValueMap};
 use std::alloc::{AllocError, Global};
 use std::process::Abort;
 use std::test::Fail;
 
-/// The value that an expression has, if one is known. The two that no expression has go by the words that they are printed
-/// as.
+/// The value of an expression, if it is known. The two undefined values, which no expression has,
+/// are named by the words that print them.
 fn known(alloc: Global, text: &str) -> Result<Option<Value>, Error<'_>> {
     match text {
         "undefined" => Ok(Some(Value::Undefined)),
@@ -21,7 +21,7 @@ fn value_of(alloc: Global, text: &str) -> Result<Value, Fail> {
     Ok(known(alloc, text)?.ok_or("no value")?)
 }
 
-/// What a value is printed as, and `unknown` where none is known.
+/// The printed form of a value, or `unknown` where none is known.
 pub fn printed(alloc: Global, value: Option<Value>) -> Result<String, AllocError> {
     match value {
         Some(value) => value.to_string(alloc),
@@ -75,7 +75,7 @@ impl Subject for Counted {
     }
 }
 
-/// False is what is undefined, empty or zero, and a count is an integer from 0 to 2^64 - 1.
+/// What is undefined, empty or zero is false, and a count is an integer from 0 to 2^64 - 1.
 #[test]
 fn values_are_tested_and_counted(rt: HostRuntime) -> Result<(), Fail> {
     let rows = r#"
@@ -125,7 +125,7 @@ fn integers_are_computed_with(rt: HostRuntime) -> Result<(), Fail> {
     hold::<Constants>(&rt, rt.alloc(), rows)
 }
 
-/// What has no order is neither less nor more, nor at most nor at least.
+/// For values without an order all four comparisons are false.
 #[test]
 fn values_are_joined_compared_and_searched(rt: HostRuntime) -> Result<(), Fail> {
     let rows = r#"
@@ -165,7 +165,7 @@ none <= none => false
     hold::<Constants>(&rt, rt.alloc(), rows)
 }
 
-/// What an operator makes of two values; `neg` has the second alone.
+/// The result of an operator for two values; `neg` takes only the second.
 fn apply(
     alloc: Global,
     op: &str,
@@ -186,7 +186,7 @@ fn apply(
     }
 }
 
-/// What comes of an operator and two values, or why nothing does.
+/// The printed result of an operator for two values, or the fault.
 fn outcome(alloc: Global, op: &str, left: &Value, right: &Value) -> Result<String, Fail> {
     match apply(alloc, op, left, right) {
         Ok(value) => Ok(value.to_string(alloc)?),
@@ -194,7 +194,7 @@ fn outcome(alloc: Global, op: &str, left: &Value, right: &Value) -> Result<Strin
     }
 }
 
-/// A value, an operator and a value: what comes of them, which an expression does not tell.
+/// A value, an operator and a value: the result or the fault, which an expression does not show.
 enum Applied {}
 
 impl Subject for Applied {
@@ -243,7 +243,7 @@ undefined | == | none => false
     hold::<Applied>(&rt, rt.alloc(), rows)
 }
 
-/// Values: how a copy differs.
+/// Values: nothing if a copy is equal to its value.
 enum Copied {}
 
 impl Subject for Copied {
@@ -269,7 +269,7 @@ fn values_are_copied(rt: HostRuntime) -> Result<(), Fail> {
     hold::<Copied>(&rt, rt.alloc(), rows)
 }
 
-/// A map that is made by hand keeps an equal key's place and takes its new value.
+/// A map built by hand: an equal key keeps its place and takes its new value.
 fn map_of_two_keys(alloc: Global) -> Result<ValueMap, AllocError> {
     let mut map = ValueMap::new(alloc);
     map.insert(Value::of_u64(1), Value::of_bool(true))?;
@@ -289,7 +289,98 @@ fn maps_made_by_hand_have_no_equal_keys(rt: HostRuntime) -> Result<(), Fail> {
     Ok(())
 }
 
-/// An integer: whether it is negative, its magnitude, and itself as an `i128` and a `u128` where it fits.
+fn map_value(alloc: Global, text: &str) -> Result<ValueMap, Fail> {
+    match value_of(alloc, text)? {
+        Value::Map(map) => Ok(map),
+        _ => Err(Fail::from("no map")),
+    }
+}
+
+/// A map and a text: the value of the key that is this text.
+enum Found {}
+
+impl Subject for Found {
+    fn words(alloc: Global, text: &str) -> Result<String, Fail> {
+        let (map, key) = parted(text, " | ");
+        let map = map_value(alloc, map)?;
+        match map.get_str(key) {
+            Some(value) => Ok(value.to_string(alloc)?),
+            None => Ok(String::from_str(alloc, "no key")?),
+        }
+    }
+}
+
+#[test]
+fn keys_are_found_by_their_text(rt: HostRuntime) -> Result<(), Fail> {
+    let rows = r#"
+{'a': 1, 'b': 2} | b => 2
+{'a': 1, 'b': 2, 'a': 3} | a => 3
+{1: 2, 'abcdefghijklmnopqrstuvwxy': 3} | abcdefghijklmnopqrstuvwxy => 3
+{1: 2, 'a': none} | 1 => no key
+{'a': 1} | ab => no key
+{'ab': 1} | a => no key
+{'a': 1, '': 2} => 2
+{} => no key
+"#;
+    hold::<Found>(&rt, rt.alloc(), rows)
+}
+
+/// Maps: what a template prints for each key and its value, once by reference and once taken out.
+enum Pairs {}
+
+impl Subject for Pairs {
+    fn words(alloc: Global, text: &str) -> Result<String, Fail> {
+        let map = map_value(alloc, text)?;
+        let mut words = String::new(alloc);
+        for (key, value) in &map {
+            write!(words, "{}={},", Rendered(key), Rendered(value))?;
+        }
+        for (key, value) in map.into_pairs() {
+            write!(words, ";{}={}", Rendered(&key), Rendered(&value))?;
+        }
+        Ok(words)
+    }
+}
+
+#[test]
+fn pairs_are_read_and_taken_out_in_order(rt: HostRuntime) -> Result<(), Fail> {
+    let rows = r#"
+{'b': 1, 'a': 'x'} => b=1,a=x,;b=1;a=x
+{'b': 1, 'a': none, 'b': 'y'} => b=y,a=none,;b=y;a=none
+{}
+"#;
+    hold::<Pairs>(&rt, rt.alloc(), rows)
+}
+
+/// Values: what a template prints for them.
+enum InTemplate {}
+
+impl Subject for InTemplate {
+    fn words(alloc: Global, text: &str) -> Result<String, Fail> {
+        Ok(Rendered(&value_of(alloc, text)?).to_string(alloc)?)
+    }
+}
+
+/// A text inside another value stands between quotes.
+#[test]
+fn values_are_rendered_without_quotes(rt: HostRuntime) -> Result<(), Fail> {
+    let rows = r#"
+undefined
+silent
+''
+none => none
+true => true
+- 7 => -7
+'a"b' => a"b
+'abcdefghijklmnopqrstuvwxy' => abcdefghijklmnopqrstuvwxy
+['a', 1] => ["a", 1]
+{'a': 1} => {"a": 1}
+"#;
+    hold::<InTemplate>(&rt, rt.alloc(), rows)
+}
+
+/// An integer: whether it is negative, its magnitude, and itself as an `i128` and a `u128` if it
+/// fits.
 enum Integers {}
 
 impl Subject for Integers {

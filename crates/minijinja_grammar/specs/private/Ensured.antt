@@ -13,8 +13,9 @@ abbrev pub Kept : {A : Type 0} → (A → Type 0) → Turn A → Type 0
 Kept I (go_on x) = I x
 Kept I (over x) = I x
 
--- From tokens for which the first holds, and spans for which the second does, such a thing is derived, and the names for which the
--- third holds are the only ones that are given. A repetition has something that each turn keeps.
+-- From tokens for which the first holds, and spans for which the second does, such a thing is
+-- derived, and the names for which the third holds are the only ones that are given. A repetition
+-- has something that each turn keeps.
 abbrev pub Ensured : {A : Type 0} → (SpannedTok → Type 0) → (Span → Type 0) → (Text → Type 0) → Form A → (A → Type 1) → Type 1
 Ensured T S G (pure x) P = P x
 Ensured T S G nothing P = Holds (Unit {0})

@@ -10,8 +10,8 @@ use Rattle.minijinja_tree.specs.WellFormed.{IsChain, arg_count, expr_count, most
 
 module _ {C : Type 0} (T : SpannedTok → Type 0) (S : Span → Type 0) where
   abbrev mutual
-    -- as where nodes stand; chains have two comparisons or more, maps as many keys as values, calls at most 2000 arguments, and
-    -- filters an operand
+    -- as where nodes stand; chains have two comparisons or more, maps as many keys as values, calls
+    -- at most 2000 arguments, and filters an operand
     pub IsSound : Expr C → Type 0
     IsSound (variable x s) = T (ident x, s)
     IsSound (constant c s) = S s

@@ -6,7 +6,7 @@ use Rattle.minijinja_syntax.specs.Syntax.{Syntax}
 use Rattle.minijinja_lexer.specs.Whitespace.{kept_stop}
 use Rattle.minijinja_lexer.specs.private.RawPlaces.{RawBlockPlaces}
 use Rattle.minijinja_lexer.specs.Cut.{Segment, plain, comment, line_comment, raw, tag, unclosed_comment, unclosed_raw, segment_at, inner_at}
-use Rattle.minijinja_lexer.specs.Faults.{Fault}
+use Rattle.minijinja_lexer.specs.Faults.{LexFault}
 use Rattle.minijinja_lexer.specs.Faults as fault
 use Rattle.minijinja_lexer.specs.private.Views.{raw_block_view, tag_view, fault_view}
 use Rattle.minijinja_lexer.specs.declared.raw.RawBlock.{RawBlock}
@@ -39,7 +39,7 @@ pub record IsRawAt (s : Syntax) (text : Text) (at : ℕ) (block : RawBlock) : Ty
   pub places : RawBlockPlaces text begin block
 
 -- a comment or a raw block with no end
-abbrev pub IsUnclosed : Syntax → Text → ℕ → Fault → Type 0
+abbrev pub IsUnclosed : Syntax → Text → ℕ → LexFault → Type 0
 IsUnclosed s text at f = ((f ≡ fault.UnclosedComment) × (segment_at s text at ≡ unclosed_comment at)) ⊎ ((f ≡ fault.UnclosedRaw) × (segment_at s text at ≡ unclosed_raw at))
 
 -- what is found at the place is its segment

@@ -1,10 +1,10 @@
--- The places of a turn are between characters, and in order.
+-- The places of what stands in a tag are between characters, and in order.
 use Rattle.std.specs.Prelude.{◌≡◌, ℕ, ◌<◌, ◌≤◌, Ok}
 use Rattle.std.specs.Str.{IsCharBoundary}
 use Rattle.minijinja_syntax.specs.Texts.{Text}
 use Rattle.minijinja_lexer.specs.TokenAt.{token_at}
 use Rattle.minijinja_lexer.specs.private.TokenPlaces.{SortPlaces}
-use Rattle.minijinja_lexer.specs.Turns.{Lexeme, Close, Closed, Broken, Refused, Turn, Token, End}
+use Rattle.minijinja_lexer.specs.TagParts.{Lexeme, Close, Closed, Broken, Refused, TagPart, Token, End}
 
 -- a token from the place on
 pub record LexemePlaces (text : Text) (at : ℕ) (l : Lexeme) : Type 0 where
@@ -38,6 +38,6 @@ ClosePlaces text at Broken = Unit {0}
 ClosePlaces text at (Refused f start place) = RefusedPlaces text at start place
 
 -- a token or an end from the place on
-abbrev pub TurnPlaces : Text → ℕ → Turn → Type 0
-TurnPlaces text at (Token l) = LexemePlaces text at l
-TurnPlaces text at (End close) = ClosePlaces text at close
+abbrev pub TagPartPlaces : Text → ℕ → TagPart → Type 0
+TagPartPlaces text at (Token l) = LexemePlaces text at l
+TagPartPlaces text at (End close) = ClosePlaces text at close

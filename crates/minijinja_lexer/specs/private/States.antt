@@ -38,7 +38,8 @@ StateFits p state.Over = Unit {0}
 StateFits p (state.Failed f span) = Unit {0}
 StateFits p state.NoMemory = Unit {0}
 
--- a step takes the first token of what was to come, or says how it ends, or there is no memory for that token
+-- a step takes the first token of what was to come, or says how it ends, or there is no memory for
+-- that token
 abbrev pub Steps : Syntax → Stream → Step → Place → Type 0
 Steps s old (step.Token t span state) p = (old ≡ before ((tok_of t, span) ∷ []) (stream_from s p state)) × StateFits p state
 Steps s old step.Over p = old ≡ ended finished

@@ -6,7 +6,7 @@ use Rattle.minijinja_syntax.specs.Positions.{slice}
 use Rattle.minijinja_lexer.specs.Escapes.{unescaped}
 use Rattle.minijinja_lexer.specs.Sorts.{Sort}
 use Rattle.minijinja_lexer.specs.Sorts as sort
-use Rattle.minijinja_lexer.specs.Faults.{Fault}
+use Rattle.minijinja_lexer.specs.Faults.{LexFault}
 
 -- what stands between the quotes may be cut out
 pub record InsidePlaces (text : Text) (start stop : ℕ) : Type 0 where
@@ -32,6 +32,6 @@ pub record RefusalPlace (text : Text) (at place : ℕ) : Type 0 where
   pub boundary : IsCharBoundary text place
 
 -- a token at the place, or a refusal
-abbrev pub ScanPlaces : Text → ℕ → Result (Sort × ℕ) (Fault × ℕ) → Type 0
+abbrev pub ScanPlaces : Text → ℕ → Result (Sort × ℕ) (LexFault × ℕ) → Type 0
 ScanPlaces text at (Ok r) = TokenPlaces text at r.1 r.0
 ScanPlaces text at (Err r) = RefusalPlace text at r.1

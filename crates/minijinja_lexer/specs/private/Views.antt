@@ -6,22 +6,22 @@ use Rattle.minijinja_lexer.specs.Faults as fault
 use Rattle.minijinja_lexer.specs.Symbols as symbol
 use Rattle.minijinja_lexer.specs.Sorts as sort
 use Rattle.minijinja_lexer.specs.Tags as tag
-use Rattle.minijinja_lexer.specs.Turns as turn
+use Rattle.minijinja_lexer.specs.TagParts as part
 use Rattle.minijinja_lexer.specs.RawBlocks as block
-use Rattle.minijinja_lexer.specs.declared.fault.Fault.{Fault}
-use Rattle.minijinja_lexer.specs.declared.fault.Fault.TheVariants.{UnexpectedCharacter, UnterminatedString, BadEscape, MissingDigits, DigitOutOfRange, TrailingUnderscore, IntegerTooLarge, FloatLiteral, UnclosedComment, UnclosedRaw, TextGoesOn}
+use Rattle.minijinja_lexer.specs.declared.fault.LexFault.{LexFault}
+use Rattle.minijinja_lexer.specs.declared.fault.LexFault.TheVariants.{UnexpectedCharacter, UnterminatedString, BadEscape, MissingDigits, DigitOutOfRange, TrailingUnderscore, IntegerTooLarge, FloatLiteral, UnclosedComment, UnclosedRaw, TextGoesOn}
 use Rattle.minijinja_lexer.specs.declared.raw.RawBlock.{RawBlock}
 use Rattle.minijinja_lexer.specs.declared.scan.Sort.{Sort}
 use Rattle.minijinja_lexer.specs.declared.scan.Sort.TheVariants.{Ident, Str, String, Int, Int128, Symbol}
 use Rattle.minijinja_lexer.specs.declared.symbol.Symbol as symbols
 use Rattle.minijinja_lexer.specs.declared.symbol.Symbol.TheVariants.{Plus, Minus, Mul, Div, FloorDiv, Pow, Mod, Dot, Comma, Colon, Tilde, Assign, Pipe, Eq, Ne, Gt, Gte, Lt, Lte, BracketOpen, BracketClose, ParenOpen, ParenClose, BraceOpen, BraceClose}
-use Rattle.minijinja_lexer.specs.declared.turn.Close.{Close}
-use Rattle.minijinja_lexer.specs.declared.turn.Close.TheVariants.{Closed, Broken, Refused}
-use Rattle.minijinja_lexer.specs.declared.turn.Lexeme.{Lexeme}
-use Rattle.minijinja_lexer.specs.declared.turn.Tag.{Tag}
-use Rattle.minijinja_lexer.specs.declared.turn.Tag.TheVariants.{Variable, Block, Line}
-use Rattle.minijinja_lexer.specs.declared.turn.Turn.{Turn}
-use Rattle.minijinja_lexer.specs.declared.turn.Turn.TheVariants.{Token, End}
+use Rattle.minijinja_lexer.specs.declared.tag_part.Close.{Close}
+use Rattle.minijinja_lexer.specs.declared.tag_part.Close.TheVariants.{Closed, Broken, Refused}
+use Rattle.minijinja_lexer.specs.declared.tag_part.Lexeme.{Lexeme}
+use Rattle.minijinja_lexer.specs.declared.tag_part.Tag.{Tag}
+use Rattle.minijinja_lexer.specs.declared.tag_part.Tag.TheVariants.{Variable, Block, Line}
+use Rattle.minijinja_lexer.specs.declared.tag_part.TagPart.{TagPart}
+use Rattle.minijinja_lexer.specs.declared.tag_part.TagPart.TheVariants.{Token, End}
 use Rattle.minijinja_lexer.specs.declared.whitespace.Control.{Control}
 use Rattle.minijinja_lexer.specs.declared.whitespace.Control.TheVariants.{Absent, Remove, Preserve}
 
@@ -38,7 +38,7 @@ end_view end = option_map (λ (e : Control × ℕ). (control_view e.0, e.1)) end
 abbrev pub endraw_view : Option (ℕ × Control × ℕ) → Option (ℕ × control.Control × ℕ)
 endraw_view end = option_map (λ (e : ℕ × Control × ℕ). (e.0, control_view e.1, e.2)) end
 
-abbrev pub fault_view : Fault → fault.Fault
+abbrev pub fault_view : LexFault → fault.LexFault
 fault_view UnexpectedCharacter = fault.UnexpectedCharacter
 fault_view UnterminatedString = fault.UnterminatedString
 fault_view BadEscape = fault.BadEscape
@@ -91,32 +91,32 @@ tag_view Variable = tag.Variable
 tag_view Block = tag.Block
 tag_view Line = tag.Line
 
-abbrev pub lexeme_view : Lexeme → turn.Lexeme
+abbrev pub lexeme_view : Lexeme → part.Lexeme
 lexeme_view l = record { start = l.start; stop = l.stop; sort = sort_view l.sort }
 
-abbrev pub close_view : Close → turn.Close
-close_view (Closed start stop after) = turn.Closed start stop after
-close_view Broken = turn.Broken
-close_view (Refused f start place) = turn.Refused (fault_view f) start place
+abbrev pub close_view : Close → part.Close
+close_view (Closed start stop after) = part.Closed start stop after
+close_view Broken = part.Broken
+close_view (Refused f start place) = part.Refused (fault_view f) start place
 
-abbrev pub turn_view : Turn → turn.Turn
-turn_view (Token l) = turn.Token (lexeme_view l)
-turn_view (End close) = turn.End (close_view close)
+abbrev pub tag_part_view : TagPart → part.TagPart
+tag_part_view (Token l) = part.Token (lexeme_view l)
+tag_part_view (End close) = part.End (close_view close)
 
 abbrev pub raw_block_view : RawBlock → block.RawBlock
 raw_block_view b = record { begin = b.begin; start = b.start; stop = b.stop; end = b.end; after = b.after }
 
 -- a value, or why it is refused
-abbrev pub value_view : Result ℕ Fault → Result ℕ fault.Fault
+abbrev pub value_view : Result ℕ LexFault → Result ℕ fault.LexFault
 value_view (Ok n) = Ok n
 value_view (Err f) = Err (fault_view f)
 
 -- a number and its length, or why and where it is refused
-abbrev pub number_view : Result (ℕ × ℕ) (Fault × ℕ) → Result (ℕ × ℕ) (fault.Fault × ℕ)
+abbrev pub number_view : Result (ℕ × ℕ) (LexFault × ℕ) → Result (ℕ × ℕ) (fault.LexFault × ℕ)
 number_view (Ok n) = Ok n
 number_view (Err f) = Err (fault_view f.0, f.1)
 
 -- a token and where it stops, or why and where it is refused
-abbrev pub scan_view : Result (Sort × ℕ) (Fault × ℕ) → Result (sort.Sort × ℕ) (fault.Fault × ℕ)
+abbrev pub scan_view : Result (Sort × ℕ) (LexFault × ℕ) → Result (sort.Sort × ℕ) (fault.LexFault × ℕ)
 scan_view (Ok t) = Ok (sort_view t.0, t.1)
 scan_view (Err f) = Err (fault_view f.0, f.1)

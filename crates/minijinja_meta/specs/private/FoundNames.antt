@@ -35,7 +35,8 @@ pub record IsLogged (s : Names) : Type 0 where
   pub same : (y : Text) → among y s.stored ≡ has y (log s)
   pub once : AreOnce (log s)
 
--- what the first finds where these are met before, the second finds, and what was stored before is still on its log
+-- what the first finds where these are met before, the second finds, and what was stored before is
+-- still on its log
 pub record Walks (s t : Names) (v : Way → Way) : Type 0 where
   pub logged : IsLogged t
   pub finds : (w : Way) (y : Text) → finds s (v w) y ≡ finds t w y

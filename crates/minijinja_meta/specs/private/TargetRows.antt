@@ -1,10 +1,10 @@
--- What is left of the lists in a target, the innermost last.
+-- The rest of the lists in a target, the innermost one last.
 use Rattle.std.specs.Prelude.{ℕ, suc, ◌+◌, ◌*◌, List, [], ◌∷◌}
 use Rattle.std.specs.Borrow.{Bor}
 use Rattle.minijinja_tree.specs.Erasure.{exprs_of}
 use Rattle.minijinja_tree.specs.FreeNames.{Way, to_targets}
 use Rattle.minijinja_tree.specs.Tree.{Expr, list, Exprs, no_more, more}
-use Rattle.minijinja_expressions.specs.declared.ast.Expr.{Expr as Node}
+use Rattle.minijinja_tree_expr.specs.declared.ast.Expr.{Expr as Node}
 
 -- the way through all of them
 abbrev pub rows_to : {V F C : Type 0} → (V → C) → List (Bor (List (Node V F))) → Way → Way

@@ -2,7 +2,7 @@
 use Rattle.std.specs.Prelude.{codes}
 use Rattle.minijinja_tree.specs.FreeNames.{Way, end, stores, region, through, through_stmt, through_stmts, through_macro}
 use Rattle.minijinja_tree.specs.Tree.{Stmt, if_cond, Macro}
-use Rattle.minijinja_tree.specs.private.BlockNames.{many}
+use Rattle.minijinja_tree.specs.internal.BlockNames.{many}
 
 -- the way through a part that is a region
 abbrev pub in_region : (Way → Way) → Way → Way

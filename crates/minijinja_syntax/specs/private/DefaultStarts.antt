@@ -12,7 +12,7 @@ pub record HasDefaultStarts (s : Syntax) : Type 0 where
 abbrev pub braced_marker : ℕ → Option StartMarker
 braced_marker b = if b == 123 then Some Variable else (if b == 37 then Some Block else (if b == 35 then Some Comment else None))
 
--- the syntax can be built, and its start markers sought by their `{` where it is said so
+-- the syntax can be built, and all its start markers begin with `{` if the flag says so
 pub record MayBeSearched (s : Syntax) (by_brace : Bool) : Type 0 where
   pub built : IsBuildable s
   pub starts : by_brace ≡ true → HasDefaultStarts s

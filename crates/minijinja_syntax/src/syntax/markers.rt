@@ -54,7 +54,7 @@ fn byte_at(text: &[u8], at: usize) -> u8
     if at < text.len() { text[at] } else { 0 }
 }
 
-/// Whether the delimiter stands at the place, which is mostly told by its first byte.
+/// Whether the delimiter stands at the place. Its first byte mostly decides.
 #[inline(always)]
 fn bytes_stand_at(text: &[u8], at: usize, delimiter: &[u8]) -> bool
     requires some { 0 < length delimiter.now }
@@ -64,7 +64,8 @@ fn bytes_stand_at(text: &[u8], at: usize, delimiter: &[u8]) -> bool
     byte_at(text, at) == delimiter[0] && text[at..].starts_with(delimiter)
 }
 
-/// Whether the delimiter stands in the text at the byte `at`, which is then between characters on both sides.
+/// Whether the delimiter stands in the text at the byte `at`. If so, the text can be cut before and
+/// after it.
 #[inline(always)]
 pub fn stands_at(text: &str, at: usize, delimiter: &str) -> bool
     requires some { 0 < length delimiter.now }
@@ -104,7 +105,7 @@ fn starts_line(text: &[u8], at: usize) -> bool
     true
 }
 
-/// The same of the next place, from what is known of this one.
+/// Whether a line starts at the next place, given whether one starts at this place.
 fn next_starts_line(text: &[u8], at: usize, line_start: bool) -> bool
     requires { at < length text.now }
     ensures { line_start ≡ starts_line text.now at → result ≡ starts_line text.now (at + 1) }
@@ -152,8 +153,8 @@ fn default_marker_at(text: &[u8], at: usize) -> Option<StartMarker>
     }
 }
 
-/// The first place at or after the byte `offset` where a marker begins, or the end of the text, where the start
-/// delimiters are the default ones.
+/// The first place at or after the byte `offset` where a marker begins, or the end of the text, for
+/// a syntax with the default start delimiters.
 #[inline(never)]
 fn next_default_place(text: &[u8], offset: usize) -> usize
     requires { offset ≤ length text.now }
@@ -173,7 +174,8 @@ fn next_default_place(text: &[u8], offset: usize) -> usize
     text.len()
 }
 
-/// See [`SyntaxConfig::find_marker`]: of a syntax whose start delimiters are the default ones, with both prefixes off.
+/// What [`SyntaxConfig::find_marker`] returns for a syntax with the default start delimiters and
+/// with both prefixes off.
 #[inline]
 pub(super) fn find_default_marker(
     source: &str,
@@ -184,7 +186,7 @@ pub(super) fn find_default_marker(
         offset }
 {
     let text = source.as_bytes();
-    // A tag is sought once more where it begins: that is to cost next to nothing.
+    // The tokenizer searches again at the place of each tag, so that case is tested first.
     match default_marker_at(text, offset) {
         Some(marker) => Some((0, marker, DEFAULT_START_LEN)),
         None => {
@@ -281,7 +283,7 @@ impl Settings {
         }
     }
 
-    /// What [`Settings::marker_at`] gives, which is asked only where the byte may begin a marker.
+    /// What [`Settings::marker_at`] returns. It is called only if the byte may begin a marker.
     #[inline(always)]
     fn candidate_at(
         &self,
@@ -304,7 +306,7 @@ impl Settings {
         }
     }
 
-    /// See [`SyntaxConfig::find_marker`]: of any syntax.
+    /// What [`SyntaxConfig::find_marker`] returns, for any syntax.
     #[inline(never)]
     pub(super) fn find_marker(
         &self,

@@ -1,4 +1,4 @@
-//! Maps and copies of values.
+//! How maps are built, and values copied.
 ghost use Rattle.std.specs.Prelude.{◌≡◌, IfOk, OnOk, OnErr};
 ghost use Rattle.minijinja_value.specs.Outcomes.{map_pairs};
 ghost use Rattle.minijinja_value.specs.ValueFunctions as spec;
@@ -8,7 +8,7 @@ use super::compare::position_of_key;
 use super::{Value, ValueMap};
 use std::alloc::{AllocError, Global};
 
-/// The pairs put one after another: an equal key keeps its place and takes the new value.
+/// Puts the pairs one after another: an equal key keeps its place and takes the new value.
 pub(super) fn distinct(
     alloc: Global,
     pairs: Vec<(Value, Value)>,
@@ -23,7 +23,7 @@ pub(super) fn distinct(
     Ok(made)
 }
 
-/// Puts a value for a key.
+/// Puts a value for a key. An equal key keeps its place and takes the new value.
 pub(super) fn put(
     made: &mut Vec<(Value, Value)>,
     key: Value,
@@ -40,6 +40,7 @@ pub(super) fn put(
     Ok(())
 }
 
+/// A value with equal contents and memory of its own.
 #[cycle(copy)]
 pub(super) fn copy(value: &Value) -> Result<Value, AllocError>
     ensures { IfOk result (λ v. contents_of v ≡ contents_of value.now) }

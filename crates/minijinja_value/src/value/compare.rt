@@ -1,11 +1,13 @@
 //! When two values are equal, and their order.
 ghost use Rattle.std.specs.Prelude.{◌≡◌, ◌&&◌, ◌==◌};
+ghost use Rattle.minijinja_value.specs.ValueContents as contents;
 ghost use Rattle.minijinja_value.specs.ValueComparison as spec;
 ghost use Rattle.minijinja_value.specs.ValueViews.{contents_of, items_view, pairs_view};
 
 use super::Value;
 use std::cmp::Ordering;
 
+/// Whether two values of one kind hold equal things, or both are undefined.
 #[cycle(equals)]
 pub(super) fn equals(left: &Value, right: &Value) -> bool
     ensures { result ≡ spec.equals (contents_of left.now) (contents_of right.now) }
@@ -65,6 +67,7 @@ fn pairs_equal(pairs: &Vec<(Value, Value)>, others: &Vec<(Value, Value)>) -> boo
     true
 }
 
+/// The order of two values, if they have one.
 #[cycle(order)]
 pub(super) fn order(left: &Value, right: &Value) -> Option<Ordering>
     ensures { result ≡ spec.order (contents_of left.now) (contents_of right.now) }
@@ -112,6 +115,26 @@ pub(super) fn position_of_key(pairs: &Vec<(Value, Value)>, key: &Value) -> Optio
 {
     for (i, pair) in pairs.iter().enumerate() {
         if equals(&pair.0, key) {
+            return Some(i);
+        }
+    }
+    None
+}
+
+/// Whether a value is this text.
+fn is_text(value: &Value, key: &str) -> bool
+    ensures { result ≡ spec.equals (contents_of value.now) (contents.text key.now) }
+{
+    matches!(value, Value::String(own) if own.as_str() == key)
+}
+
+/// The place of the first key that is this text.
+pub(super) fn position_of_text(pairs: &Vec<(Value, Value)>, key: &str) -> Option<usize>
+    ensures { result ≡ spec.position_of_key (contents.text key.now)
+        (pairs_view pairs.now.items) }
+{
+    for (i, pair) in pairs.iter().enumerate() {
+        if is_text(&pair.0, key) {
             return Some(i);
         }
     }

@@ -11,7 +11,7 @@ ghost use Rattle.minijinja_value.specs.Integers.{signed, in_range, is_zero, coun
 use std::cmp::Ordering;
 use std::marker::Model;
 
-/// An integer from -2^127 to 2^128 - 1: the numbers of both 128 bit types. Contracts see the number.
+/// An integer from -2^127 to 2^128 - 1: a number of either 128-bit type. Contracts see the number.
 #[derive(Clone, Copy)]
 pub struct Integer {
     is_negative: bool,
@@ -225,7 +225,7 @@ impl PartialOrd for Integer {
     }
 }
 
-/// By the numbers.
+/// Ordered as numbers.
 impl Ord for Integer {
     ghost cmp = { int_cmp };
 

@@ -1,49 +1,35 @@
 //! The operators of values.
-ghost use Rattle.std.specs.Prelude.{◌≡◌, IfOk, OnOk, ◌++◌, string_bytes, ◌+ℤ◌, ◌-ℤ◌, ◌*ℤ◌};
+ghost use Rattle.std.specs.Prelude.{◌≡◌, IfOk, ◌+ℤ◌, ◌-ℤ◌, ◌*ℤ◌};
 ghost use Rattle.minijinja_value.specs.Outcomes.{IsOutcome, IsNotOutOfMemory};
 ghost use Rattle.minijinja_value.specs.ValueFunctions as spec;
-ghost use Rattle.minijinja_value.specs.ValueWords.{joined_words};
+ghost use Rattle.minijinja_value.specs.ValueWords.{rendered};
 ghost use Rattle.minijinja_value.specs.ValueViews.{contents_of};
 
 use super::compare::{has_item, position_of_key};
-use super::{Integer, OpError, Text, Value, ValueFault};
+use super::{Integer, OpError, Rendered, Text, Value, ValueFault};
 use std::alloc::{AllocError, Global};
 
-/// The texts of two values, joined. The first one's memory is used.
+/// The texts of two values joined, in the memory of the first where it has some.
 pub(super) fn concat(left: Value, alloc: Global, right: &Value) -> Result<Value, AllocError>
     ensures { IfOk result
         (λ v. contents_of v ≡ spec.concat (contents_of left) (contents_of right.now)) }
 {
     let text = match left {
         Value::String(own) => own,
-        other => joined_text(alloc, &other)?,
+        other => rendered_text(alloc, &other)?,
     };
     let text = match right {
         Value::String(own) => text.followed_by(alloc, own.as_str())?,
-        other => text.followed_by(alloc, joined_text(alloc, other)?.as_str())?,
+        other => text.followed_by(alloc, rendered_text(alloc, other)?.as_str())?,
     };
     Ok(Value::String(text))
 }
 
-/// What a value stands for in a joined text.
-fn joined_text(alloc: Global, value: &Value) -> Result<Text, AllocError>
-    ensures { IfOk result (λ t. t ≡ joined_words (contents_of value.now)) }
+/// What a template prints for a value.
+fn rendered_text(alloc: Global, value: &Value) -> Result<Text, AllocError>
+    ensures { IfOk result (λ t. t ≡ rendered (contents_of value.now)) }
 {
-    let mut text = String::new(alloc);
-    push_joined(&mut text, value)?;
-    Ok(Text::from_string(text))
-}
-
-/// Adds what a value stands for in a joined text.
-fn push_joined(text: &mut String, value: &Value) -> Result<(), AllocError>
-    ensures { OnOk result
-        (string_bytes text.new ≡ string_bytes text.old ++ joined_words (contents_of value.now)) }
-{
-    match value {
-        Value::Undefined | Value::SilentUndefined => Ok(()),
-        Value::String(own) => text.push_str(own.as_str()),
-        _ => write!(text, "{value}"),
-    }
+    Ok(Text::from_string(Rendered(value).to_string(alloc)?))
 }
 
 /// Whether an item is in a value.
@@ -72,7 +58,7 @@ fn has_text(text: &str, part: &str) -> bool
     text.contains(part)
 }
 
-/// The integer that a value is.
+/// The integer that a value holds, if it holds one.
 fn as_integer(value: &Value) -> Option<Integer>
     ensures { result ≡ spec.as_integer (contents_of value.now) }
 {
@@ -82,7 +68,7 @@ fn as_integer(value: &Value) -> Option<Integer>
     }
 }
 
-/// An integer that was in range, or that it was not.
+/// The value of an integer in range, and an overflow for one that was not.
 fn or_overflow(number: Option<Integer>) -> Result<Value, OpError<ValueFault>>
     ensures outcome { IsOutcome contents_of (λ f. f) (spec.or_overflow number) result }
     ensures needs_no_memory { IsNotOutOfMemory result }

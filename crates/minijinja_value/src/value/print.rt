@@ -2,14 +2,14 @@
 ghost use Rattle.std.specs.Prelude.{◌≡◌, ◌<◌, ◌∷◌, [], Some, MatchOption, OnSome};
 ghost use Rattle.std.specs.Fmt.{WritesOnOk, signed_decimal};
 ghost use Rattle.minijinja_syntax.specs.Quotes.{escaped, quoted};
-ghost use Rattle.minijinja_value.specs.ValueWords.{words, joined, each_words, pair_words};
+ghost use Rattle.minijinja_value.specs.ValueWords.{words, rendered, joined, each_words, pair_words};
 ghost use Rattle.minijinja_value.specs.ValueViews.{contents_of, items_view, pairs_view};
 
 use super::{Integer, Value};
 use std::fmt;
 
-/// `undefined`, `silent`, `none`, `true`, `false`, a decimal, a quoted text, `[a, b]`, `(a, b)`, `(a,)`, `{k: v}` or
-/// `kwargs{k: v}`.
+/// Prints `undefined`, `silent`, `none`, `true`, `false`, a decimal, a quoted text, `[a, b]`, `(a,
+/// b)`, `(a,)`, `{k: v}` or `kwargs{k: v}`.
 impl fmt::Display for Value {
     ghost output = { λ v. Some (words (contents_of v)) };
 
@@ -85,7 +85,24 @@ fn show_pairs<W: fmt::Write>(pairs: &Vec<(Value, Value)>, f: &mut fmt::Formatter
     Ok(())
 }
 
-/// A decimal.
+/// A value as a template prints it: a text as it is, without quotes, both undefined as nothing, and
+/// any other value as its own `Display` does.
+#[derive(Clone, Copy, Debug)]
+pub struct Rendered<'v>(pub &'v Value);
+
+impl fmt::Display for Rendered<'_> {
+    ghost output = { λ r. Some (rendered (contents_of r.0.now)) };
+
+    fn fmt<W: fmt::Write>(&self, f: &mut fmt::Formatter<W>) -> fmt::Result {
+        match self.0 {
+            Value::Undefined | Value::SilentUndefined => Ok(()),
+            Value::String(text) => f.write_str(text.as_str()),
+            other => show(other, f),
+        }
+    }
+}
+
+/// Prints a decimal.
 impl fmt::Display for Integer {
     ghost output = { λ z. Some (signed_decimal z) };
 
@@ -99,14 +116,15 @@ impl fmt::Display for Integer {
     }
 }
 
-/// As it is printed.
+/// Prints as `Display` does.
 impl fmt::Debug for Integer {
     fn fmt<W: fmt::Write>(&self, f: &mut fmt::Formatter<W>) -> fmt::Result {
         fmt::Display::fmt(self, f)
     }
 }
 
-/// A text that is shown between quotes, with `"`, `\`, newline, return and tab as `\"`, `\\`, `\n`, `\r` and `\t`.
+/// A text that prints between quotes, with `"`, `\`, newline, return and tab as `\"`, `\\`, `\n`,
+/// `\r` and `\t`.
 #[derive(Clone, Copy, Debug)]
 pub struct Quoted<'t>(pub &'t str);
 

@@ -7,10 +7,11 @@ use std::alloc::{AllocError, Global};
 use std::fmt;
 use std::marker::Model;
 
-/// The most bytes of a text that takes no memory.
+/// The most bytes of a text that allocates nothing.
 pub const MOST_SHORT_BYTES: usize = 24;
 
-/// A text that does not change. Contracts see its bytes. A short one stands in the value itself and takes no memory.
+/// A text that does not change. Contracts see its bytes. A short one is kept in the value itself
+/// and allocates nothing.
 #[derive(Drop)]
 pub struct Text {
     form: Form,
@@ -47,7 +48,7 @@ impl Text {
         Ok(Text { form })
     }
 
-    /// The text of a string, whose memory is let go where the text is short.
+    /// The text of a string, whose memory is freed where the text is short.
     pub fn from_string(text: String) -> Text
         ensures { result ≡ string_bytes text }
     {
@@ -65,7 +66,8 @@ impl Text {
         self.form.as_str()
     }
 
-    /// The text with another one after it. A long one grows in its own memory, so that a row of texts is joined in linear time.
+    /// The text with another one after it. A long text grows in its own memory, so joining many
+    /// texts one after another takes linear time.
     pub fn followed_by(self, alloc: Global, after: &str) -> Result<Text, AllocError>
         ensures value { IfOk result (λ t. t ≡ self ++ after.now) }
         ensures needs_no_memory { length (self ++ after.now) ≤ MOST_SHORT_BYTES →
@@ -81,7 +83,7 @@ impl Text {
         Ok(Text { form })
     }
 
-    /// The same text, with memory of its own.
+    /// A copy with memory of its own.
     pub fn try_clone(&self) -> Result<Text, AllocError>
         ensures value { IfOk result (λ t. t ≡ self.now) }
         ensures needs_no_memory { length self.now ≤ MOST_SHORT_BYTES → IsOk result }
@@ -105,7 +107,7 @@ impl Form {
     }
 }
 
-/// Two texts in one.
+/// Two texts joined.
 fn joined(alloc: Global, first: &str, second: &str) -> Result<Form, AllocError>
     ensures value { IfOk result (λ form. form_bytes form ≡ first.now ++ second.now) }
     ensures fits { IfOk result IsFitting }
@@ -122,7 +124,7 @@ fn joined(alloc: Global, first: &str, second: &str) -> Result<Form, AllocError>
     Ok(Form::Long(long))
 }
 
-/// As that of a `str`.
+/// Prints as a `str` does.
 impl fmt::Debug for Text {
     fn fmt<W: fmt::Write>(&self, f: &mut fmt::Formatter<W>) -> fmt::Result {
         fmt::Debug::fmt(&self.as_str(), f)

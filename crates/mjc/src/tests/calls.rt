@@ -1,4 +1,6 @@
-//! Call blocks. But where said, the rows are the upstream program's.
+//! Call blocks.
+//!
+//! Unless a test says otherwise, its rows are the upstream program's.
 use super::statements::RefusedSomewhere;
 use super::{Code, hold};
 use std::test::Fail;
@@ -54,7 +56,8 @@ fn each_statement_in_a_call_block(rt: HostRuntime) -> Result<(), Fail> {
     hold::<Code>(&rt, rt.alloc(), rows)
 }
 
-/// The same where something differs: a macro encloses what its defaults name, and a `DiscardTop` drops what is left.
+/// Rows that differ from the upstream program's: a macro encloses what its defaults name, and a
+/// `DiscardTop` drops what is left.
 #[test]
 fn what_differs_in_a_call_block(rt: HostRuntime) -> Result<(), Fail> {
     let rows = r#"

@@ -1,4 +1,6 @@
-//! Expressions and the code that the upstream program gives for them, constants folded by this project's values.
+//! Expressions, and the upstream program's code for them.
+//!
+//! Constants are folded as this project's values are.
 use super::{Subject, after_head, hold, output};
 use std::alloc::Global;
 use std::test::Fail;
@@ -181,8 +183,8 @@ impl Subject for Refused {
     }
 }
 
-/// The places are the upstream program's but in three rows: it reads the first, and gives no place for a float and a bad
-/// escape, which stand after the integer digits and at the string.
+/// The places are the upstream program's but in three rows: it reads the first, and gives no place
+/// for a float and a bad escape, which stand after the integer digits and at the string.
 #[test]
 fn refusals_name_their_place(rt: HostRuntime) -> Result<(), Fail> {
     let rows = r#"

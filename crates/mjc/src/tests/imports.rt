@@ -1,4 +1,6 @@
-//! What joins templates: `include`, `import` and `from`. But where said, the rows are the upstream program's.
+//! Statements that join templates: `include`, `import` and `from`.
+//!
+//! Unless a test says otherwise, its rows are the upstream program's.
 use super::statements::RefusedSomewhere;
 use super::{Code, hold};
 use std::test::Fail;
@@ -18,7 +20,7 @@ fn includes(rt: HostRuntime) -> Result<(), Fail> {
     hold::<Code>(&rt, rt.alloc(), rows)
 }
 
-/// The upstream program's, but for the `DiscardTop` that drops what is captured.
+/// The upstream program's rows, except for the `DiscardTop` that drops what is captured.
 #[test]
 fn imports(rt: HostRuntime) -> Result<(), Fail> {
     let rows = r#"
@@ -74,7 +76,8 @@ fn templates_in_each_statement(rt: HostRuntime) -> Result<(), Fail> {
     hold::<Code>(&rt, rt.alloc(), rows)
 }
 
-/// `import` and `from` in each statement: the upstream program's, but for the `DiscardTop` that drops what is captured.
+/// `import` and `from` in each statement: the upstream program's, except for the `DiscardTop` that
+/// drops what is captured.
 #[test]
 fn imports_in_each_statement(rt: HostRuntime) -> Result<(), Fail> {
     let rows = r#"

@@ -1,4 +1,6 @@
-//! Macros. But where said, the rows are the upstream program's.
+//! Macros.
+//!
+//! Unless a test says otherwise, its rows are the upstream program's.
 use super::statements::RefusedSomewhere;
 use super::{Code, hold};
 use std::test::Fail;
@@ -52,7 +54,8 @@ fn each_statement_in_a_macro(rt: HostRuntime) -> Result<(), Fail> {
     hold::<Code>(&rt, rt.alloc(), rows)
 }
 
-/// The same where something differs: a macro encloses what its defaults name, and a `DiscardTop` drops what is left.
+/// Rows that differ from the upstream program's: a macro encloses what its defaults name, and a
+/// `DiscardTop` drops what is left.
 #[test]
 fn what_differs_in_a_macro(rt: HostRuntime) -> Result<(), Fail> {
     let rows = r#"
@@ -81,7 +84,8 @@ fn a_macro_in_each_statement(rt: HostRuntime) -> Result<(), Fail> {
     hold::<Code>(&rt, rt.alloc(), rows)
 }
 
-/// A macro encloses all that it uses before it has it: these are the upstream program's but for what it does not see, or sees too late.
+/// A macro encloses all that it uses before it has it: these are the upstream program's except for
+/// what it does not see, or sees too late.
 #[test]
 fn what_a_macro_encloses(rt: HostRuntime) -> Result<(), Fail> {
     let rows = r#"

@@ -1,6 +1,6 @@
-//! How each kind of token is printed.
-use minijinja_commands::PrintedToken;
+//! The printed form of each kind of token.
 use minijinja_compiler::tokens::Token;
+use mjc_commands::PrintedToken;
 use std::process::Abort;
 use std::test::Fail;
 

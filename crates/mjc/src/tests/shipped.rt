@@ -1,5 +1,7 @@
-//! The templates that stand under `templates/` at the top of the repository, and what they compile to. The gate looks up that
-//! these are the same texts (`.ci/templates`), since a test reads no file.
+//! The templates under `templates/` at the top of the repository, and their code.
+//!
+//! Since a test reads no file, the texts stand here again; the gate compares them
+//! (`.ci/templates`).
 mod deployment;
 mod form;
 mod layout;

@@ -1,4 +1,6 @@
-//! The code of statements. But where said, the rows are the upstream program's.
+//! The code of statements.
+//!
+//! Unless a test says otherwise, its rows are the upstream program's.
 use super::words::Commands;
 use super::{CODE, Code, Subject, hold, output, parted};
 use std::alloc::Global;

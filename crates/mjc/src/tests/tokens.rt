@@ -1,4 +1,4 @@
-//! The lines of `mjc tokens`.
+//! The lines that `mjc tokens` prints.
 use super::words::Commands;
 use super::{Short, Subject, hold, output, status_of_run};
 use std::alloc::Global;
@@ -39,8 +39,8 @@ fn prints_the_tokens_before_a_refusal(rt: HostRuntime) -> Result<(), Fail> {
     hold::<Tokens>(&rt, rt.alloc(), rows)
 }
 
-/// An end that begins with whitespace is met after a control byte alone. The words of an option may begin as options do, and the
-/// last of a repeated one counts.
+/// An end that begins with whitespace is met after a control byte alone. The words of an option may
+/// begin as options do, and the last of a repeated one counts.
 #[test]
 fn heeds_options(rt: HostRuntime) -> Result<(), Fail> {
     let rows = r#"

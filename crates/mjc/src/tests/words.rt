@@ -1,4 +1,4 @@
-//! The words of a command, and the syntax that its options ask for.
+//! The words of a command, and the syntax that its options specify.
 use super::{GREETING, Subject, Trickle, hold, output, parted};
 use std::alloc::Global;
 use std::io::{self, Read};
@@ -23,7 +23,7 @@ impl Subject for Commands {
     }
 }
 
-/// Commands: what they print but for how the program is called.
+/// Commands: what they print, without the line on how the program is called.
 enum Misused {}
 
 impl Subject for Misused {

@@ -1,20 +1,20 @@
 use Rattle.std.proofs.Common.{ap, arith, subst}
 use Rattle.minijinja_tree.specs.Erasure.{stmt_tree}
-use Rattle.minijinja_expression_code.specs.private.Making.{Adds, made_of}
-use Rattle.minijinja_statement_code.specs.private.Statements.{stmt_piece}
-use Rattle.minijinja_statement_parts.specs.private.Turns.{Around}
-use Rattle.minijinja_statement_code.proofs.Bodies.{root_stands}
-use Rattle.minijinja_statement_parts.proofs.Rounds.{bytes_outside, stmt_outside}
+use Rattle.minijinja_code_expr.specs.internal.Making.{Adds, made_of}
+use Rattle.minijinja_code.specs.private.Statements.{stmt_piece}
+use Rattle.minijinja_code_parts.specs.internal.EnclosingLoops.{Around}
+use Rattle.minijinja_code.proofs.Bodies.{root_stands}
+use Rattle.minijinja_code_parts.proofs.Rounds.{bytes_outside, stmt_outside}
 use Rattle.minijinja_code.proofs.codegen.compile_stmt.Goals as goal
 
 pub statement-requires : goal.statement-requires
-statement-requires g c = root_stands _ (stmt_tree g.V.TemplateValue.contents c.args.stmt.now) (ap (λ (t : Around). t.in_loop) c.outside-turn.ensures) c.requires
+statement-requires g c = root_stands _ (stmt_tree g.V.TemplateValue.contents c.args.stmt.now) (ap (λ (t : Around). t.in_loop) c.outside-enclosing.ensures) c.requires
 
 pub returns-clause-added : goal.returns-clause-added
 returns-clause-added g c =
     let tree = stmt_tree g.V.TemplateValue.contents c.args.stmt.now in
     subst (λ m. Adds m (made_of g.V.TemplateValue.contents c.statement.new.code) (stmt_piece g.V.TemplateValue.functions tree)) c.in_ok-make_room.ensures
-    (stmt_outside g.V.TemplateValue.functions tree c.outside-turn.ensures c.in_ok-statement.ensures)
+    (stmt_outside g.V.TemplateValue.functions tree c.outside-enclosing.ensures c.in_ok-statement.ensures)
 
 pub returns-clause-counted : goal.returns-clause-counted
-returns-clause-counted g c = bytes_outside _ c.outside-turn.ensures c.in_ok-statement.ensures c.data_bytes.ensures (omega arith)
+returns-clause-counted g c = bytes_outside _ c.outside-enclosing.ensures c.in_ok-statement.ensures c.data_bytes.ensures (omega arith)

@@ -5,19 +5,19 @@ use Rattle.minijinja_tree.specs.Tree.{blocks}
 use Rattle.minijinja_tree.specs.SpannedTrees.{bare_stmt}
 use Rattle.minijinja_tree.specs.SpannedErasure.{stmt_node}
 use Rattle.minijinja_tree.proofs.Bare.{stmt_is}
-use Rattle.minijinja_meaning.specs.Jumps.{LeadsWell}
-use Rattle.minijinja_meaning.specs.Pieces.{start}
-use Rattle.minijinja_meaning.proofs.Leads.{layout_leads_well}
+use Rattle.minijinja_semantics.specs.Jumps.{LeadsWell}
+use Rattle.minijinja_semantics.specs.Pieces.{start}
+use Rattle.minijinja_semantics.proofs.Leads.{layout_leads_well}
 use Rattle.minijinja_instructions.specs.Instructions.{code_of}
-use Rattle.minijinja_meaning.specs.Layout.{stmt_code}
-use Rattle.minijinja_meaning.specs.Correct.{DoesStmt}
-use Rattle.minijinja_meaning.specs.Places.{placed_stmt}
-use Rattle.minijinja_meaning.specs.Units.{DoUnits}
-use Rattle.minijinja_code.specs.private.AtGenerator.{generated, here_so_far}
+use Rattle.minijinja_semantics.specs.Layout.{stmt_code}
+use Rattle.minijinja_semantics.specs.Correct.{DoesStmt}
+use Rattle.minijinja_semantics.specs.Places.{placed_stmt}
+use Rattle.minijinja_semantics.specs.Units.{DoUnits}
+use Rattle.minijinja_code.specs.internal.AtGenerator.{generated, here_so_far}
 use Rattle.minijinja_code.specs.Generator.{HaveTooLong, OnlyWhereOneIsTooLong}
 use Rattle.minijinja_code.specs.Hint.{IsHint, data_bytes}
 use Rattle.minijinja_compiler.proofs.BlockNames.{compiled_lists}
-use Rattle.minijinja_compiler.proofs.Parts.{whole_code, whole_does, limit_of_parser, never_refusal, never_another, too_long_lists, unkept, hint_of_all}
+use Rattle.minijinja_compiler.proofs.Parts.{whole_code, whole_does, limit_of_parser, never_refusal, generator_unplaced, never_another, parser_unplaced, too_long_lists, unkept, hint_of_all}
 use Rattle.minijinja_compiler.proofs.compile.compile.Goals as goal
 
 pub returns-clause-compiled : goal.returns-clause-compiled
@@ -46,6 +46,7 @@ returns-clause-compiled g c =
           (subst (λ is. DoUnits f is tree start) (sym finished) (subst (λ h. DoUnits f after tree h) c.new-generator.ensures.here done.units));
       few = subst (λ is. length is < 2 ^ 32) (sym finished) done.few;
       leads = subst LeadsWell (sym (whole_code before after code (here_so_far v made) (stmt_code f tree) empty c.new-generator.ensures.here done.added finished)) (layout_leads_well f tree c.in_ok-template.ensures.well_formed);
+      required = c.finish-instructions.ensures.required;
       hint = subst (λ t. IsHint (data_bytes t) c.buffer_size_hint-buffer_size_hint.result) (sym bare) (hint_of_all (data_bytes tree) _ _ c.buffer_size_hint-buffer_size_hint.result c.new-generator.ensures.bytes done.counted c.buffer_size_hint-buffer_size_hint.ensures);
       lists = compiled_lists f v _ _ _ _ (blocks (bare_stmt (stmt_node v c.in_ok-template.template))) (blocks tree) _ _ _ c.new-generator.ensures.blocks done.blocks
           c.finish-instructions.ensures.blocks c.new-generator.ensures.source c.new-generator.ensures.name (ap (λ t. blocks t) bare);
@@ -57,6 +58,10 @@ pub returns-in_err-compile_stmt-clause-refused : goal.returns-in_err-compile_stm
 returns-in_err-compile_stmt-clause-refused g c =
     never_refusal _ _ c.in_err-compile_stmt.field-0.0 _ c.new-generator.ensures.refusal c.in_err-compile_stmt.ensures.causes c.from_residual-in_err-compile_stmt.ensures.1
 
+pub returns-in_err-compile_stmt-clause-unplaced : goal.returns-in_err-compile_stmt-clause-unplaced
+returns-in_err-compile_stmt-clause-unplaced g c =
+    generator_unplaced _ c.in_err-compile_stmt.field-0.0 _ c.new-generator.ensures.refusal c.in_err-compile_stmt.ensures.unplaced c.from_residual-in_err-compile_stmt.ensures.1
+
 pub returns-in_err-compile_stmt-clause-named : goal.returns-in_err-compile_stmt-clause-named
 returns-in_err-compile_stmt-clause-named g c =
     never_another _ _ c.in_err-compile_stmt.field-0.0 _ c.new-generator.ensures.refusal c.in_err-compile_stmt.ensures.causes c.from_residual-in_err-compile_stmt.ensures.1
@@ -66,6 +71,11 @@ pub returns-in_err-template-clause-refused : goal.returns-in_err-template-clause
 returns-in_err-template-clause-refused g c =
     let p = err_from_is_err_and c.from_residual.result c.from_residual.ensures.1 in
     rw (p.1, p.2) c.in_err-template.ensures.refused
+
+pub returns-in_err-template-clause-unplaced : goal.returns-in_err-template-clause-unplaced
+returns-in_err-template-clause-unplaced g c =
+    let p = err_from_is_err_and c.from_residual.result c.from_residual.ensures.1 in
+    rw (p.1, p.2) (parser_unplaced c.in_err-template.field-0.0 c.in_err-template.ensures.causes c.in_err-template.ensures.unplaced)
 
 pub returns-in_err-template-clause-accepted : goal.returns-in_err-template-clause-accepted
 returns-in_err-template-clause-accepted g c = λ t d.

@@ -3,16 +3,16 @@ use Rattle.std.proofs.lemmas.Result.{err_from_is_err_and}
 use Rattle.minijinja_tree.specs.Erasure.{expr_tree}
 use Rattle.minijinja_tree.specs.SpannedTrees.{bare_expr}
 use Rattle.minijinja_tree.specs.SpannedErasure.{expr_node}
-use Rattle.minijinja_expressions.proofs.Bare.{expr_is}
-use Rattle.minijinja_meaning.specs.Jumps.{LeadsWell}
-use Rattle.minijinja_meaning.specs.Pieces.{start}
-use Rattle.minijinja_meaning.proofs.Leads.{expression_leads_well}
+use Rattle.minijinja_tree_expr.proofs.Bare.{expr_is}
+use Rattle.minijinja_semantics.specs.Jumps.{LeadsWell}
+use Rattle.minijinja_semantics.specs.Pieces.{start}
+use Rattle.minijinja_semantics.proofs.Leads.{expression_leads_well}
 use Rattle.minijinja_instructions.specs.Instructions.{code_of}
-use Rattle.minijinja_meaning.specs.Layout.{expr_code}
-use Rattle.minijinja_meaning.specs.Correct.{DoesExpr}
+use Rattle.minijinja_semantics.specs.Layout.{expr_code}
+use Rattle.minijinja_semantics.specs.Correct.{DoesExpr}
 use Rattle.minijinja_code.specs.Generator.{OnlyWhereTooLong}
-use Rattle.minijinja_code.specs.private.AtGenerator.{generated, here_so_far}
-use Rattle.minijinja_compiler.proofs.Parts.{whole_code, whole_does, limit_of_parser, never_refusal, never_another, too_long_list, unkept}
+use Rattle.minijinja_code.specs.internal.AtGenerator.{generated, here_so_far}
+use Rattle.minijinja_compiler.proofs.Parts.{whole_code, whole_does, limit_of_parser, never_refusal, generator_unplaced, never_another, parser_unplaced, too_long_list, unkept}
 use Rattle.minijinja_compiler.proofs.compile.compile_expression.Goals as goal
 
 pub returns-clause-compiled : goal.returns-clause-compiled
@@ -37,6 +37,7 @@ returns-clause-compiled g c =
       does = subst (λ t. DoesExpr f code 0 (length code) t) (sym bare) (whole_does (λ is from to. DoesExpr f is from to tree) before after code empty done.does finished);
       few = subst (λ is. length is < 2 ^ 32) (sym finished) done.few;
       leads = subst LeadsWell (sym (whole_code before after code (here_so_far v made) (expr_code f tree) empty c.new-generator.ensures.here done.added finished)) (expression_leads_well f tree);
+      required = c.finish-instructions.ensures.required;
       name = c.finish-instructions.ensures.name ∙ done.name ∙ c.new-generator.ensures.name;
       text = c.finish-instructions.ensures.source ∙ done.source ∙ c.new-generator.ensures.source;
     }
@@ -44,6 +45,10 @@ returns-clause-compiled g c =
 pub returns-in_err-compile_expr-clause-refused : goal.returns-in_err-compile_expr-clause-refused
 returns-in_err-compile_expr-clause-refused g c =
     never_refusal _ _ c.in_err-compile_expr.field-0.0 _ c.new-generator.ensures.refusal c.in_err-compile_expr.ensures.causes c.from_residual-in_err-compile_expr.ensures.1
+
+pub returns-in_err-compile_expr-clause-unplaced : goal.returns-in_err-compile_expr-clause-unplaced
+returns-in_err-compile_expr-clause-unplaced g c =
+    generator_unplaced _ c.in_err-compile_expr.field-0.0 _ c.new-generator.ensures.refusal c.in_err-compile_expr.ensures.unplaced c.from_residual-in_err-compile_expr.ensures.1
 
 pub returns-in_err-compile_expr-clause-named : goal.returns-in_err-compile_expr-clause-named
 returns-in_err-compile_expr-clause-named g c =
@@ -54,6 +59,11 @@ pub returns-in_err-expr-clause-refused : goal.returns-in_err-expr-clause-refused
 returns-in_err-expr-clause-refused g c =
     let p = err_from_is_err_and c.from_residual.result c.from_residual.ensures.1 in
     rw (p.1, p.2) c.in_err-expr.ensures.refused
+
+pub returns-in_err-expr-clause-unplaced : goal.returns-in_err-expr-clause-unplaced
+returns-in_err-expr-clause-unplaced g c =
+    let p = err_from_is_err_and c.from_residual.result c.from_residual.ensures.1 in
+    rw (p.1, p.2) (parser_unplaced c.in_err-expr.field-0.0 c.in_err-expr.ensures.causes c.in_err-expr.ensures.unplaced)
 
 pub returns-in_err-expr-clause-accepted : goal.returns-in_err-expr-clause-accepted
 returns-in_err-expr-clause-accepted g c = λ t d.

@@ -1,27 +1,27 @@
 use Rattle.std.proofs.Common.{◌≡◌, ◌<◌, ◌+◌, length, ap, sym, ◌∙◌, arith, subst, inr}
 use Rattle.minijinja_lexer.specs.private.Place.{Place}
-use Rattle.minijinja_lexer.specs.private.Views.{tag_view, lexeme_view, close_view, turn_view}
+use Rattle.minijinja_lexer.specs.private.Views.{tag_view, lexeme_view, close_view, tag_part_view}
 use Rattle.minijinja_syntax.specs.Streams.{Stream}
 use Rattle.minijinja_lexer.specs.Stream.{OwnsMemory}
-use Rattle.minijinja_lexer.specs.Cut.{turn_at, close_over}
+use Rattle.minijinja_lexer.specs.Cut.{tag_part_at, close_over}
 use Rattle.minijinja_lexer.specs.TextTokens.{lexeme_tok, close_stream}
 use Rattle.minijinja_lexer.specs.private.States.{Steps, behind}
-use Rattle.minijinja_lexer.specs.Turns.{Turn, Token, End}
+use Rattle.minijinja_lexer.specs.TagParts.{TagPart, Token, End}
 use Rattle.minijinja_lexer.proofs.Steps.{stream_in-over, stream_in-end}
 use Rattle.minijinja_lexer.proofs.InsideSteps.{inside_token, inside_memory}
 use Rattle.minijinja_lexer.proofs.inside.step_inside.Goals as goal
-use Rattle.minijinja_lexer.proofs.inside.step_inside.Goals.{After-turn_at}
+use Rattle.minijinja_lexer.proofs.inside.step_inside.Goals.{After-tag_part_at}
 
--- within the text, and the turn at the cursor
-inside : (c : After-turn_at) → c.args.cursor.now.at < length c.args.cursor.now.text
+-- within the text, and what stands at the cursor
+inside : (c : After-tag_part_at) → c.args.cursor.now.at < length c.args.cursor.now.text
 inside c =
     let l : length c.text-text.result.now ≡ length c.args.cursor.now.text = ap length c.text-text.ensures in
     omega (arith, l, c.at-at.ensures.value, c.at-at.ensures.boundary.0, c.if-at-text.false)
 
-turned : (c : After-turn_at) (t : Turn) → turn_view c.turn_at.result ≡ t → turn_at c.args.syntax.now c.args.cursor.now.text (tag_view c.args.tag) c.args.opened c.args.shut c.args.cursor.now.at ≡ t
-turned c t e =
-    ap (turn_at c.args.syntax.now c.args.cursor.now.text (tag_view c.args.tag) c.args.opened c.args.shut) (sym c.at-at.ensures.value)
-    ∙ ap (λ x. turn_at c.args.syntax.now x (tag_view c.args.tag) c.args.opened c.args.shut c.at-at.result) (sym c.text-text.ensures) ∙ sym c.turn_at.ensures.value ∙ e
+stands_there : (c : After-tag_part_at) (t : TagPart) → tag_part_view c.tag_part_at.result ≡ t → tag_part_at c.args.syntax.now c.args.cursor.now.text (tag_view c.args.tag) c.args.opened c.args.shut c.args.cursor.now.at ≡ t
+stands_there c t e =
+    ap (tag_part_at c.args.syntax.now c.args.cursor.now.text (tag_view c.args.tag) c.args.opened c.args.shut) (sym c.at-at.ensures.value)
+    ∙ ap (λ x. tag_part_at c.args.syntax.now x (tag_view c.args.tag) c.args.opened c.args.shut c.at-at.result) (sym c.text-text.ensures) ∙ sym c.tag_part_at.ensures.value ∙ e
 
 pub returns-then-at-text-clause-steps : goal.returns-then-at-text-clause-steps
 returns-then-at-text-clause-steps c =
@@ -35,30 +35,30 @@ returns-then-at-text-clause-steps c =
 
 pub returns-in_default-clause-steps : goal.returns-in_default-clause-steps
 returns-in_default-clause-steps c =
-    let d = (goal.at-returns-in_default-clause-steps c).After-turn_at in
+    let d = (goal.at-returns-in_default-clause-steps c).After-tag_part_at in
     let places = c.in-Token.ensures.places in
     let moves : c.args.cursor.now.at < c.in-Token.lexeme.stop = omega (arith, places.onwards, places.some, c.at-at.ensures.value) in
     inr (inside_memory c.args.syntax.now c.args.cursor.now.text (tag_view c.args.tag) c.args.whole c.args.opened c.args.shut c.args.cursor.now.at (lexeme_view c.in-Token.lexeme)
-    (inside d) moves (turned d (Token (lexeme_view c.in-Token.lexeme)) (ap turn_view c.in-Token.is))
+    (inside d) moves (stands_there d (Token (lexeme_view c.in-Token.lexeme)) (ap tag_part_view c.in-Token.is))
     (subst (λ t. OwnsMemory (lexeme_tok t (lexeme_view c.in-Token.lexeme))) c.text-text.ensures c.in_default.ensures.memory))
 
 pub returns-in-Ok-clause-steps : goal.returns-in-Ok-clause-steps
 returns-in-Ok-clause-steps c =
-    let d = (goal.at-returns-in-Ok-clause-steps c).After-turn_at in
+    let d = (goal.at-returns-in-Ok-clause-steps c).After-tag_part_at in
     let places = c.in-Token.ensures.places in
     let moves : c.args.cursor.now.at < c.in-Token.lexeme.stop = omega (arith, places.onwards, places.some, c.at-at.ensures.value) in
     let stop = ap (λ (p : Place). p.at) c.span-span.ensures.place in (
       inside_token c.args.syntax.now c.args.cursor.now.text (tag_view c.args.tag) c.args.whole c.args.opened c.args.shut c.args.cursor.now.at (lexeme_view c.in-Token.lexeme) _ c.span-span.result c.span-span.new.self
           (c.args.opened + c.opened_by.result) (c.args.shut + c.shut_by.result)
-          (inside d) moves (turned d (Token (lexeme_view c.in-Token.lexeme)) (ap turn_view c.in-Token.is)) (c.in-Ok.ensures.token ∙ ap (λ x. lexeme_tok x (lexeme_view c.in-Token.lexeme)) c.text-text.ensures) c.span-span.ensures.span c.span-span.ensures.place
+          (inside d) moves (stands_there d (Token (lexeme_view c.in-Token.lexeme)) (ap tag_part_view c.in-Token.is)) (c.in-Ok.ensures.token ∙ ap (λ x. lexeme_tok x (lexeme_view c.in-Token.lexeme)) c.text-text.ensures) c.span-span.ensures.span c.span-span.ensures.place
           (ap (λ n. c.args.opened + n) c.opened_by.ensures.value) (ap (λ n. c.args.shut + n) c.shut_by.ensures.value),
       (omega (arith, stop, moves, c.requires.opened, c.opened_by.ensures.bound), omega (arith, stop, moves, c.requires.shut, c.shut_by.ensures.bound)),
     )
 
 pub returns-in-End-clause-steps : goal.returns-in-End-clause-steps
 returns-in-End-clause-steps c =
-    let d = (goal.at-returns-in-End-clause-steps c).After-turn_at in
-    let e = stream_in-end c.args.syntax.now c.args.cursor.now.text (tag_view c.args.tag) (behind c.args.syntax.now c.args.cursor.now.text c.args.whole) c.args.opened c.args.shut c.args.cursor.now.at (close_view c.in-End.close) (inside d) (turned d (End (close_view c.in-End.close)) (ap turn_view c.in-End.is)) in
+    let d = (goal.at-returns-in-End-clause-steps c).After-tag_part_at in
+    let e = stream_in-end c.args.syntax.now c.args.cursor.now.text (tag_view c.args.tag) (behind c.args.syntax.now c.args.cursor.now.text c.args.whole) c.args.opened c.args.shut c.args.cursor.now.at (close_view c.in-End.close) (inside d) (stands_there d (End (close_view c.in-End.close)) (ap tag_part_view c.in-End.is)) in
     subst (λ (x : Stream). Steps c.args.syntax.now x c.step_end-in-End.result c.step_end-in-End.new.cursor) (sym e) (c.step_end-in-End.ensures.steps c.args.syntax.now)
 
 pub returns-then-at-text-clause-takes : goal.returns-then-at-text-clause-takes

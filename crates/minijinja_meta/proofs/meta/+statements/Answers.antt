@@ -6,8 +6,8 @@ use Rattle.minijinja_tree.specs.Erasure.{args_of, expr_tree, macro_tree, optiona
 use Rattle.minijinja_tree.specs.FreeNames.{Way, end, in_row, through_if_any, region, stores, through, through_stmts, to_assignments, to_filter, to_parameters, to_target}
 use Rattle.minijinja_tree.specs.Tree.{Stmt, stmts_of, done, template, call, call_block, do_call, assignment, set_block, auto_escape, filter_block, declare, output, for_loop, if_cond, with_block, named_block, extends, include, import_all, from_import, parameters}
 use Rattle.minijinja_meta.specs.private.FoundNames.{Walks}
-use Rattle.minijinja_tree.specs.private.BlockNames.{many}
-use Rattle.minijinja_tree.specs.private.WellFormedTests.{only_item}
+use Rattle.minijinja_tree.specs.internal.BlockNames.{many}
+use Rattle.minijinja_tree.specs.internal.WellFormedTests.{only_item}
 use Rattle.minijinja_meta.specs.private.Ways.{beside_way, in_region, within_macro}
 use Rattle.minijinja_tree.proofs.Rows.{body_of, call_in, macro_in, call_block_is, template_is, set_block_is, auto_escape_is, filter_block_is, declare_is, for_loop_is, if_cond_is, with_block_is, block_is}
 use Rattle.minijinja_tree.proofs.StmtSizes.{stmt-within, next-stmt-smaller}

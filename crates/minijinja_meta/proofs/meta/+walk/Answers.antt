@@ -4,8 +4,8 @@ use Rattle.minijinja_tree.specs.Tree.{slice, if_expr, filter, test, call, list, 
 use Rattle.minijinja_tree.specs.Erasure.{expr_tree, optional_of, exprs_of, arg_tree, args_of, comparisons_of, compare_tree}
 use Rattle.minijinja_meta.specs.private.Mentions.{mentions, mentions_any, mentions_beside, mentions_all, mentions_compared, mentions_args}
 use Rattle.minijinja_meta.proofs.Noting.{notes-as, notes-same, notes-nothing, notes-then, noting-begins, noting-goes-on, noting-ends, next-expr, no-exprs, next-compared, none-compared, next-argument, no-arguments, rest-goes-on, rest-ends}
-use Rattle.minijinja_expressions.proofs.Sizes.{next-smaller}
-use Rattle.minijinja_expressions.proofs.SpannedNodes.{slice_is, if_expr_is, list_is, tuple_is, map_is, filter_is, test_is, call_is, compare_is}
+use Rattle.minijinja_tree_expr.proofs.Sizes.{next-smaller}
+use Rattle.minijinja_tree_expr.proofs.SpannedNodes.{slice_is, if_expr_is, list_is, tuple_is, map_is, filter_is, test_is, call_is, compare_is}
 use Rattle.minijinja_meta.proofs.meta.+walk.Goals as goal
 
 pub arguments-loop-arg-preserved : goal.arguments-loop-arg-preserved

@@ -2,7 +2,7 @@ use Rattle.std.proofs.Common.{◌+◌, ◌*◌, drop}
 use Rattle.minijinja_tree.specs.Erasure.{exprs_of, args_of, comparisons_of}
 use Rattle.minijinja_meta.specs.private.Mentions.{mentions_all, mentions_args, mentions_compared}
 use Rattle.minijinja_meta.proofs.Noting.{Noting, IsNotingRest}
-use Rattle.minijinja_expressions.proofs.Sizes.{rest_size}
+use Rattle.minijinja_tree_expr.proofs.Sizes.{rest_size}
 use Rattle.minijinja_meta.proofs.meta.+walk.Given as goal
 
 -- how deep the argument is, and among equals the caller above what it calls

@@ -2,7 +2,7 @@ use Rattle.std.proofs.Common.{◌≡◌, ◌<◌, ◌++◌, [], ◌∷◌, sym, 
 use Rattle.std.specs.Prelude.{Some}
 use Rattle.minijinja_tree.specs.Erasure.{expr_tree, exprs_of}
 use Rattle.minijinja_meta.specs.private.TargetRows.{rows_count}
-use Rattle.minijinja_tree.specs.private.WellFormedTests.{items_of}
+use Rattle.minijinja_tree.specs.internal.WellFormedTests.{items_of}
 use Rattle.minijinja_meta.proofs.TargetWays.{none-fewer, list-walking, list-fewer, single-walking, single-fewer, whenever}
 use Rattle.minijinja_meta.proofs.meta.next_target.Goals as goal
 

@@ -1,7 +1,7 @@
 use Rattle.minijinja_tree.specs.Erasure.{expr_tree}
 use Rattle.minijinja_meta.proofs.TargetWays.{single-way}
 use Rattle.minijinja_meta.proofs.Walking.{walks-as, then-through}
-use Rattle.minijinja_expressions.proofs.WellFormedCounts.{other-variable}
+use Rattle.minijinja_tree_expr.proofs.WellFormedCounts.{other-variable}
 use Rattle.minijinja_meta.proofs.meta.single_target.Goals as goal
 
 pub returns-in_default : goal.returns-in_default

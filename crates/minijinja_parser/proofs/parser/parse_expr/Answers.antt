@@ -4,7 +4,7 @@ use Rattle.minijinja_syntax.specs.declared.error.ErrorKind.TheVariants.{OutOfMem
 use Rattle.minijinja_lexer.specs.TextTokens.{text_of, tokens_of_expression}
 use Rattle.minijinja_tree.specs.SpannedErasure.{expr_node}
 use Rattle.minijinja_grammar.specs.Grammar.{expr_at, max_depth}
-use Rattle.minijinja_stream.specs.TokenStreams.{Comes, stream_at}
+use Rattle.minijinja_parser_tokens.specs.TokenStreams.{Comes, stream_at}
 use Rattle.minijinja_parser.proofs.Begun.{begun_refused, begun_only, begun_first}
 use Rattle.minijinja_parser.proofs.parser.parse_expr.Goals as goal
 

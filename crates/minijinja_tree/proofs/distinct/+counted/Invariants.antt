@@ -1,6 +1,6 @@
 use Rattle.std.proofs.Common.{◌≡◌, ◌+◌, ◌-◌, ◌*◌, ◌^◌, ◌≤◌, min, drop}
 use Rattle.minijinja_tree.specs.Tree.{all_block_names}
-use Rattle.minijinja_tree.specs.private.Sizes.{body_size, stmt_size}
+use Rattle.minijinja_tree.specs.internal.Sizes.{body_size, stmt_size}
 use Rattle.minijinja_tree.proofs.Rows.{body_of}
 use Rattle.minijinja_tree.proofs.StmtSizes.{rest_stmt_size}
 use Rattle.minijinja_tree.proofs.NamesOfBlocks.{IsCountRest, count}

@@ -2,7 +2,7 @@ use Rattle.std.proofs.Common.{◌<◌, ◌≤◌, length, true, false, arith, sy
 use Rattle.std.proofs.lemmas.List.{at_drop_all}
 use Rattle.minijinja_tree.specs.Erasure.{stmt_tree}
 use Rattle.minijinja_tree.specs.Tree.{block_names, all_block_names}
-use Rattle.minijinja_tree.specs.private.WellFormedTests.{are_single}
+use Rattle.minijinja_tree.specs.internal.WellFormedTests.{are_single}
 use Rattle.minijinja_tree.proofs.NamesOfBlocks.{next-single, single-beside, single-fails, single-goes-on}
 use Rattle.minijinja_tree.proofs.Rows.{body_of}
 use Rattle.minijinja_tree.proofs.distinct.+named.Goals as goal

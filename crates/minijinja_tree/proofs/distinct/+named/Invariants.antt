@@ -1,8 +1,8 @@
 use Rattle.std.proofs.Common.{◌≡◌, ◌+◌, ◌*◌, drop}
 use Rattle.minijinja_tree.specs.Erasure.{stmt_tree}
 use Rattle.minijinja_tree.specs.Tree.{block_names, all_block_names}
-use Rattle.minijinja_tree.specs.private.Sizes.{body_size, stmt_size}
-use Rattle.minijinja_tree.specs.private.WellFormedTests.{are_single}
+use Rattle.minijinja_tree.specs.internal.Sizes.{body_size, stmt_size}
+use Rattle.minijinja_tree.specs.internal.WellFormedTests.{are_single}
 use Rattle.minijinja_tree.proofs.Rows.{body_of}
 use Rattle.minijinja_tree.proofs.StmtSizes.{rest_stmt_size}
 use Rattle.minijinja_tree.proofs.NamesOfBlocks.{IsSingleRest}

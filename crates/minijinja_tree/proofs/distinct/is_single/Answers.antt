@@ -2,8 +2,8 @@ use Rattle.std.proofs.Common.{sym, ap, ◌∙◌}
 use Rattle.std.specs.Str.{bytes_eq}
 use Rattle.minijinja_tree.specs.Erasure.{stmt_tree}
 use Rattle.minijinja_tree.specs.Tree.{named_block, block_names}
-use Rattle.minijinja_tree.specs.private.BlockNames.{own}
-use Rattle.minijinja_tree.specs.private.WellFormedTests.{are_single}
+use Rattle.minijinja_tree.specs.internal.BlockNames.{own}
+use Rattle.minijinja_tree.specs.internal.WellFormedTests.{are_single}
 use Rattle.minijinja_tree.proofs.NamesOfBlocks.{counted-once, count}
 use Rattle.minijinja_tree.proofs.Rows.{body_of, block_is}
 use Rattle.minijinja_tree.proofs.distinct.is_single.Goals as goal

@@ -2,8 +2,8 @@ use Rattle.std.proofs.Common.{rules, arith, ◌<◌, sym, ap, ◌∙◌}
 use Rattle.minijinja_tree.specs.declared.ast.Stmt.{the_lemmas}
 use Rattle.minijinja_tree.specs.Tree.{for_loop, if_cond}
 use Rattle.minijinja_tree.specs.Erasure.{expr_tree, optional_of, stmt_tree}
-use Rattle.minijinja_tree.specs.private.BlockNames.{second_body, many}
-use Rattle.minijinja_tree.specs.private.Sizes.{body_size, stmt_size}
+use Rattle.minijinja_tree.specs.internal.BlockNames.{second_body, many}
+use Rattle.minijinja_tree.specs.internal.Sizes.{body_size, stmt_size}
 use Rattle.minijinja_tree.proofs.Rows.{body_of, for_loop_is, if_cond_is}
 use Rattle.minijinja_tree.proofs.distinct.second_body.Goals as goal
 

@@ -1,7 +1,7 @@
 use Rattle.std.proofs.Common.{arith, false, rules, sym, ap, ◌∙◌}
 use Rattle.minijinja_tree.specs.Tree.{for_loop, if_cond, with_block, set_block, auto_escape, filter_block, named_block, call_block, declare}
 use Rattle.minijinja_tree.specs.Erasure.{expr_tree, optional_of, args_of, assignments_of, macro_tree, stmt_tree}
-use Rattle.minijinja_tree.specs.private.WellFormedTests.{has_bodies, has_macro_body, are_inner}
+use Rattle.minijinja_tree.specs.internal.WellFormedTests.{has_bodies, has_macro_body, are_inner}
 use Rattle.minijinja_tree.proofs.Rows.{body_of, for_loop_is, if_cond_is, with_block_is, set_block_is, auto_escape_is, filter_block_is, block_is, declare_is, macro_in, call_block_is}
 use Rattle.minijinja_tree.proofs.StmtSizes.{stmt-within, next-stmt-smaller}
 use Rattle.minijinja_tree.proofs.InnerSides.{inner-goes-on, is-one, is-no-one}

@@ -1,5 +1,5 @@
 use Rattle.std.proofs.Common.{◌≡◌, ◌+◌, ◌*◌, drop}
-use Rattle.minijinja_tree.specs.private.WellFormedTests.{are_inner}
+use Rattle.minijinja_tree.specs.internal.WellFormedTests.{are_inner}
 use Rattle.minijinja_tree.proofs.Rows.{body_of}
 use Rattle.minijinja_tree.proofs.StmtSizes.{rest_stmt_size}
 use Rattle.minijinja_tree.proofs.InnerSides.{IsInnerRest}

@@ -1,7 +1,7 @@
 use Rattle.std.proofs.Common.{false, map, sym, ap, ◌∙◌}
 use Rattle.minijinja_tree.specs.Erasure.{stmt_tree}
 use Rattle.minijinja_tree.specs.Tree.{template, stmts_of}
-use Rattle.minijinja_tree.specs.private.WellFormedTests.{is_root, are_inner}
+use Rattle.minijinja_tree.specs.internal.WellFormedTests.{is_root, are_inner}
 use Rattle.minijinja_tree.proofs.Rows.{template_is}
 use Rattle.minijinja_tree.proofs.well_formed.is_root.Goals as goal
 

@@ -1,7 +1,7 @@
 use Rattle.std.proofs.Common.{sym, ap, ◌∙◌}
 use Rattle.minijinja_tree.specs.Tree.{if_cond}
 use Rattle.minijinja_tree.specs.Erasure.{expr_tree, stmt_tree}
-use Rattle.minijinja_tree.specs.private.WellFormedTests.{only, otherwise}
+use Rattle.minijinja_tree.specs.internal.WellFormedTests.{only, otherwise}
 use Rattle.minijinja_tree.proofs.Rows.{body_of, if_cond_is}
 use Rattle.minijinja_tree.proofs.InnerSides.{only-is}
 use Rattle.minijinja_tree.proofs.well_formed.otherwise.Goals as goal

@@ -1,4 +1,6 @@
-//! A service in a cluster: three resources of one macro, each by a call block. What it compiles to is the upstream program's.
+//! A service in a cluster: three resources of one macro, each by a call block.
+//!
+//! Its code is the upstream program's.
 use super::compiles_to;
 use std::test::Fail;
 

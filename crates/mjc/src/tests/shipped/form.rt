@@ -1,4 +1,6 @@
-//! A form: macros that call macros, each with a caller. What it compiles to is the upstream program's.
+//! A form: macros that call macros, each with a caller.
+//!
+//! Its code is the upstream program's.
 use super::compiles_to;
 use std::test::Fail;
 

@@ -1,5 +1,7 @@
-//! The layout of a page: blocks, some of them required, imports, captures and loops. A `DiscardTop`
-//! follows each `do`, and what an import captures; all else is the upstream program's.
+//! The layout of a page: blocks, some of them required, imports, captures and loops.
+//!
+//! Its code is the upstream program's, except for the `DiscardTop` after each `do` and after what
+//! an import captures.
 use super::compiles_to;
 use std::test::Fail;
 

@@ -1,5 +1,7 @@
-//! A mail in plain text: whitespace control, filter blocks and captures. A `DiscardTop`
-//! follows each `do`, and what an import captures; all else is the upstream program's.
+//! A mail in plain text: whitespace control, filter blocks and captures.
+//!
+//! Its code is the upstream program's, except for the `DiscardTop` after each `do` and after what
+//! an import captures.
 use super::compiles_to;
 use std::test::Fail;
 

@@ -1,5 +1,7 @@
-//! A menu of any depth: a recursive loop with a filter and an else body. A `DiscardTop`
-//! follows each `do`, and what an import captures; all else is the upstream program's.
+//! A menu of any depth: a recursive loop with a filter and an else body.
+//!
+//! Its code is the upstream program's, except for the `DiscardTop` after each `do` and after what
+//! an import captures.
 use super::compiles_to;
 use std::test::Fail;
 

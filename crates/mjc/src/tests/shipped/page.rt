@@ -1,5 +1,7 @@
-//! A page that extends the layout: blocks in blocks, `super`, macros, call blocks and includes. A `DiscardTop`
-//! follows each `do`, and what an import captures; all else is the upstream program's.
+//! A page that extends the layout: blocks in blocks, `super`, macros, call blocks and includes.
+//!
+//! Its code is the upstream program's, except for the `DiscardTop` after each `do` and after what
+//! an import captures.
 use super::compiles_to;
 use std::test::Fail;
 

@@ -1,5 +1,7 @@
-//! The configuration of a server: macros, call blocks, loops in loops. A `DiscardTop`
-//! follows each `do`, and what an import captures; all else is the upstream program's.
+//! The configuration of a server: macros, call blocks, loops in loops.
+//!
+//! Its code is the upstream program's, except for the `DiscardTop` after each `do` and after what
+//! an import captures.
 use super::compiles_to;
 use std::test::Fail;
 

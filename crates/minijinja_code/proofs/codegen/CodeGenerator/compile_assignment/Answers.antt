@@ -1,10 +1,10 @@
 use Rattle.std.proofs.Common.{◌∙◌, ◌<◌, ◌^◌, length, sym, subst}
 use Rattle.minijinja_tree.specs.Erasure.{expr_tree}
-use Rattle.minijinja_meaning.specs.Layout as layout
-use Rattle.minijinja_expression_code.specs.private.Making.{made_of}
+use Rattle.minijinja_semantics.specs.Layout as layout
+use Rattle.minijinja_code_expr.specs.internal.Making.{made_of}
 use Rattle.minijinja_code.proofs.Ending.{outcome_ok, both_ok, if_none, too_long}
 use Rattle.minijinja_code.proofs.Uncapped.{target_uncapped}
-use Rattle.minijinja_expression_code.proofs.Results.{ok_gives}
+use Rattle.minijinja_code_expr.proofs.Results.{ok_gives}
 use Rattle.minijinja_code.proofs.codegen.CodeGenerator.compile_assignment.Goals as goal
 
 pub returns-clause-added : goal.returns-clause-added

@@ -1,14 +1,14 @@
 use Rattle.std.proofs.Common.{◌∙◌, ◌<◌, ◌^◌, List, length, refl, sym, subst}
 use Rattle.minijinja_tree.specs.Erasure.{expr_tree}
-use Rattle.minijinja_meaning.specs.Code.{Instr}
-use Rattle.minijinja_meaning.specs.Correct.{DoesExpr}
-use Rattle.minijinja_meaning.specs.Laws.{Laws}
-use Rattle.minijinja_meaning.proofs.Whole.{expression_does}
-use Rattle.minijinja_meaning.specs.Layout as layout
-use Rattle.minijinja_expression_code.specs.private.Making.{made_of, here_of}
+use Rattle.minijinja_semantics.specs.Code.{Instr}
+use Rattle.minijinja_semantics.specs.Correct.{DoesExpr}
+use Rattle.minijinja_semantics.specs.Laws.{Laws}
+use Rattle.minijinja_semantics.proofs.Whole.{expression_does}
+use Rattle.minijinja_semantics.specs.Layout as layout
+use Rattle.minijinja_code_expr.specs.internal.Making.{made_of, here_of}
 use Rattle.minijinja_code.proofs.Ending.{outcome_ok, both_ok, if_none, too_long}
 use Rattle.minijinja_code.proofs.Uncapped.{expr_uncapped}
-use Rattle.minijinja_expression_code.proofs.Results.{ok_gives}
+use Rattle.minijinja_code_expr.proofs.Results.{ok_gives}
 use Rattle.minijinja_code.proofs.codegen.CodeGenerator.compile_expr.Goals as goal
 
 pub returns-clause-added : goal.returns-clause-added

@@ -2,16 +2,16 @@ use Rattle.std.proofs.Common.{◌∙◌, ◌<◌, ◌^◌, ◌++◌, List, Resul
 use Rattle.minijinja_syntax.specs.declared.error.Error.{Error}
 use Rattle.minijinja_tree.specs.Erasure.{stmt_tree}
 use Rattle.minijinja_tree.specs.Tree.{blocks}
-use Rattle.minijinja_meaning.specs.Code.{Instr}
-use Rattle.minijinja_meaning.specs.Correct.{DoesStmt}
-use Rattle.minijinja_meaning.specs.Laws.{Laws}
-use Rattle.minijinja_meaning.specs.Places.{placed_stmt}
-use Rattle.minijinja_meaning.specs.Units.{DoUnits}
-use Rattle.minijinja_meaning.proofs.Whole.{statement_does, statement_units_do}
-use Rattle.minijinja_expression_code.specs.private.Making.{made_of, here_of}
+use Rattle.minijinja_semantics.specs.Code.{Instr}
+use Rattle.minijinja_semantics.specs.Correct.{DoesStmt}
+use Rattle.minijinja_semantics.specs.Laws.{Laws}
+use Rattle.minijinja_semantics.specs.Places.{placed_stmt}
+use Rattle.minijinja_semantics.specs.Units.{DoUnits}
+use Rattle.minijinja_semantics.proofs.Whole.{statement_does, statement_units_do}
+use Rattle.minijinja_code_expr.specs.internal.Making.{made_of, here_of}
 use Rattle.minijinja_code.specs.Generator.{OnlyWhereOneIsTooLong}
-use Rattle.minijinja_statement_code.specs.private.Statements.{stmt_piece}
-use Rattle.minijinja_expression_code.specs.declared.memory.OutOfMemory.{OutOfMemory}
+use Rattle.minijinja_code.specs.private.Statements.{stmt_piece}
+use Rattle.minijinja_code_expr.specs.declared.memory.OutOfMemory.{OutOfMemory}
 use Rattle.minijinja_code.proofs.Ending.{always_ok, block_too_long, if_none, one_too_long, never_ok, never_long}
 use Rattle.minijinja_code.proofs.OwnBlocks.{passed_on}
 use Rattle.minijinja_code.proofs.Uncapped.{stmt_uncapped}

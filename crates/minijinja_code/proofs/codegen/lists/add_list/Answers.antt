@@ -1,10 +1,10 @@
 use Rattle.std.proofs.Common.{◌≡◌, ◌∙◌, ◌<◌, ◌^◌, map, length, ap, arith}
 use Rattle.std.proofs.lemmas.List.{length-map}
 use Rattle.minijinja_instructions.specs.Instructions.{instr_of, code_of}
-use Rattle.minijinja_meaning.specs.Laws.{Laws}
-use Rattle.minijinja_meaning.specs.Layout.{block_code}
+use Rattle.minijinja_semantics.specs.Laws.{Laws}
+use Rattle.minijinja_semantics.specs.Layout.{block_code}
 use Rattle.minijinja_tree.proofs.Rows.{body_of}
-use Rattle.minijinja_expression_code.specs.private.Making.{capped}
+use Rattle.minijinja_code_expr.specs.internal.Making.{capped}
 use Rattle.minijinja_code.specs.private.Lists.{block_tree}
 use Rattle.minijinja_code.proofs.ListParts.{list_added, others_stay}
 use Rattle.minijinja_code.proofs.codegen.lists.add_list.Goals as goal

@@ -1,9 +1,9 @@
 use Rattle.std.proofs.Common.{◌≡◌, sym, subst}
 use Rattle.minijinja_tree.specs.Erasure.{stmt_tree}
 use Rattle.minijinja_code.specs.BlockLists.{AddsLists}
-use Rattle.minijinja_code.specs.declared.codegen.lists.Refusal.TheVariants.{TooMany}
+use Rattle.minijinja_code.specs.declared.codegen.lists.ListError.TheVariants.{TooMany}
 use Rattle.minijinja_code.specs.private.Lists.{block_tree, own_block}
-use Rattle.minijinja_expression_code.proofs.Results.{ok_gives}
+use Rattle.minijinja_code_expr.proofs.Results.{ok_gives}
 use Rattle.minijinja_code.proofs.ListWalks.{adds_none}
 use Rattle.minijinja_code.proofs.OwnBlocks.{block_inner, no_block, one_block, one_long}
 use Rattle.minijinja_code.proofs.codegen.lists.add_list_of.Goals as goal

@@ -6,9 +6,9 @@ use Rattle.minijinja_tree.specs.Erasure.{stmt_tree}
 use Rattle.minijinja_tree.specs.Tree.{blocks, done, also}
 use Rattle.minijinja_tree.proofs.Rows.{body_of}
 use Rattle.minijinja_code.specs.Generator.{HaveTooLong}
-use Rattle.minijinja_code.specs.declared.codegen.lists.Refusal.TheVariants.{TooMany}
+use Rattle.minijinja_code.specs.declared.codegen.lists.ListError.TheVariants.{TooMany}
 use Rattle.minijinja_code.specs.private.Lists.{bodies_of, rows_of}
-use Rattle.minijinja_statement_code.proofs.Bodies.{root_stands}
+use Rattle.minijinja_code.proofs.Bodies.{root_stands}
 use Rattle.minijinja_code.proofs.ListRows.{row_more}
 use Rattle.minijinja_code.proofs.ListWalks.{Walking, steps_fall, steps_to, walk_end, walk_may, walk_on, walk_passes, walk_start, walk_to, walk_too_long}
 use Rattle.minijinja_code.proofs.OwnBlocks.{passed_on}

@@ -1,7 +1,7 @@
 use Rattle.std.proofs.Common.{ap, sym, ◌∙◌}
 use Rattle.minijinja_tree.specs.Tree.{blocks}
 use Rattle.minijinja_tree.proofs.Rows.{body_of}
-use Rattle.minijinja_statement_code.proofs.Templates.{tree_is}
+use Rattle.minijinja_code.proofs.Templates.{tree_is}
 use Rattle.minijinja_code.proofs.ListWalks.{no_blocks, none_left}
 use Rattle.minijinja_code.proofs.codegen.lists.is_flat.Goals as goal
 

@@ -2,11 +2,11 @@ use Rattle.std.proofs.Common.{ap, refl, sym, ◌∙◌}
 use Rattle.minijinja_tree.specs.declared.ast.ForLoop.{ForLoop}
 use Rattle.minijinja_tree.specs.declared.ast.IfCond.{IfCond}
 use Rattle.minijinja_tree.specs.declared.ast.Macro.{Macro}
-use Rattle.minijinja_expression_code.proofs.Results.{ok_gives}
+use Rattle.minijinja_code_expr.proofs.Results.{ok_gives}
 use Rattle.minijinja_code.specs.private.Lists.{bodies_of}
 use Rattle.minijinja_code.proofs.ListRows.{one_body, two_bodies}
-use Rattle.minijinja_statement_code.proofs.StatementArms.{for_arm, if_arm, with_arm, set_block_arm, escape_arm, filter_block_arm, block_arm, macro_arm, call_block_arm}
-use Rattle.minijinja_statement_code.proofs.Templates.{tree_is}
+use Rattle.minijinja_code.proofs.StatementArms.{for_arm, if_arm, with_arm, set_block_arm, escape_arm, filter_block_arm, block_arm, macro_arm, call_block_arm}
+use Rattle.minijinja_code.proofs.Templates.{tree_is}
 use Rattle.minijinja_code.proofs.codegen.lists.push_bodies.Goals as goal
 
 pub returns-in-WithBlock : goal.returns-in-WithBlock

@@ -1,5 +1,5 @@
 use Rattle.std.proofs.Common.{◌≡◌, None}
-use Rattle.minijinja_code.specs.private.AtGenerator.{refusal_of}
+use Rattle.minijinja_code.specs.internal.AtGenerator.{refusal_of}
 use Rattle.minijinja_compiler.proofs.tests.codegen.code_of.Given as goal
 
 abbrev pub invariant-loop-text : goal.invariant-loop-text

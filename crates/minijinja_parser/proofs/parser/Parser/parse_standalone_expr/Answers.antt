@@ -3,7 +3,7 @@ use Rattle.minijinja_tree.specs.SpannedErasure.{expr_node}
 use Rattle.minijinja_tree.specs.WellFormed.{IsWhole}
 use Rattle.minijinja_grammar.specs.Grammar.{expr_at, max_depth}
 use Rattle.minijinja_grammar.proofs.Trees.{expression_whole, expression_stands}
-use Rattle.minijinja_expressions.proofs.Bare.{expr_is}
+use Rattle.minijinja_tree_expr.proofs.Bare.{expr_is}
 use Rattle.minijinja_parser.proofs.NoTokens.{no_expr}
 use Rattle.minijinja_parser.proofs.Wholes.{whole_of, only_whole, unrefused, refused_whole, memory_at, not_derived, answers, escapes, at_fault}
 use Rattle.minijinja_parser.proofs.parser.Parser.parse_standalone_expr.Goals as goal

@@ -6,7 +6,7 @@ use Rattle.minijinja_value.proofs.Powers.{small-pow, even_turn, odd_turn, factor
 use Rattle.minijinja_value.proofs.value.integer.power_of.Goals as goal
 use Rattle.minijinja_value.proofs.value.integer.power_of.Goals.{then-left-eq1+in_ok-power, else-left-eq1}
 
--- a number from 2^128 on is no answer
+-- a number from 2^128 on is no result
 too_large : (o : Option ℕ) (n : ℕ) → o ≡ None → (n < 2 ^ 128 → ⊥) → SomeIff o (n < 2 ^ 128) n
 too_large None n e h = h
 too_large (Some x) n e h = cc

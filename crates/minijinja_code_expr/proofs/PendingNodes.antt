@@ -1,0 +1,56 @@
+-- Nodes that wait for their leading operand, while the code of an expression is being made.
+use Rattle.std.proofs.Common.{◌≡◌, ℕ, ◌≤◌, List, [], ◌∷◌, ◌++◌, length, Option, Some, None, false, sym, subst}
+use Rattle.std.specs.Prelude.{is_some, reverse}
+use Rattle.std.proofs.lemmas.List.{reverse-append}
+use Rattle.minijinja_value.specs.Values.{Functions}
+use Rattle.minijinja_tree.specs.Erasure.{expr_tree}
+use Rattle.minijinja_tree.specs.Tree.{Expr, if_expr}
+use Rattle.minijinja_tree.specs.WellFormed.{IsWhole}
+use Rattle.minijinja_tree_expr.specs.declared.ast.Expr.{size-Expr}
+use Rattle.minijinja_semantics.specs.Layout.{expr}
+use Rattle.minijinja_code_expr.specs.internal.Making.{Made, Adds}
+use Rattle.minijinja_code_expr.specs.internal.Leading.{leading, piece_of, Ready, Begins, Finishes}
+use Rattle.minijinja_code_expr.specs.declared.pending.PendingNode.{PendingNode}
+use Rattle.minijinja_code_expr.proofs.Adding.{adds_nothing}
+
+module _ {C F : Type 0} (f : Functions C F) where
+  none_added : (m : Made C) (o : Option (Expr C)) → is_some o ≡ false → Adds m m (piece_of f o)
+  none_added m None e = adds_nothing m
+  none_added m (Some x) e = absurd (cc)
+
+  -- a node without a leading operand begins wherever it stands
+  pub leaf_ready : (e : Expr C) (m : Made C) (place : ℕ) → is_some (leading e) ≡ false → place ≡ length m.code → Ready f e place m m
+  leaf_ready (if_expr t a b) m place h at = absurd (cc)
+  leaf_ready e m place h at = record { at = at; added = none_added m (leading e) h }
+
+module _ {V K C F : Type 0} (f : Functions C F) (c : V → C) (old : Made C) (whole : Expr C) (bound : ℕ) where
+  -- with this made, what is left of the nodes that wait, the last one first, makes the whole
+  abbrev pub Rest : List (PendingNode V K) → Made C → Type 0
+  Rest [] now = Adds old now (expr f whole)
+  Rest (w ∷ ws) now =
+      (start : Made C) × Ready f (expr_tree c w.node.now) w.place start now × IsWhole (expr_tree c w.node.now) × (size-Expr V K w.node.now ≤ bound) ×
+      ((later : Made C) → Adds start later (expr f (expr_tree c w.node.now)) → Rest ws later)
+
+  -- one node more waits
+  pub rest_more : (ws : List (PendingNode V K)) (w : PendingNode V K) (operand : Expr C) (now held : Made C) → Begins f (expr_tree c w.node.now) w.place now held → leading (expr_tree c w.node.now) ≡ Some operand → IsWhole (expr_tree c w.node.now) → size-Expr V K w.node.now ≤ bound →
+      ((later : Made C) → Adds now later (expr f (expr_tree c w.node.now)) → Rest (reverse ws) later) → (later : Made C) → Adds held later (expr f operand) → Rest (reverse (ws ++ w ∷ [])) later
+  rest_more ws w operand now held begins leads is_whole small rest later s =
+      subst (λ l. Rest l later) (sym (reverse-append ws (w ∷ [])))
+      (now, begins later (subst (λ o. Adds held later (piece_of f o)) (sym leads) s), is_whole, small, rest)
+
+  -- the one that waited least is made
+  pub rest_less : (ws : List (PendingNode V K)) (w : PendingNode V K) (now next : Made C) → Finishes f (expr_tree c w.node.now) w.place now next → Rest (reverse (ws ++ w ∷ [])) now → Rest (reverse ws) next
+  rest_less ws w now next finishes r =
+      let k = subst (λ l. Rest l now) (reverse-append ws (w ∷ [])) r in
+      k.4 next (finishes k.0 k.1)
+
+  -- what is known of it
+  pub rest_whole : (ws : List (PendingNode V K)) (w : PendingNode V K) (now : Made C) → Rest (reverse (ws ++ w ∷ [])) now → IsWhole (expr_tree c w.node.now)
+  rest_whole ws w now r = let k = subst (λ l. Rest l now) (reverse-append ws (w ∷ [])) r in k.2
+
+  pub rest_size : (ws : List (PendingNode V K)) (w : PendingNode V K) (now : Made C) → Rest (reverse (ws ++ w ∷ [])) now → size-Expr V K w.node.now ≤ bound
+  rest_size ws w now r = let k = subst (λ l. Rest l now) (reverse-append ws (w ∷ [])) r in k.3
+
+  -- the operand at the end, by itself
+  pub rest_leaf : (ws : List (PendingNode V K)) (e : Expr C) (now next : Made C) (place : ℕ) → is_some (leading e) ≡ false → place ≡ length now.code → Finishes f e place now next → ((later : Made C) → Adds now later (expr f e) → Rest ws later) → Rest ws next
+  rest_leaf ws e now next place h at finishes rest = rest next (finishes now (leaf_ready f e now place h at))

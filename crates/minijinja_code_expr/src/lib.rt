@@ -1,0 +1,17 @@
+//! The code of expressions: from the expressions of a tree to their instructions.
+#![tactic(auto)]
+
+pub mod arguments;
+pub mod branches;
+pub mod calls;
+mod chain;
+pub mod emit;
+pub mod expr;
+pub mod filters;
+mod leading;
+mod literals;
+pub mod memory;
+mod names;
+mod operators;
+pub mod output;
+mod pending;

@@ -1,0 +1,37 @@
+use Rattle.std.proofs.Common.{map, subst, sym}
+use Rattle.minijinja_tree.specs.Erasure.{expr_tree}
+use Rattle.minijinja_tree.specs.WellFormed.{AreAllWhole, AreVariables}
+use Rattle.minijinja_code_expr.specs.internal.Making.{made_of}
+use Rattle.minijinja_code_parts.proofs.MacroParts.{left_is, left_smaller, take_begin, take_end, take_step, variable_arg, variables_before, whole_before}
+use Rattle.minijinja_code_parts.proofs.macro_parts.take.Goals as goal
+
+pub loop-left-init : goal.loop-left-init
+loop-left-init g c =
+    let v = g.V.TemplateValue.contents in
+    let args = left_is c.split_last-left.result c.args.args.now c.split_last-left.ensures.cases in
+    let defaults = left_is c.split_last-default.result c.args.defaults.now c.split_last-default.ensures.cases in
+    record {
+      args = subst (λ xs. AreVariables (map (expr_tree v) xs)) (sym args) c.requires.args;
+      defaults = subst (λ xs. AreAllWhole (map (expr_tree v) xs)) (sym defaults) c.requires.defaults;
+      leads = take_begin v g.V.TemplateValue.functions c.split_last-left.result c.split_last-default.result c.args.args.now c.args.defaults.now (made_of v c.args.code.now) args defaults;
+    }
+
+pub take_argument-requires-clause-arg : goal.take_argument-requires-clause-arg
+take_argument-requires-clause-arg g c = variable_arg g.V.TemplateValue.contents c.loop-left.left _ c.in-Some.is c.loop-left.invariant.args
+
+pub loop-left-preserved : goal.loop-left-preserved
+loop-left-preserved g c =
+    let v = g.V.TemplateValue.contents in
+    let l = c.loop-left in
+    let left = left_is c.split_last-left-in-Some.result c.in-Some.before.now c.split_last-left-in-Some.ensures.cases in
+    record {
+      args = variables_before v l.left c.split_last-left-in-Some.result _ c.in-Some.is left l.invariant.args;
+      defaults = subst (λ xs. AreAllWhole (map (expr_tree v) xs)) (sym c.default_before-default.ensures) (whole_before v l.default l.invariant.defaults);
+      leads = take_step v g.V.TemplateValue.functions l.left c.split_last-left-in-Some.result l.default c.default_before-default.result _ c.in-Some.is left c.default_before-default.ensures c.in_ok-take_argument.ensures l.invariant.leads;
+    }
+
+pub loop-left-smaller : goal.loop-left-smaller
+loop-left-smaller g c = left_smaller c.loop-left.left c.split_last-left-in-Some.result _ c.in-Some.is (left_is c.split_last-left-in-Some.result c.in-Some.before.now c.split_last-left-in-Some.ensures.cases)
+
+pub returns : goal.returns
+returns g c = take_end g.V.TemplateValue.contents g.V.TemplateValue.functions c.loop-left.left c.loop-left.default c.in_default.is c.loop-left.invariant.leads

@@ -1,0 +1,3 @@
+pub mod Hint
+pub mod internal
+pub mod private

@@ -1,0 +1,96 @@
+//! Instructions of text, outputs, assignments and calls that are statements.
+ghost use Rattle.std.specs.Prelude.{length, OnOk};
+ghost use Rattle.minijinja_tree.specs.Erasure.{args_of, expr_tree};
+ghost use Rattle.minijinja_tree.specs.Nodes.{node_of};
+ghost use Rattle.minijinja_tree.specs.Tree as tree;
+ghost use Rattle.minijinja_tree.specs.WellFormed.{IsTarget, IsWhole};
+ghost use Rattle.minijinja_semantics.specs.Calls.{written};
+ghost use Rattle.minijinja_semantics.specs.Events as event;
+ghost use Rattle.minijinja_semantics.specs.Layout as layout;
+ghost use Rattle.minijinja_semantics.specs.Code as instr;
+ghost use Rattle.minijinja_semantics.specs.Code.{DiscardTop};
+ghost use Rattle.minijinja_semantics.specs.Pieces.{one, plain, ◌▸◌};
+ghost use Rattle.minijinja_code_parts.specs.internal.AtEnclosingLoop.{around_of};
+ghost use Rattle.minijinja_code_expr.specs.internal.Making.{made_of, Adds};
+ghost use Rattle.minijinja_code_parts.specs.internal.EnclosingLoops.{Follows};
+
+use crate::enclosing_loop::EnclosingLoop;
+use crate::targets::assign;
+use minijinja_code_expr::emit::Emitter;
+use minijinja_code_expr::expr::{call, expression};
+use minijinja_code_expr::memory::OutOfMemory;
+use minijinja_code_expr::output::{Output, output_of};
+use minijinja_instructions::instructions::Instruction;
+use minijinja_tree::ast::{Do, EmitRaw, Expr, Set};
+use minijinja_value::value::TemplateValue;
+
+/// Adds text that stands outside of tags, and counts its bytes.
+pub fn data_text<'s, V: TemplateValue>(
+    code: &mut Emitter<'s, V>,
+    enclosing: &mut EnclosingLoop,
+    text: &EmitRaw<'s>,
+) -> Result<(), OutOfMemory>
+    ensures { OnOk result (Follows
+        (around_of enclosing.old) (made_of V.contents code.old)
+        (around_of enclosing.new) (made_of V.contents code.new)
+        (length text.now.raw.now) (plain (one (instr.Do event.EmitRaw text.now.raw.now 0)))) }
+{
+    enclosing.count(text.raw.len());
+    code.add(Instruction::EmitRaw(text.raw))
+}
+
+/// Adds the code of an output. A call of `super` without arguments, of `loop` with one positional
+/// argument, and of a block have instructions of their own.
+pub fn emit_expr<'s, V: TemplateValue>(
+    code: &mut Emitter<'s, V>,
+    expr: &Expr<'s, V>,
+) -> Result<(), OutOfMemory>
+    requires { IsWhole (expr_tree V.contents expr.now) }
+    ensures { OnOk result (Adds (made_of V.contents code.old) (made_of V.contents code.new)
+        (layout.write V.functions
+        (written (expr_tree V.contents expr.now))
+        (layout.expr V.functions (expr_tree V.contents expr.now)))) }
+{
+    match output_of(expr) {
+        Output::Super => code.add(Instruction::FastSuper),
+        Output::Recursion(items) => {
+            expression(code, items)?;
+            code.add(Instruction::FastRecurse)
+        }
+        Output::Block(name) => code.add(Instruction::CallBlock(name)),
+        Output::Plain => {
+            expression(code, expr)?;
+            code.add(Instruction::Emit)
+        }
+    }
+}
+
+/// Adds the value of an assignment, and then its target.
+pub fn set<'s, V: TemplateValue>(
+    code: &mut Emitter<'s, V>,
+    assignment: &Set<'s, V>,
+) -> Result<(), OutOfMemory>
+    requires target { IsTarget (expr_tree V.contents assignment.now.target) }
+    requires value { IsWhole (expr_tree V.contents assignment.now.expr) }
+    ensures { OnOk result (Adds (made_of V.contents code.old) (made_of V.contents code.new)
+        (layout.expr V.functions (expr_tree V.contents assignment.now.expr)
+        ▸ layout.target V.functions (expr_tree V.contents assignment.now.target))) }
+{
+    expression(code, &assignment.expr)?;
+    assign(code, &assignment.target)
+}
+
+/// Adds a call whose value is dropped.
+pub fn do_call<'s, V: TemplateValue>(
+    code: &mut Emitter<'s, V>,
+    called: &Do<'s, V>,
+) -> Result<(), OutOfMemory>
+    requires { IsWhole (tree.call (expr_tree V.contents (node_of called.now.call).expr)
+        (args_of V.contents (node_of called.now.call).args.items)) }
+    ensures { OnOk result (Adds (made_of V.contents code.old) (made_of V.contents code.new)
+        (layout.expr V.functions (tree.call (expr_tree V.contents (node_of called.now.call).expr)
+        (args_of V.contents (node_of called.now.call).args.items)) ▸ one DiscardTop)) }
+{
+    call(code, called.call.node())?;
+    code.add(Instruction::DiscardTop)
+}

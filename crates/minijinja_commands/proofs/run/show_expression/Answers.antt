@@ -1,7 +1,0 @@
--- What compiling says of a text that has a tree.
-use Rattle.minijinja_commands.proofs.Limits.{limit_of_fault}
-use Rattle.minijinja_commands.proofs.run.show_expression.Goals as goal
-
-pub returns-in-Err-clause-succeeds : goal.returns-in-Err-clause-succeeds
-returns-in-Err-clause-succeeds g c = λ unfailed tree.
-    limit_of_fault _ _ c.in-Err.error c.of_refusal.result c.of_refusal.ensures.kind c.in-Err.ensures.too_long_only c.in-Err.ensures.too_many_only (c.in-Err.ensures.accepted tree.0 tree.1)

@@ -1,3 +1,0 @@
--- What specifies private functions alone, and need not be believed.
-pub mod AtOptions
-pub mod AtUsage

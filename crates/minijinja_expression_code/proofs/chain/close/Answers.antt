@@ -1,7 +1,0 @@
-use Rattle.std.proofs.Common.{length}
-use Rattle.minijinja_expression_code.specs.private.Comparing.{ahead, places_of}
-use Rattle.minijinja_expression_code.proofs.ChainCode.{closes}
-use Rattle.minijinja_expression_code.proofs.chain.close.Goals as goal
-
-pub returns : goal.returns
-returns g c = closes (places_of c.args.jumps.now) (ahead g.V.TemplateValue.functions g.V.TemplateValue.contents c.args.ops.now (length c.args.ops.now)) c.in_ok-add_last.ensures c.in_ok-failed.ensures.added c.in_ok-failed.ensures.failed c.lead_out.ensures

@@ -1,7 +1,0 @@
-use Rattle.std.proofs.Common.{sym, ap}
-use Rattle.minijinja_meaning.specs.Code.{Jump}
-use Rattle.minijinja_expression_code.proofs.Adding.{adds_then, adds_skipping}
-use Rattle.minijinja_expression_code.proofs.chain.leave.Goals as goal
-
-pub returns-clause-added : goal.returns-clause-added
-returns-clause-added g c = adds_skipping Jump (Jump c.target-end.result) c.in_ok-jump.jump c.in_ok-jump.ensures.added (adds_then c.in_ok-add.ensures c.in_ok-add-2.ensures) c.in_ok-jump.ensures.place (ap Jump (sym c.target-end.ensures)) c.fill.ensures

@@ -1,5 +1,0 @@
-use Rattle.minijinja_expressions.proofs.NodeRows.{filter_is}
-use Rattle.minijinja_expressions.proofs.nodes.filter.Goals as goal
-
-pub returns : goal.returns
-returns g c = record { tree = filter_is g.V.TemplateValue.contents c.in_ok-spanned.field-0 _ _ c.in_ok-spanned.ensures.node c.in_ok-spanned.ensures.span }

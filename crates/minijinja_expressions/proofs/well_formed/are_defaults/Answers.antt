@@ -1,6 +1,0 @@
-use Rattle.std.proofs.Common.{◌∙◌}
-use Rattle.minijinja_expressions.proofs.WellFormedCounts.{all_whole_is}
-use Rattle.minijinja_expressions.proofs.well_formed.are_defaults.Goals as goal
-
-pub returns : goal.returns
-returns g c = c.are_whole.ensures ∙ all_whole_is g.V.TemplateValue.contents c.args.exprs.now

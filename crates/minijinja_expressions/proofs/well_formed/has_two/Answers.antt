@@ -1,5 +1,0 @@
-use Rattle.minijinja_expressions.proofs.WellFormedCounts.{chain-counted}
-use Rattle.minijinja_expressions.proofs.well_formed.has_two.Goals as goal
-
-pub returns : goal.returns
-returns g c = chain-counted {F = g.row.V-Fault.Denot} g.V.TemplateValue.contents c.args.comparisons.now

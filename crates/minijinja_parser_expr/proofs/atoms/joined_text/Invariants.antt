@@ -1,0 +1,13 @@
+use Rattle.std.proofs.Common.{◌≡◌, length}
+use Rattle.std.specs.String.{string_bytes}
+use Rattle.minijinja_grammar.specs.Forms.{reads}
+use Rattle.minijinja_grammar.specs.Grammar as form
+use Rattle.minijinja_parser_expr.proofs.atoms.joined_text.Given as goal
+
+abbrev pub invariant-loop-tokens : goal.invariant-loop-tokens
+invariant-loop-tokens g l =
+    reads (form.texts g.V.TemplateValue.functions l.from (string_bytes l.fn.text)) l.fn.tokens ≡
+    reads (form.texts g.V.TemplateValue.functions l.from (string_bytes l.joined)) l.tokens
+
+abbrev pub decreases-loop-tokens : goal.decreases-loop-tokens
+decreases-loop-tokens g l = length l.tokens.tokens

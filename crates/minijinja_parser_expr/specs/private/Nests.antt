@@ -1,0 +1,20 @@
+-- The results of rules, and of function values that parse expressions to a depth.
+use Rattle.std.specs.Prelude.{ℕ, ◌≤◌, Result}
+use denote.Ref.{MutBor}
+use Rattle.minijinja_value.specs.Values.{Functions}
+use Rattle.minijinja_tree.specs.SpannedTrees.{Expr}
+use Rattle.minijinja_grammar.specs.Forms.{Form, Place, reads}
+use Rattle.minijinja_grammar.specs.Grammar.{expr_at}
+use Rattle.minijinja_parser_tokens.specs.internal.Reads.{Reads}
+use Rattle.minijinja_parser_tokens.specs.declared.refusal.Refusal.{Refusal}
+
+-- what reading the form from some tokens comes to, and which are left then
+abbrev pub Parses : {T A X : Type 0} → (T → Place) → (X → A) → Form A → T → Result X Refusal → T → Type 0
+Parses place view form old result new = Reads view (reads form (place old)) result (place new)
+
+-- called with any depth up to this, it parses an expression of that depth
+pub record Nests {N T X M C F P : Type 0} (place : T → Place) (tree : X → Expr C) (f : Functions C F) (depth : ℕ)
+    (pre : P → N → MutBor T → M → ℕ → Type 0) (post : P → N → MutBor T → M → ℕ → Result X Refusal → MutBor T → Type 0) (parser : P) : Type 0 where
+  pub callable : (nodes : N) (old : MutBor T) (made : M) (d : ℕ) → d ≤ depth → pre parser nodes old made d
+  pub reads : (nodes : N) (old new : MutBor T) (made : M) (d : ℕ) (r : Result X Refusal) → d ≤ depth →
+      post parser nodes old made d r new → Parses place tree (expr_at f d) old.now r new.now

@@ -1,0 +1,202 @@
+//! Makes the nodes of a tree of expressions, by the rules of the grammar.
+ghost use Rattle.std.specs.Prelude.{◌≡◌, IfOk};
+ghost use Rattle.std.specs.Option.{option_map};
+ghost use Rattle.minijinja_syntax.specs.Tokens.{tok_of};
+ghost use Rattle.minijinja_tree.specs.Erasure.{compare_op};
+ghost use Rattle.minijinja_tree.specs.SpannedErasure.{arg_view, compared, expr_node};
+ghost use Rattle.minijinja_grammar.specs.Forms.{nothing, reads};
+ghost use Rattle.minijinja_grammar.specs.Grammar as form;
+ghost use Rattle.minijinja_grammar.specs.Grammar.{name_of_variable};
+ghost use Rattle.minijinja_parser_expr.specs.private.Made.{argument_of, node_tree};
+ghost use Rattle.minijinja_parser_expr.specs.private.Primaries.{atom_at};
+ghost use Rattle.minijinja_parser_tokens.specs.internal.Reads.{Reads};
+
+use crate::atoms;
+use crate::builder::{Argument, ExprBuilder, Node};
+use minijinja_parser_tokens::marks::Mark;
+use minijinja_parser_tokens::refusal::{Refusal, Wanted};
+use minijinja_parser_tokens::token_stream::TokenStream;
+use minijinja_parser_tokens::tokens::{Tokens, ident};
+use minijinja_syntax::error::Expected;
+use minijinja_syntax::syntax::SyntaxConfig;
+use minijinja_syntax::tokens::{Span, Token};
+use minijinja_tree::ast::{CallArg, CompareOp, CompareOpKind, Expr};
+use minijinja_tree_expr::nodes;
+use minijinja_value::value::TemplateValue;
+use std::alloc::{AllocError, Global};
+use std::marker::PhantomData;
+
+/// Makes the nodes of the tree of a text, over the text's values.
+#[derive_where(Clone, Copy)]
+pub struct TreeExprs<'s, 'c, V> {
+    /// Where nodes are allocated.
+    pub alloc: Global,
+    // The two carry the lifetimes of what is read. The borrow checker does not cover functions over
+    // a `PhantomData` of two lifetimes.
+    source: &'s str,
+    syntax: &'c SyntaxConfig,
+    values: PhantomData<V>,
+}
+
+impl<'s, 'c, V> TreeExprs<'s, 'c, V> {
+    /// Nodes that are allocated there, of this source in this syntax.
+    pub fn new(alloc: Global, source: &'s str, syntax: &'c SyntaxConfig) -> Self
+        ensures { result.alloc ≡ alloc }
+    {
+        TreeExprs {
+            alloc,
+            source,
+            syntax,
+            values: PhantomData,
+        }
+    }
+}
+
+impl<'s, 'c, V: TemplateValue> ExprBuilder for TreeExprs<'s, 'c, V> {
+    type Input = TokenStream<'s, 'c>;
+
+    type Name = &'s str;
+
+    type Expr = Expr<'s, V>;
+
+    type Arg = CallArg<'s, V>;
+
+    type Comparison = CompareOp<'s, V>;
+
+    ghost Contents = { V.Contents };
+
+    ghost FaultContents = { V.FaultContents };
+
+    ghost functions = { V.functions };
+
+    ghost text = { λ x. x.now };
+
+    ghost tree = { expr_node V.contents };
+
+    ghost arg = { arg_view V.contents };
+
+    ghost compared = { compared V.contents };
+
+    fn alloc(&self) -> Global {
+        self.alloc
+    }
+
+    #[tactic(auto, unfolding(minijinja_grammar::specs::Forms::reads, crate::specs::private::Primaries::atom_at))]
+    fn atom(
+        &self,
+        tokens: &mut TokenStream<'s, 'c>,
+        first: Token<'s>,
+        from: Span,
+    ) -> Result<Expr<'s, V>, Refusal>
+        ensures { Reads (expr_node V.contents) (atom_at V.functions (tok_of first.entry, from)
+            tokens.old) result tokens.new }
+    {
+        let alloc = self.alloc;
+        match first {
+            Token::Ident(name) => Ok(atoms::word(alloc, name, from)?),
+            Token::Str(plain) => atoms::text(alloc, tokens, plain, from),
+            Token::String(decoded) => atoms::joined_text(alloc, tokens, decoded, from),
+            Token::Int(value) => Ok(nodes::constant(alloc, V::of_u64(value), from)?),
+            Token::Int128(value) => {
+                let value = V::of_u128(alloc, *value)?;
+                Ok(nodes::constant(alloc, value, from)?)
+            }
+            _ => Err(Refusal::Wrong(Wanted::Part(Expected::Expression))),
+        }
+    }
+
+    #[tactic(auto, using(crate::proofs::Members::name_member, crate::proofs::Members::int_member, crate::proofs::Members::large_member, crate::proofs::Members::short_member, crate::proofs::Members::wrong_member, crate::proofs::Members::no_member))]
+    fn member(
+        &self,
+        tokens: &mut TokenStream<'s, 'c>,
+        expr: Expr<'s, V>,
+        from: Span,
+    ) -> Result<Expr<'s, V>, Refusal>
+        ensures { Reads (expr_node V.contents) (reads (form.member nothing V.functions
+            (expr_node V.contents expr.entry) from) tokens.old) result tokens.new }
+    {
+        let alloc = self.alloc;
+        let (token, at) = tokens.take(Wanted::Part(Expected::Identifier))?;
+        let index = match token {
+            Token::Ident(name) => {
+                let span = tokens.expand_span(from);
+                return Ok(nodes::attribute(alloc, expr, name, span)?);
+            }
+            Token::Int(value) => V::of_u64(value),
+            Token::Int128(value) => V::of_u128(alloc, *value)?,
+            _ => return Err(Refusal::Wrong(Wanted::Part(Expected::Identifier))),
+        };
+        let index = nodes::constant(alloc, index, at)?;
+        Ok(nodes::item(alloc, expr, index, tokens.expand_span(from))?)
+    }
+
+    /// The text from the first part of the name to its last.
+    #[tactic(auto, using(crate::proofs::Names::name_is, crate::proofs::Names::still_between))]
+    fn name(&self, tokens: &mut TokenStream<'s, 'c>) -> Result<&'s str, Refusal>
+        ensures { Reads (λ x. x.now) (reads form.name tokens.old) result tokens.new }
+    {
+        let (name, first) = ident(tokens, Wanted::Part(Expected::Identifier))?;
+        if !tokens.at(Mark::Dot) {
+            return Ok(name);
+        }
+        let last = atoms::name_parts(tokens, first)?;
+        Ok(atoms::source_between(tokens.source(), first, last))
+    }
+
+    fn variable_name(expr: &Expr<'s, V>) -> Option<&'s str>
+        ensures { option_map (λ x. x.now) result ≡ name_of_variable
+            (expr_node V.contents expr.now) }
+    {
+        match expr {
+            Expr::Var(variable) => Some(variable.node().id),
+            _ => None,
+        }
+    }
+
+    fn argument(argument: Argument<&'s str, Expr<'s, V>>) -> CallArg<'s, V>
+        ensures { arg_view V.contents result ≡ argument_of (λ x. x.now) (expr_node V.contents)
+            argument.entry }
+    {
+        match argument {
+            Argument::Positional(expr) => CallArg::Pos(expr),
+            Argument::Keyword(name, expr) => CallArg::Kwarg(name, expr),
+            Argument::Starred(expr) => CallArg::PosSplat(expr),
+            Argument::DoubleStarred(expr) => CallArg::KwargSplat(expr),
+        }
+    }
+
+    fn against(op: CompareOpKind, expr: Expr<'s, V>) -> CompareOp<'s, V>
+        ensures { compared V.contents result ≡ (compare_op op, expr_node V.contents expr.entry) }
+    {
+        CompareOp { op, expr }
+    }
+
+    fn node(
+        &self,
+        node: Node<&'s str, Expr<'s, V>, CallArg<'s, V>, CompareOp<'s, V>>,
+        span: Span,
+    ) -> Result<Expr<'s, V>, AllocError>
+        ensures { IfOk result (λ e. expr_node V.contents e ≡ node_tree (λ x. x.now)
+            (expr_node V.contents) (arg_view V.contents) (compared V.contents) node.entry span) }
+    {
+        let alloc = self.alloc;
+        match node {
+            Node::Item(expr, subscript_expr) => nodes::item(alloc, expr, subscript_expr, span),
+            Node::Slice(expr, start, stop, step) => {
+                nodes::slice(alloc, expr, start, stop, step, span)
+            }
+            Node::UnaryOp(op, expr) => nodes::unary(alloc, op, expr, span),
+            Node::BinOp(op, left, right) => nodes::binary(alloc, op, left, right, span),
+            Node::Compare(expr, ops) => nodes::compare(alloc, expr, ops, span),
+            Node::IfExpr(test_expr, true_expr, false_expr) => {
+                nodes::if_expr(alloc, test_expr, true_expr, false_expr, span)
+            }
+            Node::Filter(name, expr, args) => nodes::filter(alloc, name, expr, args, span),
+            Node::Test(name, expr, args) => nodes::test(alloc, name, expr, args, span),
+            Node::Call(expr, args) => nodes::call(alloc, expr, args, span),
+            Node::List(items) => nodes::list(alloc, items, span),
+            Node::Tuple(items) => nodes::tuple(alloc, items, span),
+            Node::Map(keys, values) => nodes::map(alloc, keys, values, span),
+        }
+    }
+}

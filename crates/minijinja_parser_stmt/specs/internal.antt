@@ -1,0 +1,2 @@
+-- What crates of this repository say to each other, and users need not believe.
+pub mod Made

@@ -1,0 +1,3 @@
+pub mod TokenStreams
+pub mod internal
+pub mod private

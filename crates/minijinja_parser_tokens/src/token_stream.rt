@@ -1,0 +1,168 @@
+//! The tokens of a text, of which the next one can be looked at before it is taken.
+ghost use Rattle.std.specs.Prelude.{◌≡◌, ◌<◌, ◌^◌, [], length, IfErr, IfSome, if◌then◌else◌};
+ghost use Rattle.minijinja_syntax.specs.Errors.{IsOutOfMemory, kind_of, span_of};
+ghost use Rattle.minijinja_lexer.specs.Stream.{IsTokenizerKind};
+ghost use Rattle.minijinja_lexer.specs.TextTokens.{text_of, tokens_of_template, tokens_of_expression};
+ghost use Rattle.minijinja_syntax.specs.Streams.{refused};
+ghost use Rattle.minijinja_syntax.specs.declared.error.ErrorKind.TheVariants.{OutOfMemory};
+ghost use Rattle.minijinja_grammar.specs.Forms.{start_at};
+ghost use Rattle.minijinja_parser_tokens.specs.private.Refused.{Refused, ended_at};
+ghost use Rattle.minijinja_grammar.specs.Grammar.{expanded};
+ghost use Rattle.minijinja_parser_tokens.specs.TokenStreams.{AnswersAhead, Comes, Shows, StandsBetweenChars, last_after, no_place, stream_at};
+
+use minijinja_lexer::lexer::Tokenizer;
+use minijinja_syntax::error::{Error, OpenStatement};
+use minijinja_syntax::syntax::SyntaxConfig;
+use minijinja_syntax::tokens::{Span, Token};
+use std::alloc::Global;
+use std::collections::BTreeSet;
+use std::marker::Model;
+use std::mem;
+
+/// The tokens of a text. The next one can be looked at before it is taken.
+#[derive(Drop)]
+pub struct TokenStream<'s, 'c> {
+    pub(crate) tokenizer: Tokenizer<'s, 'c>,
+    pub(crate) current: Result<Option<(Token<'s>, Span)>, Error<'s>>,
+    pub(crate) last_span: Span,
+    /// The names of the blocks so far.
+    pub(crate) names: BTreeSet<&'s str>,
+    /// The statement in whose body a word was wanted last, for the words of refusals.
+    pub(crate) open: Option<OpenStatement>,
+}
+
+impl<'s, 'c> Model for TokenStream<'s, 'c> {
+    ghost use Rattle.minijinja_grammar.specs.Forms.{Place};
+
+    ghost Value = { Place };
+
+    ghost use Rattle.minijinja_parser_tokens.specs.private.AtTokenStream.{place_of, IsStream};
+
+    ghost view = { place_of };
+
+    ghost invariant = { IsStream };
+}
+
+impl<'s, 'c> TokenStream<'s, 'c> {
+    /// The tokens of a template, or of one expression if `in_expr` is set. The source has fewer
+    /// than 2^32 bytes. Errors name it `filename`.
+    pub fn new(
+        alloc: Global,
+        source: &'s str,
+        filename: &'s str,
+        in_expr: bool,
+        syntax: &'c SyntaxConfig,
+    ) -> Self
+        requires { length source.now < 2 ^ 32 }
+        ensures source { result.source ≡ text_of syntax.now source.now }
+        ensures stream { Comes (if in_expr then tokens_of_expression syntax.now source.now else
+            tokens_of_template syntax.now source.now) (stream_at result) }
+        ensures last { result.last ≡ no_place }
+        ensures names { result.names ≡ [] }
+    {
+        let mut tokenizer = Tokenizer::new(alloc, source, filename, in_expr, syntax);
+        let current = tokenizer.next_token();
+        TokenStream {
+            tokenizer,
+            current,
+            last_span: Span::default(),
+            names: BTreeSet::new(alloc),
+            open: None,
+        }
+    }
+
+    /// Takes and returns the next token: `None` at the end and from then on. After a refusal it
+    /// returns that refusal again.
+    /// Errors: those of [`Tokenizer::next_token`].
+    pub fn next(&mut self) -> Result<Option<(Token<'s>, Span)>, Error<'s>>
+        ensures answers { AnswersAhead (stream_at self.old) result (stream_at self.new) }
+        ensures between { StandsBetweenChars self.old.source result }
+        ensures cause { IfErr result (λ e. IsTokenizerKind (kind_of e)) }
+        ensures memory { IfErr result (λ e. kind_of e ≡ OutOfMemory → IsOutOfMemory e) }
+        ensures last { self.new.last ≡ last_after result self.old.last }
+        ensures source { self.new.source ≡ self.old.source }
+        ensures names { self.new.names ≡ self.old.names }
+    {
+        if let Err(error) = &self.current {
+            return Err(*error);
+        }
+        let following = self.tokenizer.next_token();
+        let taken = mem::replace(&mut self.current, following);
+        if let Ok(Some((_, span))) = &taken {
+            self.last_span = *span;
+        }
+        taken
+    }
+
+    /// What [`TokenStream::next`] would return.
+    pub fn current(&self) -> Result<Option<(&Token<'s>, Span)>, Error<'s>>
+        ensures shows { Shows (stream_at self.now) result }
+        ensures cause { IfErr result (λ e. IsTokenizerKind (kind_of e)) }
+        ensures memory { IfErr result (λ e. kind_of e ≡ OutOfMemory → IsOutOfMemory e) }
+    {
+        match &self.current {
+            Ok(Some((token, span))) => Ok(Some((token, *span))),
+            Ok(None) => Ok(None),
+            Err(error) => Err(*error),
+        }
+    }
+
+    /// The source, without what is stripped at its end.
+    pub fn source(&self) -> &'s str
+        ensures { result.now ≡ self.now.source }
+    {
+        self.tokenizer.source()
+    }
+
+    /// Where the last token taken stands: zeros before any.
+    pub fn last_span(&self) -> Span
+        ensures { result ≡ self.now.last }
+    {
+        self.last_span
+    }
+
+    /// Where the next token stands, or the last one if none comes.
+    pub fn current_span(&self) -> Span
+        ensures { result ≡ start_at self.now }
+    {
+        match &self.current {
+            Ok(Some((_, span))) => *span,
+            _ => self.last_span,
+        }
+    }
+
+    /// The span from the start of this one to the end of the last token taken.
+    pub fn expand_span(&self, span: Span) -> Span
+        ensures { result ≡ expanded span self.now.last }
+    {
+        span.to(self.last_span)
+    }
+}
+
+/// The statement in whose body the first word of a statement, or the word that ends a body, was
+/// wanted last.
+pub fn open_statement(tokens: &TokenStream<'_, '_>) -> Option<OpenStatement> {
+    tokens.open
+}
+
+/// The refusal of the tokenizer, if it comes next.
+pub fn tokenizer_refusal<'s>(tokens: &TokenStream<'s, '_>) -> Option<Error<'s>>
+    ensures stands { Refused tokens.now result }
+    ensures cause { IfSome result (λ e. IsTokenizerKind (kind_of e)) }
+    ensures memory { IfSome result (λ e. kind_of e ≡ OutOfMemory → IsOutOfMemory e) }
+{
+    match &tokens.current {
+        Err(error) => Some(*error),
+        _ => None,
+    }
+}
+
+/// Drops the tokens that are left. From now on this refusal is what comes.
+pub fn set_refusal<'s>(tokens: &mut TokenStream<'s, '_>, error: Error<'s>)
+    requires cause { IsTokenizerKind (kind_of error) }
+    requires memory { kind_of error ≡ OutOfMemory → IsOutOfMemory error }
+    ensures { tokens.new ≡ ended_at tokens.old
+        (refused (kind_of error.entry) (span_of error.entry)) }
+{
+    tokens.current = Err(error);
+}

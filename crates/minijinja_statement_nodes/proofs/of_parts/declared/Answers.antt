@@ -1,7 +1,0 @@
-use Rattle.std.proofs.Common.{sym}
-use Rattle.minijinja_templates.specs.private.Made.{statement_tree}
-use Rattle.minijinja_statement_nodes.proofs.of_parts.declared.Goals as goal
-
-pub returns-in-Some : goal.returns-in-Some
-unfolding statement_tree
-returns-in-Some g c = record { tree = rw (c.requires, c.in-Some.is, sym c.taken-names.ensures, sym c.taken.ensures) c.declared.ensures.tree }

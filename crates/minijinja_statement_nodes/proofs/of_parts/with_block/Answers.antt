@@ -1,7 +1,0 @@
-use Rattle.std.proofs.Common.{sym}
-use Rattle.minijinja_templates.specs.private.Made.{statement_tree}
-use Rattle.minijinja_statement_nodes.proofs.of_parts.with_block.Goals as goal
-
-pub returns : goal.returns
-unfolding statement_tree
-returns g c = record { tree = rw (c.requires, sym c.taken-assignments.ensures, sym c.taken.ensures) c.with_block.ensures.tree }

@@ -1,7 +1,0 @@
-use Rattle.minijinja_expression_code.proofs.Adding.{adds_then}
-use Rattle.minijinja_expression_code.proofs.Results.{ok_gives}
-use Rattle.minijinja_statement_parts.proofs.modules.import_all.Goals as goal
-
-pub returns : goal.returns
-returns g c =
-    ok_gives c.assign.result (λ s. adds_then c.in_ok-begin_import.ensures (adds_then c.in_ok-add.ensures (adds_then c.in_ok-add-2.ensures (adds_then c.in_ok-add-3.ensures (adds_then c.in_ok-add-4.ensures s))))) c.assign.ensures

@@ -1,2 +1,0 @@
-pub mod TokenStreams
-pub mod private

@@ -1,4 +1,0 @@
--- What specifies private functions alone, and need not be believed.
-pub mod Sizes
-pub mod WellFormedTests
-pub mod BlockNames

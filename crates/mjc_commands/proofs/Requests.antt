@@ -1,0 +1,172 @@
+-- Options are read one after the other, and in one way only.
+use Rattle.std.proofs.Common.{◌≡◌, refl, sym, ◌∙◌, ap, subst, arith, ℕ, ◌+◌, ◌≤◌, ◌<◌, length, slice_index_or, Bool, List, [], ◌∷◌, ◌++◌, drop, append_assoc, true, false, Option, None, Some, IfSome, codes, nat_eq, if◌then◌else◌}
+use Rattle.std.specs.List.{fold, flat_map, starts_with}
+use Rattle.std.specs.Str.{bytes_eq}
+use Rattle.std.specs.Borrow.{Bor}
+use Rattle.std.proofs.lemmas.List.{drop-map, drop-drop}
+use Rattle.std.proofs.lemmas.Slice.Eq.{bytes_eq-Decides}
+use Rattle.minijinja_syntax.specs.Texts.{Text}
+use Rattle.minijinja_syntax.specs.Syntax.{Syntax}
+use Rattle.mjc_commands.specs.Settings.{Setting, block, variable, comment, line_statement, line_comment, trim_blocks, lstrip_blocks, keep_newline, words_of, with_setting, texts}
+use Rattle.mjc_commands.specs.Usage.{IsFile, Task, option_words, command_word, Asks, AsksExpr}
+use Rattle.mjc_commands.specs.private.AtOptions.{option_named, setting_of, first_setting, Takes}
+use Rattle.mjc_commands.specs.declared.options.OptionName.{OptionName}
+use Rattle.mjc_commands.specs.declared.options.OptionName.TheVariants.{Block, Variable, Comment, LineStatement, LineComment, TrimBlocks, LstripBlocks, KeepNewline}
+
+some_injective : (p q : Setting × List Text) → Some p ≡ Some q → p ≡ q
+some_injective p q e = cc
+
+-- an option is read back from its words
+first_setting-words_of : (setting : Setting) (rest : List Text) → first_setting (words_of setting ++ rest) ≡ Some (setting, rest)
+unfolding option_named
+first_setting-words_of (block start stop) rest = refl
+first_setting-words_of (variable start stop) rest = refl
+first_setting-words_of (comment start stop) rest = refl
+first_setting-words_of (line_statement prefix) rest = refl
+first_setting-words_of (line_comment prefix) rest = refl
+first_setting-words_of trim_blocks rest = refl
+first_setting-words_of lstrip_blocks rest = refl
+first_setting-words_of keep_newline rest = refl
+
+-- the word of an option
+abbrev name_word : OptionName → Text
+name_word Block = codes "--block"
+name_word Variable = codes "--variable"
+name_word Comment = codes "--comment"
+name_word LineStatement = codes "--line-statement"
+name_word LineComment = codes "--line-comment"
+name_word TrimBlocks = codes "--trim-blocks"
+name_word LstripBlocks = codes "--lstrip-blocks"
+name_word KeepNewline = codes "--keep-newline"
+
+-- a test that fails where a text has another beginning
+bytes_eq-other : (word name : Text) → starts_with nat_eq name (codes "--") ≡ true → IsFile word → bytes_eq word name ≡ false
+bytes_eq-other word name begins is_file = decided (bytes_eq word name) ((bytes_eq-Decides word name).0)
+  where
+    decided : (b : Bool) → (b ≡ true → word ≡ name) → b ≡ false
+    decided false same = refl
+    decided true same = let begun = ap (λ w. starts_with nat_eq w (codes "--")) (same refl) in cc
+
+-- a file is no option
+first_setting-file : (file : Text) (rest : List Text) → IsFile file → first_setting (file ∷ rest) ≡ None
+unfolding option_named
+first_setting-file file rest is_file =
+    rw (bytes_eq-other file (name_word Block) refl is_file, bytes_eq-other file (name_word Variable) refl is_file, bytes_eq-other file (name_word Comment) refl is_file, bytes_eq-other file (name_word LineStatement) refl is_file, bytes_eq-other file (name_word LineComment) refl is_file, bytes_eq-other file (name_word TrimBlocks) refl is_file, bytes_eq-other file (name_word LstripBlocks) refl is_file, bytes_eq-other file (name_word KeepNewline) refl is_file)
+
+abbrev IsNamed : Text → Option OptionName → Type 0
+IsNamed word name = IfSome name (λ n. word ≡ name_word n)
+
+named_if : (word : Text) (name : OptionName) (later : Option OptionName) → IsNamed word later → IsNamed word (if bytes_eq word (name_word name) then Some name else later)
+named_if word name later named = decided (bytes_eq word (name_word name)) ((bytes_eq-Decides word (name_word name)).0)
+  where
+    decided : (b : Bool) → (b ≡ true → word ≡ name_word name) → IsNamed word (if b then Some name else later)
+    decided true same = same refl
+    decided false same = named
+
+is_named : (word : Text) → IsNamed word (option_named word)
+unfolding option_named
+is_named word =
+    named_if word Block _ (named_if word Variable _ (named_if word Comment _ (named_if word LineStatement _ (named_if word LineComment _ (named_if word TrimBlocks _ (named_if word LstripBlocks _ (named_if word KeepNewline None tt)))))))
+
+words_said : (words : List Text) (p q : Setting × List Text) → words ≡ words_of p.0 ++ p.1 → Some p ≡ Some q → words ≡ words_of q.0 ++ q.1
+words_said words p q said e = said ∙ ap (λ (x : Setting × List Text). words_of x.0 ++ x.1) (some_injective p q e)
+
+setting_of-words : (word : Text) (name : Option OptionName) (words : List Text) → IsNamed word name → (q : Setting × List Text) → setting_of name words ≡ Some q → word ∷ words ≡ words_of q.0 ++ q.1
+setting_of-words word (Some Block) (start ∷ stop ∷ rest) named q e = words_said _ (block start stop, rest) q (ap (λ w. w ∷ start ∷ stop ∷ rest) named) e
+setting_of-words word (Some Variable) (start ∷ stop ∷ rest) named q e = words_said _ (variable start stop, rest) q (ap (λ w. w ∷ start ∷ stop ∷ rest) named) e
+setting_of-words word (Some Comment) (start ∷ stop ∷ rest) named q e = words_said _ (comment start stop, rest) q (ap (λ w. w ∷ start ∷ stop ∷ rest) named) e
+setting_of-words word (Some LineStatement) (prefix ∷ rest) named q e = words_said _ (line_statement prefix, rest) q (ap (λ w. w ∷ prefix ∷ rest) named) e
+setting_of-words word (Some LineComment) (prefix ∷ rest) named q e = words_said _ (line_comment prefix, rest) q (ap (λ w. w ∷ prefix ∷ rest) named) e
+setting_of-words word (Some TrimBlocks) rest named q e = words_said _ (trim_blocks, rest) q (ap (λ w. w ∷ rest) named) e
+setting_of-words word (Some LstripBlocks) rest named q e = words_said _ (lstrip_blocks, rest) q (ap (λ w. w ∷ rest) named) e
+setting_of-words word (Some KeepNewline) rest named q e = words_said _ (keep_newline, rest) q (ap (λ w. w ∷ rest) named) e
+setting_of-words word _ _ named q e = cc
+
+-- what is read as an option are its words
+first_setting-is : (words : List Text) (q : Setting × List Text) → first_setting words ≡ Some q → words ≡ words_of q.0 ++ q.1
+first_setting-is [] q e = cc
+first_setting-is (word ∷ words) q e = setting_of-words word (option_named word) words (is_named word) q e
+
+-- from a syntax, words read as options make another, and end in a file
+pub data Reads : Syntax → List Text → Syntax → Text → Type 0 where
+  over : {s : Syntax} {file : Text} → IsFile file → Reads s (file ∷ []) s file
+  more : {s : Syntax} {words : List Text} {t : Syntax} {file : Text} (q : Setting × List Text) → first_setting words ≡ Some q → Reads (with_setting s q.0) q.1 t file → Reads s words t file
+
+-- options and a file are read
+pub option_words-read : (s : Syntax) (settings : List Setting) (file : Text) → IsFile file → Reads s (option_words settings file) (fold with_setting s settings) file
+option_words-read s [] file is_file = over is_file
+option_words-read s (setting ∷ settings) file is_file =
+    let rest : List Text = option_words settings file in
+    more (setting, rest) (rw append_assoc (first_setting-words_of setting rest)) (option_words-read (with_setting s setting) settings file is_file)
+
+-- what is read are options and a file
+pub read_words : {s t : Syntax} {words : List Text} {file : Text} → Reads s words t file → (settings : List Setting) × (words ≡ option_words settings file)
+read_words (over is_file) = ([], refl)
+read_words (more {words = words} {file = file} q e later) =
+    let ih = read_words later in
+    (q.0 ∷ ih.0, first_setting-is words q e ∙ (ap (λ rest. words_of q.0 ++ rest) ih.1 ∙ sym (append_assoc (words_of q.0) (flat_map words_of ih.0) (file ∷ []))))
+
+-- after the first option reading goes on
+pub read_on : {s t : Syntax} {words : List Text} {file : Text} (q : Setting × List Text) → first_setting words ≡ Some q → Reads s words t file → Reads (with_setting s q.0) q.1 t file
+read_on q e (over {file = file} is_file) = let none = first_setting-file file [] is_file in absurd cc
+read_on q e (more {s = s} {t = t} {file = file} p first later) =
+    subst (λ (x : Setting × List Text). Reads (with_setting s x.0) x.1 t file) (some_injective p q (sym first ∙ e)) later
+
+-- where no option is left, the file is
+pub read_over : {s t : Syntax} {words : List Text} {file : Text} → first_setting words ≡ None → Reads s words t file → (words ≡ file ∷ []) × (t ≡ s)
+read_over e (over is_file) = (refl, refl)
+read_over e (more q first later) = absurd cc
+
+-- what is taken is the first option
+pub takes_some : (first : Option (Setting × List Text)) (old new : Syntax) (words : List Text) (count : ℕ) → Takes first old words (Some count) new → (q : Setting × List Text) × (first ≡ Some q) × (drop count words ≡ q.1) × (new ≡ with_setting old q.0)
+takes_some (Some q) old new words count (left, made) = (q, refl, left, made)
+takes_some None old new words count (none, same) = absurd cc
+
+pub takes_none : (first : Option (Setting × List Text)) (old new : Syntax) (words : List Text) → Takes first old words None new → (first ≡ None) × (new ≡ old)
+takes_none None old new words (none, same) = (refl, same)
+takes_none (Some q) old new words (left, made) = absurd left
+
+-- what is read from one place on is what is read from another on
+pub record GoesOn (old : Syntax) (words : List Text) (new : Syntax) (rest : List Text) : Type 0 where
+  pub onward : (t : Syntax) (file : Text) → Reads old words t file → Reads new rest t file
+  pub back : (t : Syntax) (file : Text) → Reads new rest t file → Reads old words t file
+
+goes_on-setting : (old : Syntax) (words : List Text) (new : Syntax) (rest : List Text) (q : Setting × List Text) → first_setting words ≡ Some q → rest ≡ q.1 → new ≡ with_setting old q.0 → GoesOn old words new rest
+goes_on-setting old words new rest q first left made = record {
+  onward = λ t file reads. rw (left, made) (read_on q first reads);
+  back = λ t file reads.
+      let step : (x : Syntax) (ws : List Text) → x ≡ new → ws ≡ rest → Reads x ws t file = λ x ws a b. rw (a, b) reads in
+      more q first (step (with_setting old q.0) q.1 (sym made) (sym left));
+}
+
+-- an option further
+pub goes_on : (words : List (Bor Text)) (start count : ℕ) (here : List (Bor Text)) (old new : Syntax) → here ≡ drop start words → Takes (first_setting (texts here)) old (texts here) (Some count) new → GoesOn old (texts (drop start words)) new (texts (drop (start + count) words))
+goes_on words start count here old new e takes =
+    let taken = takes_some (first_setting (texts here)) old new (texts here) count takes in
+    let first : first_setting (texts (drop start words)) ≡ Some taken.0 = sym (ap (λ (ws : List (Bor Text)). first_setting (texts ws)) e) ∙ taken.1 in
+    let behind : texts (drop (start + count) words) ≡ drop count (texts (drop start words)) = sym (ap texts (drop-drop count start words)) ∙ sym (drop-map (λ (word : Bor Text). word.now) count (drop start words)) in
+    let left : texts (drop (start + count) words) ≡ (taken.0).1 = behind ∙ (sym (ap (λ (ws : List (Bor Text)). drop count (texts ws)) e) ∙ taken.2) in
+    goes_on-setting old (texts (drop start words)) new (texts (drop (start + count) words)) taken.0 first left taken.3
+
+-- no option further: the file is left
+pub goes_over : (words here last : List (Bor Text)) (start : ℕ) (initial old new : Syntax) → here ≡ drop start words → last ≡ drop start words → Takes (first_setting (texts here)) old (texts here) None new → ((t : Syntax) (file : Text) → Reads initial (texts words) t file → Reads old (texts (drop start words)) t file) → (settings : List Setting) (file : Text) → IsFile file → texts words ≡ option_words settings file → (texts last ≡ file ∷ []) × (new ≡ fold with_setting initial settings)
+goes_over words here last start initial old new e f takes onward settings file is_file asked =
+    let none = takes_none (first_setting (texts here)) old new (texts here) takes in
+    let first : first_setting (texts (drop start words)) ≡ None = sym (ap (λ (ws : List (Bor Text)). first_setting (texts ws)) e) ∙ none.0 in
+    let all : Reads initial (texts words) (fold with_setting initial settings) file = rw asked (option_words-read initial settings file is_file) in
+    let over = read_over first (onward (fold with_setting initial settings) file all) in
+    (ap texts f ∙ over.0, none.1 ∙ sym over.1)
+
+-- the words of a command, of options and of a file are asked for
+pub asks : (args : List (Bor Text)) (word : Bor Text) (rest : List (Bor Text)) (task : Task) (settings : List Setting) (file : Text) → args ≡ word ∷ rest → word.now ≡ command_word task → texts rest ≡ option_words settings file → IsFile file → Asks args (record { task = task; settings = settings; file = file })
+asks args word rest task settings file e named said is_file = record {
+  words = ap texts e ∙ (ap (λ w. w ∷ texts rest) named ∙ ap (λ ws. command_word task ∷ ws) said);
+  file = is_file;
+}
+
+-- two words, of which the first is `expr`
+pub asks_expr : (args : List (Bor Text)) (d e : Bor Text) → 2 ≤ length args → length args < 3 → bytes_eq (slice_index_or args 0 d).now (codes "expr") ≡ true → AsksExpr args (slice_index_or args 1 e).now
+asks_expr [] d e least below same = absurd (omega arith)
+asks_expr (a ∷ []) d e least below same = absurd (omega arith)
+asks_expr (a ∷ b ∷ []) d e least below same = ap (λ (w : Text). w ∷ b.now ∷ []) ((bytes_eq-Decides a.now (codes "expr")).0 same)
+asks_expr (a ∷ b ∷ c ∷ rest) d e least below same = absurd (omega arith)

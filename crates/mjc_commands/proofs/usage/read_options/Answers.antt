@@ -1,0 +1,26 @@
+-- Each turn of the loop reads one option, and the last one leaves the file.
+use Rattle.std.proofs.Common.{arith, ap, subst, sym, ◌∙◌, length, length-drop}
+use Rattle.mjc_commands.specs.Settings.{texts}
+use Rattle.mjc_commands.specs.private.AtOptions.{syntax_of}
+use Rattle.mjc_commands.proofs.Requests.{Reads, over, goes_on, goes_over, read_words}
+use Rattle.mjc_commands.proofs.usage.read_options.Goals as goal
+
+pub loop-count-preserved : goal.loop-count-preserved
+loop-count-preserved c =
+    let here = c.words_from.ensures in
+    let on = goes_on c.args.words.now c.loop-count.start c.in-Some.count c.words_from.result.now (syntax_of c.loop-count.options) (syntax_of c.take.new.self) here c.in-Some.ensures.first in
+    record {
+      within = let same = ap length here in omega (arith, c.in-Some.ensures.within, length-drop c.loop-count.start c.args.words.now);
+      onward = λ t file reads. on.onward t file (c.loop-count.invariant.onward t file reads);
+      back = λ t file reads. c.loop-count.invariant.back t file (on.back t file reads);
+    }
+
+pub returns-clause-heeded : goal.returns-clause-heeded
+returns-clause-heeded c =
+    goes_over c.args.words.now c.words_from.result.now c.words_from-2.result.now c.loop-count.start (syntax_of c.args.options.now) (syntax_of c.loop-count.options) (syntax_of c.take.new.self) c.words_from.ensures c.words_from-2.ensures c.in_default.ensures.first c.loop-count.invariant.onward
+
+pub returns-clause-behind : goal.returns-clause-behind
+returns-clause-behind c = λ file is_file lone.
+    let left = sym (ap texts c.words_from-2.ensures) ∙ lone in
+    let reads = subst (λ ws. Reads (syntax_of c.loop-count.options) ws (syntax_of c.loop-count.options) file) (sym left) (over is_file) in
+    read_words (c.loop-count.invariant.back (syntax_of c.loop-count.options) file reads)

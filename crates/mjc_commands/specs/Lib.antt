@@ -1,0 +1,8 @@
+-- The definitions of this crate.
+pub mod Settings
+pub mod Usage
+pub mod Failure
+pub mod Reading
+pub mod Watched
+pub mod Showing
+pub mod private

@@ -1,0 +1,32 @@
+-- The commands that are read from words, and what they are asked to do.
+use Rattle.std.specs.Prelude.{◌≡◌}
+use Rattle.minijinja_syntax.specs.Texts.{Text}
+use Rattle.mjc_commands.specs.Settings.{syntax_with}
+use Rattle.mjc_commands.specs.Usage.{Task, tokens, code, Request}
+use Rattle.mjc_commands.specs.private.AtOptions.{syntax_of}
+use Rattle.mjc_commands.specs.declared.usage.Action.{Action}
+use Rattle.mjc_commands.specs.declared.usage.Action.TheVariants.{Tokens, Code}
+use Rattle.mjc_commands.specs.declared.usage.Command.{Command}
+use Rattle.mjc_commands.specs.declared.usage.Command.TheVariants.{File, Expr}
+use Rattle.mjc_commands.specs.declared.usage.FileCommand.{FileCommand}
+
+-- the task of an action
+abbrev pub task_of : Action → Task
+task_of Tokens = tokens
+task_of Code = code
+
+-- the command does what is asked for
+pub record IsCommandFor (request : Request) (command : FileCommand) : Type 0 where
+  pub task : task_of command.action ≡ request.task
+  pub syntax : syntax_of command.options ≡ syntax_with request.settings
+  pub file : command.file.now ≡ request.file
+
+-- the command does what is asked for of a file
+abbrev pub IsFileCommandFor : Request → Command → Type 0
+IsFileCommandFor request (File command) = IsCommandFor request command
+IsFileCommandFor request (Expr text) = ⊥
+
+-- the command is for the code of this text
+abbrev pub IsExprCommandFor : Text → Command → Type 0
+IsExprCommandFor text (File command) = ⊥
+IsExprCommandFor text (Expr t) = t.now ≡ text

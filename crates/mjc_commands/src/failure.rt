@@ -1,0 +1,128 @@
+//! Why a run of the program fails, and the status that it ends with.
+ghost use Rattle.std.specs.Prelude.{◌≡◌, ◌≢◌};
+ghost use Rattle.std.specs.IoError.{error_kind};
+ghost use Rattle.std.specs.declared.io.ErrorKind.TheVariants as kind;
+ghost use Rattle.minijinja_syntax.specs.Errors.{kind_of};
+ghost use Rattle.minijinja_syntax.specs.declared.error.ErrorKind.TheVariants.{OutOfMemory, SourceTooLong};
+ghost use Rattle.mjc_commands.specs.Failure.{status_of, IsRefusedAs};
+
+use minijinja_compiler::error::{Error, ErrorKind};
+use std::{fmt, io};
+
+/// Why a run fails.
+#[derive(Clone, Copy, Debug)]
+pub enum Failure<'p> {
+    /// The arguments are not those of a command.
+    Usage,
+    /// The file of this path cannot be read, or is not UTF-8.
+    CannotRead(&'p str),
+    /// The syntax or the text is refused, at a line, counted from 1, and a column, counted from 0.
+    /// A refusal without a place has 0:0.
+    Refused {
+        kind: ErrorKind,
+        line: u16,
+        column: u16,
+    },
+    /// The output cannot be written.
+    CannotWrite,
+}
+
+impl<'p> Failure<'p> {
+    fn without_place(kind: ErrorKind) -> Self
+        ensures { IsRefusedAs kind result }
+    {
+        Failure::Refused {
+            kind,
+            line: 0,
+            column: 0,
+        }
+    }
+
+    /// The failure of a text of 2^32 bytes or more.
+    pub fn source_too_long() -> Self
+        ensures { IsRefusedAs SourceTooLong result }
+    {
+        Failure::without_place(ErrorKind::SourceTooLong)
+    }
+
+    /// A refusal for want of memory where the error is that, otherwise the other failure.
+    fn memory_or(error: &io::Error, other: Failure<'p>) -> Self
+        ensures memory { error_kind error.now ≡ kind.OutOfMemory → IsRefusedAs OutOfMemory result }
+        ensures other { error_kind error.now ≢ kind.OutOfMemory → result ≡ other.entry }
+    {
+        if error.kind() == io::ErrorKind::OutOfMemory {
+            Failure::without_place(ErrorKind::OutOfMemory)
+        } else {
+            other
+        }
+    }
+
+    /// The failure where the arguments of the process cannot be read, or one is not UTF-8.
+    pub fn of_words(error: &io::Error) -> Self
+        ensures memory { error_kind error.now ≡ kind.OutOfMemory → IsRefusedAs OutOfMemory result }
+        ensures other { error_kind error.now ≢ kind.OutOfMemory → result ≡ Failure.Usage }
+    {
+        Failure::memory_or(error, Failure::Usage)
+    }
+
+    /// The failure where the file of this path cannot be read.
+    pub fn of_read(error: &io::Error, path: &'p str) -> Self
+        ensures memory { error_kind error.now ≡ kind.OutOfMemory → IsRefusedAs OutOfMemory result }
+        ensures other { error_kind error.now ≢ kind.OutOfMemory →
+            result ≡ Failure.CannotRead path.entry }
+    {
+        Failure::memory_or(error, Failure::CannotRead(path))
+    }
+
+    /// The failure where the output cannot be written.
+    pub fn of_write(error: &io::Error) -> Self
+        ensures memory { error_kind error.now ≡ kind.OutOfMemory → IsRefusedAs OutOfMemory result }
+        ensures other { error_kind error.now ≢ kind.OutOfMemory → result ≡ Failure.CannotWrite }
+    {
+        Failure::memory_or(error, Failure::CannotWrite)
+    }
+
+    /// The failure where the syntax or the text is refused.
+    pub fn of_refusal(error: &Error<'_>) -> Self
+        ensures status { status_of result ≡ 1 }
+        ensures kind { IsRefusedAs (kind_of error.now) result }
+    {
+        let (line, column) = match error.span() {
+            Some(span) => (span.start_line, span.start_col),
+            None => (0, 0),
+        };
+        Failure::Refused {
+            kind: error.kind(),
+            line,
+            column,
+        }
+    }
+
+    /// The status of the process: 1 where the syntax or the text is refused and for want of memory,
+    /// otherwise 2.
+    pub fn status(&self) -> u8
+        ensures { result ≡ status_of self.now }
+    {
+        match self {
+            Failure::Refused { .. } => 1,
+            _ => 2,
+        }
+    }
+}
+
+impl fmt::Display for Failure<'_> {
+    fn fmt<W: fmt::Write>(&self, f: &mut fmt::Formatter<W>) -> fmt::Result {
+        match self {
+            Failure::Usage => write!(
+                f,
+                "usage: mjc tokens|code|names|replay [OPTION..] FILE [ANSWERS], mjc expr TEXT"
+            ),
+            Failure::CannotRead(path) => write!(f, "mjc: cannot read {path}"),
+            Failure::Refused { kind, line, column } => write!(
+                f,
+                "mjc: {kind:?} at {line}:{column}"
+            ),
+            Failure::CannotWrite => write!(f, "mjc: cannot write"),
+        }
+    }
+}

@@ -1,0 +1,285 @@
+//! One run of the program, on any readers and writers.
+ghost use Rattle.std.specs.Prelude.{◌≡◌, ◌≤◌, IfErr, IfOk, IsErr, IsErrAnd, IsErrOf, OnOk, Some};
+ghost use Rattle.std.specs.Io.KnownBytes.{IsAtEnd};
+ghost use Rattle.minijinja_syntax.specs.Texts.{Text};
+ghost use Rattle.minijinja_syntax.specs.Syntax.{IsBuildable};
+ghost use Rattle.mjc_commands.specs.Settings.{syntax_with};
+ghost use Rattle.mjc_commands.specs.Usage.{IsUsage, IsFileUsage, IsExprUsage, IsUnbuildable, Request, Asks, AsksExpr, tokens, code};
+ghost use Rattle.mjc_commands.specs.private.AtOptions.{syntax_of};
+ghost use Rattle.mjc_commands.specs.private.AtUsage.{IsCommandFor, task_of};
+ghost use Rattle.mjc_commands.specs.Reading.{IsNoText};
+ghost use Rattle.mjc_commands.specs.Watched.{stream_of, IsUnfailed, Stops};
+ghost use Rattle.mjc_commands.specs.Showing.{IsShowable, IsShowableExpr, IsMemory, OfFile, Succeeds, SucceedsExpr};
+ghost use Rattle.mjc_commands.specs.Failure.{ending_status, status_of};
+
+use crate::failure::Failure;
+use crate::print::{print_code, print_expression, print_tokens};
+use crate::usage::{Action, Command, FileCommand, parse};
+use crate::watched::Watched;
+use minijinja_compiler::compile::{compile, compile_expression};
+use minijinja_compiler::lexer::Tokenizer;
+use minijinja_compiler::syntax::SyntaxConfig;
+use minijinja_compiler::value::Value;
+use std::alloc::Global;
+use std::io::{Read, Write};
+
+/// Runs a command, and returns why it fails: see [`status`]. `args` are the words after the
+/// program's name, `file` is the file that they name, and no command reads `answers`. A failure is
+/// one line on `err`; a failing write there is ignored.
+pub fn run<'a, R: Read, Q: Read, W: Write, X: Write>(
+    alloc: Global,
+    args: &[&'a str],
+    file: &mut Watched<R>,
+    answers: &mut Q,
+    out: &mut Watched<W>,
+    err: &mut X,
+) -> Result<(), Failure<'a>>
+    ensures misused { ¬ IsUsage args.now → IsErrOf result Failure.Usage }
+
+    // Bad usage reads nothing and prints nothing on `out`.
+    ensures unread { ¬ IsUsage args.now → file.new ≡ file.old }
+    ensures unwritten { ¬ IsUsage args.now → out.new ≡ out.old }
+    ensures answers { answers.new ≡ answers.old }
+
+    // A syntax that cannot be built is refused before the file is read.
+    ensures unbuilt { IsUnbuildable args.now → ending_status result ≡ 1 }
+    ensures unbuilt_unread { IsUnbuildable args.now → file.new ≡ file.old }
+    ensures unbuilt_unwritten { IsUnbuildable args.now → out.new ≡ out.old }
+
+    // A file that is no text fails, and nothing is printed of it. What succeeds with a file has
+    // read all of it.
+    ensures unreadable { IsFileUsage args.now → IsNoText (R.remaining (stream_of file.old)) →
+        IsErr result }
+    ensures unprinted { IsFileUsage args.now → IsNoText (R.remaining (stream_of file.old)) →
+        out.new ≡ out.old }
+    ensures whole { IsFileUsage args.now →
+        OnOk result (IsAtEnd (R.remaining (stream_of file.new))) }
+
+    // An expression stands in the words: no file is read.
+    ensures expr { IsExprUsage args.now → file.new ≡ file.old }
+
+    // A text that is refused, by the tokenizer or the grammar, is never a success.
+    ensures shown { OnOk result (OfFile args.now (R.remaining (stream_of file.old)) IsShowable) }
+    ensures expr_shown { OnOk result ((source : Text) → AsksExpr args.now source →
+        IsShowableExpr source) }
+
+    // A text that is not refused, where no read and no write fails, is always a success, memory and
+    // its length aside.
+    ensures succeeds { IsUnfailed file.new → IsUnfailed out.new →
+        OfFile args.now (R.remaining (stream_of file.old)) (λ task syntax source.
+        IsBuildable syntax → IsShowable task syntax source → Succeeds task syntax source result) }
+    ensures expr_succeeds { IsUnfailed out.new → (source : Text) → AsksExpr args.now source →
+        IsShowableExpr source → SucceedsExpr source result }
+
+    // A read or a write that fails ends the run: in status 1 for want of memory, otherwise 2. All
+    // other ends have 0 or 1.
+    ensures read { Stops file.old file.new (ending_status result) }
+    ensures written { Stops out.old out.new (ending_status result) }
+    ensures unfailed { IsUsage args.now → IsUnfailed file.new → IsUnfailed out.new →
+        ending_status result ≤ 1 }
+{
+    let _ = answers;
+    let ending = run_command(alloc, args, file, out);
+    if let Err(failure) = &ending {
+        say(err, failure);
+    }
+    ending
+}
+
+/// The status of the process: 0 for success, 1 where the syntax or the text is refused or memory
+/// runs out, and 2 for bad usage and where something cannot be read or written.
+pub fn status(ending: &Result<(), Failure<'_>>) -> u8
+    ensures value { result ≡ ending_status ending.now }
+    ensures within { result ≤ 2 }
+{
+    match ending {
+        Ok(()) => 0,
+        Err(failure) => failure.status(),
+    }
+}
+
+/// Writes on `err` why a run fails, and returns the status of the process.
+pub fn refuse<X: Write>(err: &mut X, failure: Failure<'_>) -> u8
+    ensures { result ≡ status_of failure.entry }
+{
+    say(err, &failure);
+    failure.status()
+}
+
+fn say<X: Write>(err: &mut X, failure: &Failure<'_>) {
+    let _ = writeln!(err, "{failure}");
+}
+
+fn run_command<'a, R: Read, W: Write>(
+    alloc: Global,
+    args: &[&'a str],
+    file: &mut Watched<R>,
+    out: &mut Watched<W>,
+) -> Result<(), Failure<'a>>
+    ensures misused { ¬ IsUsage args.now → IsErrOf result Failure.Usage }
+    ensures unread { ¬ IsUsage args.now → file.new ≡ file.old }
+    ensures unwritten { ¬ IsUsage args.now → out.new ≡ out.old }
+    ensures unbuilt { IsUnbuildable args.now → ending_status result ≡ 1 }
+    ensures unbuilt_unread { IsUnbuildable args.now → file.new ≡ file.old }
+    ensures unbuilt_unwritten { IsUnbuildable args.now → out.new ≡ out.old }
+    ensures unreadable { IsFileUsage args.now → IsNoText (R.remaining (stream_of file.old)) →
+        IsErr result }
+    ensures unprinted { IsFileUsage args.now → IsNoText (R.remaining (stream_of file.old)) →
+        out.new ≡ out.old }
+    ensures whole { IsFileUsage args.now →
+        OnOk result (IsAtEnd (R.remaining (stream_of file.new))) }
+    ensures expr { IsExprUsage args.now → file.new ≡ file.old }
+    ensures shown { OnOk result (OfFile args.now (R.remaining (stream_of file.old)) IsShowable) }
+    ensures expr_shown { OnOk result ((source : Text) → AsksExpr args.now source →
+        IsShowableExpr source) }
+    ensures succeeds { IsUnfailed file.new → IsUnfailed out.new →
+        OfFile args.now (R.remaining (stream_of file.old)) (λ task syntax source.
+        IsBuildable syntax → IsShowable task syntax source → Succeeds task syntax source result) }
+    ensures expr_succeeds { IsUnfailed out.new → (source : Text) → AsksExpr args.now source →
+        IsShowableExpr source → SucceedsExpr source result }
+    ensures read { Stops file.old file.new (ending_status result) }
+    ensures written { Stops out.old out.new (ending_status result) }
+    ensures unfailed { IsUsage args.now → IsUnfailed file.new → IsUnfailed out.new →
+        ending_status result ≤ 1 }
+{
+    match parse(args).ok_or(Failure::Usage)? {
+        Command::File(command) => run_on_file(alloc, &command, file, out),
+        Command::Expr(text) => show_expression(alloc, text, out),
+    }
+}
+
+/// The syntax that the options of a command specify.
+fn syntax_of<'a>(alloc: Global, command: &FileCommand<'a>) -> Result<SyntaxConfig, Failure<'a>>
+    ensures value { IfOk result (λ syntax. syntax ≡ syntax_of command.now.options) }
+    ensures unbuilt { ¬ IsBuildable (syntax_of command.now.options) → IsErr result }
+    ensures built { IsBuildable (syntax_of command.now.options) → IfErr result IsMemory }
+    ensures status { IfErr result (λ failure. status_of failure ≡ 1) }
+{
+    let syntax = command
+        .options
+        .build(alloc)
+        .map_err(|error| Failure::of_refusal(&error))?;
+    Ok(syntax)
+}
+
+/// Does what a command asks of its file. A syntax that cannot be built is refused before the file
+/// is read.
+fn run_on_file<'a, R: Read, W: Write>(
+    alloc: Global,
+    command: &FileCommand<'a>,
+    file: &mut Watched<R>,
+    out: &mut Watched<W>,
+) -> Result<(), Failure<'a>>
+    ensures unbuilt { ¬ IsBuildable (syntax_of command.now.options) → ending_status result ≡ 1 }
+    ensures unbuilt_unread { ¬ IsBuildable (syntax_of command.now.options) → file.new ≡ file.old }
+    ensures unbuilt_unwritten { ¬ IsBuildable (syntax_of command.now.options) → out.new ≡ out.old }
+    ensures unreadable { IsNoText (R.remaining (stream_of file.old)) → IsErr result }
+    ensures unprinted { IsNoText (R.remaining (stream_of file.old)) → out.new ≡ out.old }
+    ensures whole { OnOk result (IsAtEnd (R.remaining (stream_of file.new))) }
+    ensures shown { OnOk result ((source : Text) → R.remaining (stream_of file.old) ≡ Some source →
+        IsShowable (task_of command.now.action) (syntax_of command.now.options) source) }
+    ensures succeeds { IsUnfailed file.new → IsUnfailed out.new →
+        IsBuildable (syntax_of command.now.options) →
+        (source : Text) → R.remaining (stream_of file.old) ≡ Some source →
+        IsShowable (task_of command.now.action) (syntax_of command.now.options) source →
+        Succeeds (task_of command.now.action) (syntax_of command.now.options) source result }
+    ensures read { Stops file.old file.new (ending_status result) }
+    ensures written { Stops out.old out.new (ending_status result) }
+    ensures unfailed { IsUnfailed file.new → IsUnfailed out.new → ending_status result ≤ 1 }
+{
+    let syntax = syntax_of(alloc, command)?;
+    show(alloc, command, &syntax, file, out)
+}
+
+/// Reads the file of a command and writes its tokens or its code.
+fn show<'a, R: Read, W: Write>(
+    alloc: Global,
+    command: &FileCommand<'a>,
+    syntax: &SyntaxConfig,
+    file: &mut Watched<R>,
+    out: &mut Watched<W>,
+) -> Result<(), Failure<'a>>
+    ensures unreadable { IsNoText (R.remaining (stream_of file.old)) → IsErr result }
+    ensures unprinted { IsNoText (R.remaining (stream_of file.old)) → out.new ≡ out.old }
+    ensures whole { OnOk result (IsAtEnd (R.remaining (stream_of file.new))) }
+    ensures shown { OnOk result ((source : Text) → R.remaining (stream_of file.old) ≡ Some source →
+        IsShowable (task_of command.now.action) syntax.now source) }
+    ensures succeeds { IsUnfailed file.new → IsUnfailed out.new →
+        (source : Text) → R.remaining (stream_of file.old) ≡ Some source →
+        IsShowable (task_of command.now.action) syntax.now source →
+        Succeeds (task_of command.now.action) syntax.now source result }
+    ensures read { Stops file.old file.new (ending_status result) }
+    ensures written { Stops out.old out.new (ending_status result) }
+    ensures unfailed { IsUnfailed file.new → IsUnfailed out.new → ending_status result ≤ 1 }
+{
+    let path = command.file;
+    let text = file
+        .read_text(alloc)
+        .map_err(|error| Failure::of_read(&error, path))?;
+    match command.action {
+        Action::Tokens => show_tokens(alloc, path, &text, syntax, out),
+        Action::Code => show_code(alloc, path, &text, syntax, out),
+    }
+}
+
+/// Writes the tokens of a text, also those before a refusal.
+fn show_tokens<'a, W: Write>(
+    alloc: Global,
+    path: &'a str,
+    text: &str,
+    syntax: &SyntaxConfig,
+    out: &mut Watched<W>,
+) -> Result<(), Failure<'a>>
+    ensures shown { OnOk result (IsShowable tokens syntax.now text.now) }
+    ensures succeeds { IsUnfailed out.new → IsShowable tokens syntax.now text.now →
+        Succeeds tokens syntax.now text.now result }
+    ensures written { Stops out.old out.new (ending_status result) }
+    ensures unfailed { IsUnfailed out.new → ending_status result ≤ 1 }
+{
+    if text.len() > u32::MAX as usize {
+        return Err(Failure::source_too_long());
+    }
+    let mut tokens = Tokenizer::new(alloc, text, path, false, syntax);
+    let refusal = print_tokens(out, &mut tokens).map_err(|error| Failure::of_write(&error))?;
+    match refusal {
+        None => Ok(()),
+        Some(error) => Err(Failure::of_refusal(&error)),
+    }
+}
+
+/// Compiles a text and writes its code.
+fn show_code<'a, W: Write>(
+    alloc: Global,
+    path: &'a str,
+    text: &str,
+    syntax: &SyntaxConfig,
+    out: &mut Watched<W>,
+) -> Result<(), Failure<'a>>
+    ensures shown { OnOk result (IsShowable code syntax.now text.now) }
+    ensures succeeds { IsUnfailed out.new → IsShowable code syntax.now text.now →
+        Succeeds code syntax.now text.now result }
+    ensures written { Stops out.old out.new (ending_status result) }
+    ensures unfailed { IsUnfailed out.new → ending_status result ≤ 1 }
+{
+    match compile::<Value>(alloc, text, path, syntax) {
+        Ok(code) => print_code(out, &code).map_err(|error| Failure::of_write(&error)),
+        Err(error) => Err(Failure::of_refusal(&error)),
+    }
+}
+
+/// Compiles an expression and writes its code.
+fn show_expression<'a, W: Write>(
+    alloc: Global,
+    text: &str,
+    out: &mut Watched<W>,
+) -> Result<(), Failure<'a>>
+    ensures shown { OnOk result (IsShowableExpr text.now) }
+    ensures succeeds { IsUnfailed out.new → IsShowableExpr text.now → SucceedsExpr text.now result }
+    ensures written { Stops out.old out.new (ending_status result) }
+    ensures unfailed { IsUnfailed out.new → ending_status result ≤ 1 }
+{
+    match compile_expression::<Value>(alloc, text) {
+        Ok(code) => print_expression(out, &code).map_err(|error| Failure::of_write(&error)),
+        Err(error) => Err(Failure::of_refusal(&error)),
+    }
+}
