@@ -1,11 +1,11 @@
 -- Statements of a call, by the expression that is one.
-use Rattle.std.proofs.Common.{◌≡◌, ◌∷◌, [], List, Option, Some, None, refl, sym, ◌∙◌}
+use Rattle.std.proofs.Common.{◌≡◌, ◌∷◌, [], List, Option, Some, None, Bool, true, false, refl, sym, ap, ◌∙◌}
 use Rattle.std.specs.Prelude.{codes, is_some}
 use Rattle.minijinja_syntax.specs.Streams.{SpannedTok}
 use Rattle.minijinja_syntax.specs.declared.tokens.Span.{Span}
 use Rattle.minijinja_tree.specs.SpannedTrees.{macro_of, Args, Expr, Stmt}
 use Rattle.minijinja_grammar.specs.Words.{endcall_word}
-use Rattle.minijinja_grammar.specs.Forms.{Form, Place, Read, got, misfit, pure, read_then, reads, ◌>>=◌}
+use Rattle.minijinja_grammar.specs.Forms.{Form, Place, Read, got, short, wrong, misfit, pure, read_then, reads, ◌>>=◌}
 use Rattle.minijinja_grammar.specs.Grammar.{expanded, when}
 use Rattle.minijinja_grammar.specs.Statements.{Parts, at_endcall, call_in, call_of, call_stmt, called, do_stmt, done, macro_body}
 use Rattle.minijinja_grammar.proofs.Climbing.{after_after}
@@ -16,6 +16,26 @@ use Rattle.minijinja_parser_stmt.specs.internal.Made.{call_block_tree, call_tree
 -- an expression that has to be a call
 abbrev pub call_form : {C : Type 0} → Form (Expr C) → Form (Expr C)
 call_form expr = expr >>= (λ e. when (is_some (call_of e)) (pure e))
+
+module _ {C : Type 0} (e : Expr C) (q : Place) where
+  no_misfit : (r : Place) (ts : List SpannedTok) → misfit r ts ≡ got e q → ⊥
+  no_misfit r [] h = cc
+  no_misfit r (t ∷ ts) h = cc
+
+  held : (d : Expr C) (r : Place) (b : Bool) → is_some (call_of d) ≡ b → reads (when b (pure d)) r ≡ got e q → is_some (call_of e) ≡ true
+  unfolding reads
+  held d r true k h = let same : d ≡ e = cc in ap (λ x. is_some (call_of x)) (sym same) ∙ k
+  held d r false k h = absurd (no_misfit r r.tokens h)
+
+  read : (o : Read (Expr C)) → read_then o (λ d r. reads (when (is_some (call_of d)) (pure d)) r) ≡ got e q → is_some (call_of e) ≡ true
+  read (got d r) h = held d r (is_some (call_of d)) refl h
+  read (short r) h = cc
+  read (wrong r) h = cc
+
+-- and what is read by it is one
+pub call_read : {C : Type 0} (expr : Form (Expr C)) (p q : Place) (e : Expr C) → reads (call_form expr) p ≡ got e q → is_some (call_of e) ≡ true
+unfolding reads
+call_read expr p q e h = read e q (reads expr p) h
 
 -- where nothing fits, nothing does after it
 none_then : {A B : Type 0} (f : A → Place → Read B) (q : Place) (ts : List SpannedTok) → misfit q ts ≡ read_then (misfit q ts) f

@@ -9,7 +9,7 @@ ghost use Rattle.minijinja_value.specs.Values.{Functions};
 ghost use Rattle.minijinja_tree.specs.SpannedTrees as form;
 ghost use Rattle.minijinja_tree.specs.SpannedTrees.{Expr, Stmt};
 ghost use Rattle.minijinja_parser_tokens.specs.internal.Forms.{expr_of, ident_of};
-ghost use Rattle.minijinja_parser_stmt.specs.internal.Made.{opening_of, opening_tok, statement_tree, target_tree};
+ghost use Rattle.minijinja_parser_stmt.specs.internal.Made.{HasParts, opening_of, opening_tok, statement_tree, target_tree};
 ghost use Rattle.minijinja_parser_stmt.specs.private.Parses.{Parses};
 
 use minijinja_parser_tokens::forms::{ExprForm, IdentForm};
@@ -200,5 +200,6 @@ pub trait StmtBuilder: Copy {
         parts: StatementParts<Self::Name, Self::Expr, Self::Stmt>,
         span: Span,
     ) -> Result<Self::Stmt, AllocError>
+        requires { HasParts tree parts }
         ensures { IfOk result (λ s. stmt s ≡ statement_tree text tree stmt parts span) };
 }

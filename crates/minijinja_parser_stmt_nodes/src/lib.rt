@@ -1,4 +1,4 @@
-//! The nodes of statements, as the rules of the grammar make them.
+//! The nodes of statements, made by the rules of templates.
 #![tactic(auto)]
 
 mod of_parts;

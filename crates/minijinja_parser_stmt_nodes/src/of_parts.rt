@@ -1,18 +1,18 @@
 //! Statements of their parts. Refused memory is the only error.
 //!
-//! A kind without the parts that it has in a template makes a `break`, as `statement_tree` has it;
-//! the rules make none. AnyParts are taken out of where they stand, so that no function has to let
-//! go of those that it does not use.
+//! Each kind of statement has the parts that it needs. Parts are taken out of where they stand, so
+//! that no function has to drop those that it does not use.
 #![tactic(auto, unfolding(minijinja_parser_stmt::specs::internal::Made::statement_tree))]
 
-ghost use Rattle.std.specs.Prelude.{◌≡◌, IfOk};
+ghost use Rattle.std.specs.Prelude.{◌≡◌, IfOk, IsSome, Some, true};
+ghost use Rattle.minijinja_tree_expr.specs.declared.ast.Expr.TheVariants as exprs;
 ghost use Rattle.minijinja_tree.specs.SpannedErasure.{expr_node, stmt_node};
-ghost use Rattle.minijinja_parser_stmt.specs.internal.Made.{statement_tree};
+ghost use Rattle.minijinja_parser_stmt.specs.internal.Made.{HasParts, is_call, statement_tree};
 ghost use Rattle.minijinja_parser_stmt.specs.declared.builder.Kind.TheVariants as kind;
 
 use minijinja_parser_stmt::builder::{Kind, StatementParts};
 use minijinja_syntax::tokens::Span;
-use minijinja_tree::ast::{Expr, FromImport, Import, Set, Stmt};
+use minijinja_tree::ast::{Call, Expr, FromImport, Import, Set, Spanned, Stmt};
 use minijinja_tree::nodes;
 use minijinja_value::value::TemplateValue;
 use std::alloc::{AllocError, Global};
@@ -24,14 +24,15 @@ fn assignment<'s, V: TemplateValue>(
     parts: &mut StatementParts<&'s str, Expr<'s, V>, Stmt<'s, V>>,
     span: Span,
 ) -> Result<Stmt<'s, V>, AllocError>
-    requires { parts.old.kind ≡ kind.Set }
+    requires kind { parts.old.kind ≡ kind.Set }
+    requires target { IsSome parts.old.target }
+    requires expr { IsSome parts.old.expr }
     ensures tree { IfOk result (λ s. stmt_node V.contents s ≡ statement_tree (λ x. x.now)
         (expr_node V.contents) (stmt_node V.contents) parts.old span) }
 {
-    match (parts.target.take(), parts.expr.take()) {
-        (Some(target), Some(expr)) => nodes::assignment(alloc, Set { target, expr }, span),
-        _ => nodes::break_loop(alloc, span),
-    }
+    let target = parts.target.take().unwrap();
+    let expr = parts.expr.take().unwrap();
+    nodes::assignment(alloc, Set { target, expr }, span)
 }
 
 /// A template.
@@ -40,7 +41,7 @@ fn template<'s, V: TemplateValue>(
     parts: &mut StatementParts<&'s str, Expr<'s, V>, Stmt<'s, V>>,
     span: Span,
 ) -> Result<Stmt<'s, V>, AllocError>
-    requires { parts.old.kind ≡ kind.Template }
+    requires kind { parts.old.kind ≡ kind.Template }
     ensures tree { IfOk result (λ s. stmt_node V.contents s ≡ statement_tree (λ x. x.now)
         (expr_node V.contents) (stmt_node V.contents) parts.old span) }
 {
@@ -53,21 +54,20 @@ fn for_loop<'s, V: TemplateValue>(
     parts: &mut StatementParts<&'s str, Expr<'s, V>, Stmt<'s, V>>,
     span: Span,
 ) -> Result<Stmt<'s, V>, AllocError>
-    requires { parts.old.kind ≡ kind.For }
+    requires kind { parts.old.kind ≡ kind.For }
+    requires target { IsSome parts.old.target }
+    requires expr { IsSome parts.old.expr }
     ensures tree { IfOk result (λ s. stmt_node V.contents s ≡ statement_tree (λ x. x.now)
         (expr_node V.contents) (stmt_node V.contents) parts.old span) }
 {
+    let target = parts.target.take().unwrap();
+    let iter = parts.expr.take().unwrap();
     let filter = parts.filter.take();
     let body = taken(alloc, &mut parts.body);
     let else_body = taken(alloc, &mut parts.else_body);
-    match (parts.target.take(), parts.expr.take()) {
-        (Some(target), Some(iter)) => {
-            nodes::for_loop(
-                alloc, target, iter, filter, parts.flag, body, else_body, span,
-            )
-        }
-        _ => nodes::break_loop(alloc, span),
-    }
+    nodes::for_loop(
+        alloc, target, iter, filter, parts.flag, body, else_body, span,
+    )
 }
 
 /// A condition.
@@ -76,18 +76,15 @@ fn if_cond<'s, V: TemplateValue>(
     parts: &mut StatementParts<&'s str, Expr<'s, V>, Stmt<'s, V>>,
     span: Span,
 ) -> Result<Stmt<'s, V>, AllocError>
-    requires { parts.old.kind ≡ kind.If }
+    requires kind { parts.old.kind ≡ kind.If }
+    requires expr { IsSome parts.old.expr }
     ensures tree { IfOk result (λ s. stmt_node V.contents s ≡ statement_tree (λ x. x.now)
         (expr_node V.contents) (stmt_node V.contents) parts.old span) }
 {
-    match parts.expr.take() {
-        Some(expr) => {
-            let body = taken(alloc, &mut parts.body);
-            let else_body = taken(alloc, &mut parts.else_body);
-            nodes::if_cond(alloc, expr, body, else_body, span)
-        }
-        None => nodes::break_loop(alloc, span),
-    }
+    let expr = parts.expr.take().unwrap();
+    let body = taken(alloc, &mut parts.body);
+    let else_body = taken(alloc, &mut parts.else_body);
+    nodes::if_cond(alloc, expr, body, else_body, span)
 }
 
 /// A scope with assignments.
@@ -96,7 +93,7 @@ fn with_block<'s, V: TemplateValue>(
     parts: &mut StatementParts<&'s str, Expr<'s, V>, Stmt<'s, V>>,
     span: Span,
 ) -> Result<Stmt<'s, V>, AllocError>
-    requires { parts.old.kind ≡ kind.With }
+    requires kind { parts.old.kind ≡ kind.With }
     ensures tree { IfOk result (λ s. stmt_node V.contents s ≡ statement_tree (λ x. x.now)
         (expr_node V.contents) (stmt_node V.contents) parts.old span) }
 {
@@ -104,23 +101,20 @@ fn with_block<'s, V: TemplateValue>(
     nodes::with_block(alloc, assignments, taken(alloc, &mut parts.body), span)
 }
 
-/// An assignment of what a body writes.
+/// An assignment of the output of a body.
 fn set_block<'s, V: TemplateValue>(
     alloc: Global,
     parts: &mut StatementParts<&'s str, Expr<'s, V>, Stmt<'s, V>>,
     span: Span,
 ) -> Result<Stmt<'s, V>, AllocError>
-    requires { parts.old.kind ≡ kind.SetBlock }
+    requires kind { parts.old.kind ≡ kind.SetBlock }
+    requires target { IsSome parts.old.target }
     ensures tree { IfOk result (λ s. stmt_node V.contents s ≡ statement_tree (λ x. x.now)
         (expr_node V.contents) (stmt_node V.contents) parts.old span) }
 {
-    match parts.target.take() {
-        Some(target) => {
-            let body = taken(alloc, &mut parts.body);
-            nodes::set_block(alloc, target, parts.filter.take(), body, span)
-        }
-        None => nodes::break_loop(alloc, span),
-    }
+    let target = parts.target.take().unwrap();
+    let body = taken(alloc, &mut parts.body);
+    nodes::set_block(alloc, target, parts.filter.take(), body, span)
 }
 
 /// A body that is escaped or not.
@@ -129,30 +123,28 @@ fn auto_escape<'s, V: TemplateValue>(
     parts: &mut StatementParts<&'s str, Expr<'s, V>, Stmt<'s, V>>,
     span: Span,
 ) -> Result<Stmt<'s, V>, AllocError>
-    requires { parts.old.kind ≡ kind.AutoEscape }
+    requires kind { parts.old.kind ≡ kind.AutoEscape }
+    requires expr { IsSome parts.old.expr }
     ensures tree { IfOk result (λ s. stmt_node V.contents s ≡ statement_tree (λ x. x.now)
         (expr_node V.contents) (stmt_node V.contents) parts.old span) }
 {
-    match parts.expr.take() {
-        Some(expr) => nodes::auto_escape(alloc, expr, taken(alloc, &mut parts.body), span),
-        None => nodes::break_loop(alloc, span),
-    }
+    let expr = parts.expr.take().unwrap();
+    nodes::auto_escape(alloc, expr, taken(alloc, &mut parts.body), span)
 }
 
-/// Filters over what a body writes.
+/// Filters on the output of a body.
 fn filter_block<'s, V: TemplateValue>(
     alloc: Global,
     parts: &mut StatementParts<&'s str, Expr<'s, V>, Stmt<'s, V>>,
     span: Span,
 ) -> Result<Stmt<'s, V>, AllocError>
-    requires { parts.old.kind ≡ kind.FilterBlock }
+    requires kind { parts.old.kind ≡ kind.FilterBlock }
+    requires expr { IsSome parts.old.expr }
     ensures tree { IfOk result (λ s. stmt_node V.contents s ≡ statement_tree (λ x. x.now)
         (expr_node V.contents) (stmt_node V.contents) parts.old span) }
 {
-    match parts.expr.take() {
-        Some(expr) => nodes::filter_block(alloc, expr, taken(alloc, &mut parts.body), span),
-        None => nodes::break_loop(alloc, span),
-    }
+    let expr = parts.expr.take().unwrap();
+    nodes::filter_block(alloc, expr, taken(alloc, &mut parts.body), span)
 }
 
 /// A block.
@@ -161,83 +153,75 @@ fn named_block<'s, V: TemplateValue>(
     parts: &mut StatementParts<&'s str, Expr<'s, V>, Stmt<'s, V>>,
     span: Span,
 ) -> Result<Stmt<'s, V>, AllocError>
-    requires { parts.old.kind ≡ kind.Block }
+    requires kind { parts.old.kind ≡ kind.Block }
+    requires name { IsSome parts.old.name }
     ensures tree { IfOk result (λ s. stmt_node V.contents s ≡ statement_tree (λ x. x.now)
         (expr_node V.contents) (stmt_node V.contents) parts.old span) }
 {
-    match parts.name {
-        Some(name) => {
-            nodes::named_block(alloc, name, parts.flag, taken(alloc, &mut parts.body), span)
-        }
-        None => nodes::break_loop(alloc, span),
-    }
+    let name = parts.name.unwrap();
+    let body = taken(alloc, &mut parts.body);
+    nodes::named_block(alloc, name, parts.flag, body, span)
 }
 
-/// The template whose blocks are overridden.
+/// The template whose blocks this one overrides.
 fn extends<'s, V: TemplateValue>(
     alloc: Global,
     parts: &mut StatementParts<&'s str, Expr<'s, V>, Stmt<'s, V>>,
     span: Span,
 ) -> Result<Stmt<'s, V>, AllocError>
-    requires { parts.old.kind ≡ kind.Extends }
+    requires kind { parts.old.kind ≡ kind.Extends }
+    requires expr { IsSome parts.old.expr }
     ensures tree { IfOk result (λ s. stmt_node V.contents s ≡ statement_tree (λ x. x.now)
         (expr_node V.contents) (stmt_node V.contents) parts.old span) }
 {
-    match parts.expr.take() {
-        Some(name) => nodes::extends(alloc, name, span),
-        None => nodes::break_loop(alloc, span),
-    }
+    nodes::extends(alloc, parts.expr.take().unwrap(), span)
 }
 
-/// Another template in this one's place.
+/// A template that is included.
 fn include<'s, V: TemplateValue>(
     alloc: Global,
     parts: &mut StatementParts<&'s str, Expr<'s, V>, Stmt<'s, V>>,
     span: Span,
 ) -> Result<Stmt<'s, V>, AllocError>
-    requires { parts.old.kind ≡ kind.Include }
+    requires kind { parts.old.kind ≡ kind.Include }
+    requires expr { IsSome parts.old.expr }
     ensures tree { IfOk result (λ s. stmt_node V.contents s ≡ statement_tree (λ x. x.now)
         (expr_node V.contents) (stmt_node V.contents) parts.old span) }
 {
-    match parts.expr.take() {
-        Some(name) => nodes::include(alloc, name, parts.flag, span),
-        None => nodes::break_loop(alloc, span),
-    }
+    nodes::include(alloc, parts.expr.take().unwrap(), parts.flag, span)
 }
 
-/// All that another template stores.
+/// A template whose exports are stored to a target.
 fn import_all<'s, V: TemplateValue>(
     alloc: Global,
     parts: &mut StatementParts<&'s str, Expr<'s, V>, Stmt<'s, V>>,
     span: Span,
 ) -> Result<Stmt<'s, V>, AllocError>
-    requires { parts.old.kind ≡ kind.Import }
+    requires kind { parts.old.kind ≡ kind.Import }
+    requires target { IsSome parts.old.target }
+    requires expr { IsSome parts.old.expr }
     ensures tree { IfOk result (λ s. stmt_node V.contents s ≡ statement_tree (λ x. x.now)
         (expr_node V.contents) (stmt_node V.contents) parts.old span) }
 {
-    match (parts.target.take(), parts.expr.take()) {
-        (Some(name), Some(expr)) => nodes::import_all(alloc, Import { expr, name }, span),
-        _ => nodes::break_loop(alloc, span),
-    }
+    let name = parts.target.take().unwrap();
+    let expr = parts.expr.take().unwrap();
+    nodes::import_all(alloc, Import { expr, name }, span)
 }
 
-/// Names that another template stores.
+/// Names that are imported from a template.
 fn from_import<'s, V: TemplateValue>(
     alloc: Global,
     parts: &mut StatementParts<&'s str, Expr<'s, V>, Stmt<'s, V>>,
     span: Span,
 ) -> Result<Stmt<'s, V>, AllocError>
-    requires { parts.old.kind ≡ kind.FromImport }
+    requires kind { parts.old.kind ≡ kind.FromImport }
+    requires expr { IsSome parts.old.expr }
     ensures tree { IfOk result (λ s. stmt_node V.contents s ≡ statement_tree (λ x. x.now)
         (expr_node V.contents) (stmt_node V.contents) parts.old span) }
 {
-    match parts.expr.take() {
-        Some(expr) => {
-            let names = taken(alloc, &mut parts.names);
-            nodes::from_import(alloc, FromImport { expr, names }, span)
-        }
-        None => nodes::break_loop(alloc, span),
-    }
+    let expr = parts.expr.take().unwrap();
+    let names = taken(alloc, &mut parts.names);
+    nodes::from_import(alloc, FromImport { expr, names }, span)
 }
 
 /// A macro.
@@ -246,75 +230,70 @@ fn declared<'s, V: TemplateValue>(
     parts: &mut StatementParts<&'s str, Expr<'s, V>, Stmt<'s, V>>,
     span: Span,
 ) -> Result<Stmt<'s, V>, AllocError>
-    requires { parts.old.kind ≡ kind.Macro }
+    requires kind { parts.old.kind ≡ kind.Macro }
+    requires name { IsSome parts.old.name }
     ensures tree { IfOk result (λ s. stmt_node V.contents s ≡ statement_tree (λ x. x.now)
         (expr_node V.contents) (stmt_node V.contents) parts.old span) }
 {
-    match parts.name {
-        Some(name) => {
-            let names = taken(alloc, &mut parts.names);
-            nodes::declared(alloc, name, names, taken(alloc, &mut parts.body), span)
-        }
-        None => nodes::break_loop(alloc, span),
-    }
+    let name = parts.name.unwrap();
+    let names = taken(alloc, &mut parts.names);
+    nodes::declared(alloc, name, names, taken(alloc, &mut parts.body), span)
 }
 
-/// The output of a call that takes a macro along.
-#[tactic(auto, using(crate::proofs::Calls::no_call_block_is), unfolding(minijinja_parser_stmt::specs::internal::Made::statement_tree))]
+/// The output of a call to which a macro is passed.
 fn call_block<'s, V: TemplateValue>(
     alloc: Global,
     parts: &mut StatementParts<&'s str, Expr<'s, V>, Stmt<'s, V>>,
     span: Span,
 ) -> Result<Stmt<'s, V>, AllocError>
-    requires { parts.old.kind ≡ kind.CallBlock }
+    requires kind { parts.old.kind ≡ kind.CallBlock }
+    requires call { is_call (expr_node V.contents) parts.old.expr ≡ true }
     ensures tree { IfOk result (λ s. stmt_node V.contents s ≡ statement_tree (λ x. x.now)
         (expr_node V.contents) (stmt_node V.contents) parts.old span) }
 {
-    match parts.expr.take() {
-        Some(expr) => match expr.into_call() {
-            Some(call) => {
-                let names = taken(alloc, &mut parts.names);
-                nodes::call_block(alloc, call, names, taken(alloc, &mut parts.body), span)
-            }
-            None => nodes::break_loop(alloc, span),
-        },
-        None => nodes::break_loop(alloc, span),
-    }
+    let call = call_of(parts.expr.take());
+    let names = taken(alloc, &mut parts.names);
+    nodes::call_block(alloc, call, names, taken(alloc, &mut parts.body), span)
 }
 
-/// A call whose answer is dropped.
-#[tactic(auto, using(crate::proofs::Calls::break_is), unfolding(minijinja_parser_stmt::specs::internal::Made::statement_tree))]
+/// A call whose result is dropped.
 fn do_call<'s, V: TemplateValue>(
     alloc: Global,
     parts: &mut StatementParts<&'s str, Expr<'s, V>, Stmt<'s, V>>,
     span: Span,
 ) -> Result<Stmt<'s, V>, AllocError>
-    requires { parts.old.kind ≡ kind.Do }
+    requires kind { parts.old.kind ≡ kind.Do }
+    requires call { is_call (expr_node V.contents) parts.old.expr ≡ true }
     ensures tree { IfOk result (λ s. stmt_node V.contents s ≡ statement_tree (λ x. x.now)
         (expr_node V.contents) (stmt_node V.contents) parts.old span) }
 {
-    match parts.expr.take() {
-        Some(expr) => match expr.into_call() {
-            Some(call) => nodes::do_call(alloc, call, span),
-            None => nodes::break_loop(alloc, span),
-        },
-        None => nodes::break_loop(alloc, span),
-    }
+    nodes::do_call(alloc, call_of(parts.expr.take()), span)
 }
 
-/// A list, in the place of which an empty one is left.
+/// The call that an expression is.
+#[tactic(auto, using(crate::proofs::Calls::some_expr, crate::proofs::Calls::some_node))]
+fn call_of<'s, V: TemplateValue>(expr: Option<Expr<'s, V>>) -> Spanned<Call<'s, V>>
+    requires { is_call (expr_node V.contents) expr ≡ true }
+    ensures { expr.entry ≡ Some (exprs.Call result) }
+{
+    expr.unwrap().into_call().unwrap()
+}
+
+/// A list, which is replaced by an empty one.
 fn taken<T: Drop>(alloc: Global, list: &mut Vec<T>) -> Vec<T>
     ensures { result.items ≡ list.old.items }
 {
     mem::replace(list, Vec::new(alloc))
 }
 
-/// The statement of these parts, which are taken out.
+/// The statement that is made of the parts, which are taken out.
+#[tactic(auto, unfolding(minijinja_parser_stmt::specs::internal::Made::HasParts, minijinja_parser_stmt::specs::internal::Made::statement_tree))]
 pub fn statement<'s, V: TemplateValue>(
     alloc: Global,
     parts: &mut StatementParts<&'s str, Expr<'s, V>, Stmt<'s, V>>,
     span: Span,
 ) -> Result<Stmt<'s, V>, AllocError>
+    requires { HasParts (expr_node V.contents) parts.old }
     ensures tree { IfOk result (λ s. stmt_node V.contents s ≡ statement_tree (λ x. x.now)
         (expr_node V.contents) (stmt_node V.contents) parts.old span) }
 {

@@ -1,5 +1,5 @@
-//! The statements of a tree.
-#![tactic(auto, unfolding(crate::specs::private::AnyParts::parts_tree))]
+//! Makes the statements of a tree, by the rules of templates.
+#![tactic(auto, unfolding(crate::specs::private::AnyParts::parts_tree, crate::specs::private::AnyParts::AreComplete))]
 
 ghost use Rattle.std.specs.Prelude.{◌≡◌, IfOk};
 ghost use Rattle.std.specs.Option.{option_map};
@@ -10,8 +10,8 @@ ghost use Rattle.minijinja_grammar.specs.Forms.{reads};
 ghost use Rattle.minijinja_grammar.specs.Templates.{template_at};
 ghost use Rattle.minijinja_parser_tokens.specs.internal.Forms.{expr_of, ident_of};
 ghost use Rattle.minijinja_parser_tokens.specs.internal.Reads.{Reads};
-ghost use Rattle.minijinja_parser_stmt.specs.internal.Made.{opening_of, opening_tok, statement_tree, target_tree};
-ghost use Rattle.minijinja_parser_stmt_nodes.specs.private.AnyParts.{parts_tree};
+ghost use Rattle.minijinja_parser_stmt.specs.internal.Made.{HasParts, opening_of, opening_tok, statement_tree, target_tree};
+ghost use Rattle.minijinja_parser_stmt_nodes.specs.private.AnyParts.{AreComplete, parts_tree};
 
 use crate::of_parts;
 use minijinja_parser_expr::expressions::expression;
@@ -54,6 +54,7 @@ pub trait OfParts<'s, V: TemplateValue>: Drop {
         parts: AnyParts<&'s str, Expr<'s, V>, Self>,
         span: Span,
     ) -> Result<Self, AllocError>
+        requires { AreComplete (expr_node V.contents) parts }
         ensures { IfOk result (λ s. node V.Contents V.contents s ≡ parts_tree (λ x. x.now)
             (expr_node V.contents) (node V.Contents V.contents) parts.entry span) };
 }
@@ -66,6 +67,7 @@ impl<'s, V: TemplateValue> OfParts<'s, V> for Stmt<'s, V> {
         parts: AnyParts<&'s str, Expr<'s, V>, Stmt<'s, V>>,
         span: Span,
     ) -> Result<Stmt<'s, V>, AllocError>
+        requires { AreComplete (expr_node V.contents) parts }
         ensures { IfOk result (λ s. stmt_node V.contents s ≡ parts_tree (λ x. x.now)
             (expr_node V.contents) (stmt_node V.contents) parts.entry span) }
     {
@@ -188,6 +190,7 @@ impl<'s, 'c, V: TemplateValue, S: OfParts<'s, V>> StmtBuilder for TreeStmts<'s, 
         parts: StatementParts<&'s str, Expr<'s, V>, S>,
         span: Span,
     ) -> Result<S, AllocError>
+        requires { HasParts (expr_node V.contents) parts }
         ensures { IfOk result (λ s. S.node V.Contents V.contents s ≡ statement_tree (λ x. x.now)
             (expr_node V.contents) (S.node V.Contents V.contents) parts.entry span) }
     {
@@ -195,7 +198,7 @@ impl<'s, 'c, V: TemplateValue, S: OfParts<'s, V>> StmtBuilder for TreeStmts<'s, 
     }
 }
 
-/// A template, of any such statements.
+/// Reads a template, of statements of any such type.
 fn template_of<'s, 'c, V: TemplateValue, S: OfParts<'s, V>>(
     nodes: TreeExprs<'s, 'c, V>,
     tokens: &mut TokenStream<'s, 'c>,
@@ -208,7 +211,7 @@ fn template_of<'s, 'c, V: TemplateValue, S: OfParts<'s, V>>(
     statements::template(TreeStmts { nodes, made }, tokens, depth)
 }
 
-/// A template, in which statements and expressions nest `depth` deep at most.
+/// Reads a template, in which statements and expressions nest `depth` deep at most.
 pub fn template<'s, 'c, V: TemplateValue>(
     nodes: TreeExprs<'s, 'c, V>,
     tokens: &mut TokenStream<'s, 'c>,

@@ -1,5 +1,5 @@
 -- The statements and targets of the grammar that are made of parts, and what tokens hold.
-use Rattle.std.specs.Prelude.{Bool, List, map, codes, Option, Some, None, if◌then◌else◌}
+use Rattle.std.specs.Prelude.{◌≡◌, Bool, true, false, ◌&&◌, List, map, codes, Option, Some, None, is_some, if◌then◌else◌}
 use Rattle.std.specs.Option.{option_map}
 use Rattle.minijinja_syntax.specs.Texts.{Text}
 use Rattle.minijinja_syntax.specs.Tokens.{Tok, template_data, variable_start, block_start}
@@ -55,6 +55,35 @@ call_tree (Some c) s = tree.do_call c.0 c.1 c.2 s
 abbrev pub call_block_tree : {C : Type 0} → Option (Expr C × Args C × Span) → Macro C → Span → Stmt C
 call_block_tree None m s = tree.break_loop s
 call_block_tree (Some c) m s = tree.call_block c.0 c.1 c.2 m s
+
+-- whether it is an expression that is a call
+abbrev pub is_call : {E C : Type 0} → (E → Expr C) → Option E → Bool
+is_call of None = false
+is_call of (Some e) = is_some (call_of (of e))
+
+-- whether a statement of the kind has what it needs of a name, a target, an expression, and an
+-- expression that is a call
+abbrev pub has_parts : Kind → (name target expr call : Bool) → Bool
+has_parts kind.Set x t e c = t && e
+has_parts kind.For x t e c = t && e
+has_parts kind.If x t e c = e
+has_parts kind.SetBlock x t e c = t
+has_parts kind.AutoEscape x t e c = e
+has_parts kind.FilterBlock x t e c = e
+has_parts kind.Block x t e c = x
+has_parts kind.Extends x t e c = e
+has_parts kind.Include x t e c = e
+has_parts kind.Import x t e c = t && e
+has_parts kind.FromImport x t e c = e
+has_parts kind.Macro x t e c = x
+has_parts kind.CallBlock x t e c = c
+has_parts kind.Do x t e c = c
+has_parts _ x t e c = true
+
+-- the parts that a statement of their kind needs are there (no `abbrev`, for the reason that
+-- `statement_tree` is none)
+unfoldable pub HasParts : {N E S C : Type 0} → (E → Expr C) → StatementParts N E S → Type 0
+HasParts of p = has_parts p.kind (is_some p.name) (is_some p.target) (is_some p.expr) (is_call of p.expr) ≡ true
 
 -- the statement of a kind, of its parts
 abbrev pub tree_of : {C : Type 0} → Kind → Option Text → (target expr filter : Option (Expr C)) → List (Expr C × Expr C) → List (Expr C × Option (Expr C)) → (body other : List (Stmt C)) → Bool → Span → Stmt C

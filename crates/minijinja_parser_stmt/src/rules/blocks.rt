@@ -148,7 +148,7 @@ impl<
     }
 
     /// A block that stands in no macro, after its word.
-    #[tactic(auto, using(crate::proofs::Blocks::block_is), unfolding(crate::specs::internal::Made::statement_tree))]
+    #[tactic(auto, using(crate::proofs::Blocks::block_is), unfolding(crate::specs::internal::Made::HasParts, crate::specs::internal::Made::statement_tree))]
     fn named_block(&self, tokens: &mut S::Input, from: Span) -> Result<S::Stmt, Refusal>
         requires { Nests S.Input.place S.stmt S.functions self.now.depth F.pre F.post
             self.now.stmt }

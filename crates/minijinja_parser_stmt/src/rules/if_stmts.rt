@@ -24,7 +24,7 @@ pub struct Branch<E, S> {
 }
 
 /// The `if` of a branch and of the body for a failed test, up to the end of the token at `to`.
-#[tactic(auto, unfolding(crate::specs::internal::Made::statement_tree))]
+#[tactic(auto, unfolding(crate::specs::internal::Made::HasParts, crate::specs::internal::Made::statement_tree))]
 fn if_of<S: StmtBuilder>(
     builder: S,
     branch: Branch<S::Expr, S::Stmt>,

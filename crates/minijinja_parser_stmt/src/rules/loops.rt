@@ -66,7 +66,7 @@ impl<
     }
 
     /// `for`, after its word.
-    #[tactic(auto, using(minijinja_parser_tokens::proofs::Turned::flag_is), unfolding(minijinja_grammar::specs::Forms::reads, minijinja_grammar::specs::Statements::for_stmt, crate::specs::internal::Made::statement_tree))]
+    #[tactic(auto, using(minijinja_parser_tokens::proofs::Turned::flag_is), unfolding(minijinja_grammar::specs::Forms::reads, minijinja_grammar::specs::Statements::for_stmt, crate::specs::internal::Made::HasParts, crate::specs::internal::Made::statement_tree))]
     pub(super) fn for_stmt(&self, tokens: &mut S::Input, from: Span) -> Result<S::Stmt, Refusal>
         requires { Nests S.Input.place S.stmt S.functions self.now.depth F.pre F.post
             self.now.stmt }

@@ -152,7 +152,7 @@ impl<
     }
 
     /// `macro`, after its word.
-    #[tactic(auto, unfolding(crate::specs::internal::Made::statement_tree, minijinja_grammar::specs::Forms::reads, minijinja_grammar::specs::Statements::macro_stmt))]
+    #[tactic(auto, unfolding(crate::specs::internal::Made::HasParts, crate::specs::internal::Made::statement_tree, minijinja_grammar::specs::Forms::reads, minijinja_grammar::specs::Statements::macro_stmt))]
     pub(super) fn macro_stmt(&self, tokens: &mut S::Input, from: Span) -> Result<S::Stmt, Refusal>
         requires { Nests S.Input.place S.stmt S.functions self.now.depth F.pre F.post
             self.now.stmt }
@@ -173,7 +173,7 @@ impl<
     }
 
     /// `call`, after its word.
-    #[tactic(auto, using(crate::proofs::Calls::call_block_is), unfolding(crate::specs::internal::Made::statement_tree))]
+    #[tactic(auto, using(crate::proofs::Calls::call_block_is), unfolding(crate::specs::internal::Made::HasParts, crate::specs::internal::Made::statement_tree))]
     pub(super) fn call_stmt(&self, tokens: &mut S::Input, from: Span) -> Result<S::Stmt, Refusal>
         requires { Nests S.Input.place S.stmt S.functions self.now.depth F.pre F.post
             self.now.stmt }

@@ -30,7 +30,7 @@ fn context_if_any<S: StmtBuilder>(tokens: &mut S::Input) -> Result<bool, Refusal
 }
 
 /// `extends`, after its word.
-#[tactic(auto, unfolding(crate::specs::internal::Made::statement_tree, minijinja_grammar::specs::Forms::reads, minijinja_grammar::specs::Statements::extends_stmt))]
+#[tactic(auto, unfolding(crate::specs::internal::Made::HasParts, crate::specs::internal::Made::statement_tree, minijinja_grammar::specs::Forms::reads, minijinja_grammar::specs::Statements::extends_stmt))]
 pub(super) fn extends_stmt<S: StmtBuilder>(
     builder: S,
     tokens: &mut S::Input,
@@ -65,7 +65,7 @@ fn ignored<S: StmtBuilder>(tokens: &mut S::Input, had_context: bool) -> Result<b
 }
 
 /// `include`, after its word.
-#[tactic(auto, unfolding(crate::specs::internal::Made::statement_tree, minijinja_grammar::specs::Forms::reads, minijinja_grammar::specs::Statements::include_stmt))]
+#[tactic(auto, unfolding(crate::specs::internal::Made::HasParts, crate::specs::internal::Made::statement_tree, minijinja_grammar::specs::Forms::reads, minijinja_grammar::specs::Statements::include_stmt))]
 pub(super) fn include_stmt<S: StmtBuilder>(
     builder: S,
     tokens: &mut S::Input,
@@ -86,7 +86,7 @@ pub(super) fn include_stmt<S: StmtBuilder>(
 }
 
 /// `import`, after its word.
-#[tactic(auto, using(crate::proofs::Imports::import_is), unfolding(crate::specs::internal::Made::statement_tree))]
+#[tactic(auto, using(crate::proofs::Imports::import_is), unfolding(crate::specs::internal::Made::HasParts, crate::specs::internal::Made::statement_tree))]
 pub(super) fn import_stmt<S: StmtBuilder>(
     builder: S,
     tokens: &mut S::Input,
@@ -163,7 +163,7 @@ fn imports<S: StmtBuilder>(
 }
 
 /// `from`, after its word.
-#[tactic(auto, using(crate::proofs::Imports::aliases_are), unfolding(crate::specs::internal::Made::statement_tree, minijinja_grammar::specs::Forms::reads, minijinja_grammar::specs::Statements::from_stmt))]
+#[tactic(auto, using(crate::proofs::Imports::aliases_are), unfolding(crate::specs::internal::Made::HasParts, crate::specs::internal::Made::statement_tree, minijinja_grammar::specs::Forms::reads, minijinja_grammar::specs::Statements::from_stmt))]
 pub(super) fn from_stmt<S: StmtBuilder>(
     builder: S,
     tokens: &mut S::Input,

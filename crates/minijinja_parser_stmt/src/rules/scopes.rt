@@ -68,7 +68,7 @@ fn bindings<S: StmtBuilder>(
 }
 
 /// `=` and a value, after the targets of a `set`.
-#[tactic(auto, unfolding(crate::specs::internal::Made::statement_tree, minijinja_grammar::specs::Forms::reads, minijinja_grammar::specs::Statements::rest_of_set))]
+#[tactic(auto, unfolding(crate::specs::internal::Made::HasParts, crate::specs::internal::Made::statement_tree, minijinja_grammar::specs::Forms::reads, minijinja_grammar::specs::Statements::rest_of_set))]
 fn rest_of_set<S: StmtBuilder>(
     builder: S,
     tokens: &mut S::Input,
@@ -116,7 +116,7 @@ impl<
         ) -> Result<S::Stmt, Refusal>,
 > StmtRules<S, F> {
     /// `with`, after its word.
-    #[tactic(auto, unfolding(crate::specs::internal::Made::statement_tree, minijinja_grammar::specs::Forms::reads, minijinja_grammar::specs::Statements::with_stmt))]
+    #[tactic(auto, unfolding(crate::specs::internal::Made::HasParts, crate::specs::internal::Made::statement_tree, minijinja_grammar::specs::Forms::reads, minijinja_grammar::specs::Statements::with_stmt))]
     pub(super) fn with_stmt(&self, tokens: &mut S::Input, from: Span) -> Result<S::Stmt, Refusal>
         requires { Nests S.Input.place S.stmt S.functions self.now.depth F.pre F.post
             self.now.stmt }
@@ -133,7 +133,7 @@ impl<
     }
 
     /// The filters and the body of a set block, after its targets.
-    #[tactic(auto, unfolding(crate::specs::internal::Made::statement_tree, minijinja_grammar::specs::Forms::reads, minijinja_grammar::specs::Statements::rest_of_set_block))]
+    #[tactic(auto, unfolding(crate::specs::internal::Made::HasParts, crate::specs::internal::Made::statement_tree, minijinja_grammar::specs::Forms::reads, minijinja_grammar::specs::Statements::rest_of_set_block))]
     fn rest_of_set_block(
         &self,
         tokens: &mut S::Input,
@@ -172,7 +172,7 @@ impl<
     }
 
     /// `autoescape`, after its word.
-    #[tactic(auto, unfolding(crate::specs::internal::Made::statement_tree, minijinja_grammar::specs::Forms::reads, minijinja_grammar::specs::Statements::autoescape_stmt))]
+    #[tactic(auto, unfolding(crate::specs::internal::Made::HasParts, crate::specs::internal::Made::statement_tree, minijinja_grammar::specs::Forms::reads, minijinja_grammar::specs::Statements::autoescape_stmt))]
     pub(super) fn autoescape_stmt(
         &self,
         tokens: &mut S::Input,
@@ -193,7 +193,7 @@ impl<
     }
 
     /// A filter block, after its word.
-    #[tactic(auto, unfolding(crate::specs::internal::Made::statement_tree, minijinja_grammar::specs::Forms::reads, minijinja_grammar::specs::Statements::filter_stmt))]
+    #[tactic(auto, unfolding(crate::specs::internal::Made::HasParts, crate::specs::internal::Made::statement_tree, minijinja_grammar::specs::Forms::reads, minijinja_grammar::specs::Statements::filter_stmt))]
     pub(super) fn filter_stmt(&self, tokens: &mut S::Input, from: Span) -> Result<S::Stmt, Refusal>
         requires { Nests S.Input.place S.stmt S.functions self.now.depth F.pre F.post
             self.now.stmt }

@@ -18,7 +18,7 @@ use minijinja_syntax::tokens::Span;
 use std::marker::PhantomData;
 
 /// A template, in which statements and expressions nest `depth` deep at most.
-#[tactic(auto, unfolding(crate::specs::internal::Made::statement_tree, minijinja_grammar::specs::Forms::reads, minijinja_grammar::specs::Templates::template_at))]
+#[tactic(auto, unfolding(crate::specs::internal::Made::HasParts, crate::specs::internal::Made::statement_tree, minijinja_grammar::specs::Forms::reads, minijinja_grammar::specs::Templates::template_at))]
 pub fn template<S: StmtBuilder>(
     builder: S,
     tokens: &mut S::Input,
@@ -76,7 +76,7 @@ pub fn stmt<S: StmtBuilder>(
 }
 
 /// `do`, after its word.
-#[tactic(auto, using(crate::proofs::Calls::do_is), unfolding(crate::specs::internal::Made::statement_tree))]
+#[tactic(auto, using(crate::proofs::Calls::do_is), unfolding(crate::specs::internal::Made::HasParts, crate::specs::internal::Made::statement_tree))]
 fn do_stmt<S: StmtBuilder>(
     builder: S,
     tokens: &mut S::Input,
@@ -94,7 +94,7 @@ fn do_stmt<S: StmtBuilder>(
 }
 
 /// `break`, after its word.
-#[tactic(auto, unfolding(crate::specs::internal::Made::statement_tree, minijinja_grammar::specs::Forms::reads, minijinja_grammar::specs::Statements::break_stmt))]
+#[tactic(auto, unfolding(crate::specs::internal::Made::HasParts, crate::specs::internal::Made::statement_tree, minijinja_grammar::specs::Forms::reads, minijinja_grammar::specs::Statements::break_stmt))]
 fn break_stmt<S: StmtBuilder>(
     builder: S,
     tokens: &mut S::Input,
@@ -113,7 +113,7 @@ fn break_stmt<S: StmtBuilder>(
 }
 
 /// `continue`, after its word.
-#[tactic(auto, unfolding(crate::specs::internal::Made::statement_tree, minijinja_grammar::specs::Forms::reads, minijinja_grammar::specs::Statements::continue_stmt))]
+#[tactic(auto, unfolding(crate::specs::internal::Made::HasParts, crate::specs::internal::Made::statement_tree, minijinja_grammar::specs::Forms::reads, minijinja_grammar::specs::Statements::continue_stmt))]
 fn continue_stmt<S: StmtBuilder>(
     builder: S,
     tokens: &mut S::Input,

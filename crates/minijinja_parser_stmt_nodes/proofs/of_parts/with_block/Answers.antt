@@ -4,4 +4,4 @@ use Rattle.minijinja_parser_stmt_nodes.proofs.of_parts.with_block.Goals as goal
 
 pub returns : goal.returns
 unfolding statement_tree
-returns g c = record { tree = rw (c.requires, sym c.taken-assignments.ensures, sym c.taken.ensures) c.with_block.ensures.tree }
+returns g c = record { tree = rw (c.requires.kind, sym c.taken-assignments.ensures, sym c.taken.ensures) c.with_block.ensures.tree }

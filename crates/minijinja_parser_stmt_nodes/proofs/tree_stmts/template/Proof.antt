@@ -54,6 +54,8 @@ use Rattle.minijinja_parser_tokens.specs.contracts.token_stream.TokenStream as s
 use Rattle.minijinja_tree.specs.contracts.ast.Stmt as tree
 use Rattle.minijinja_parser_expr.proofs.tree_exprs.TreeExprs.TheLaws as nodes_laws
 use Rattle.minijinja_tree.proofs.ast.Stmt.TheLaws as tree_laws
+use Rattle.minijinja_tree.specs.SpannedErasure.{expr_node}
+use Rattle.minijinja_parser_stmt_nodes.specs.private.AnyParts.{AreComplete}
 use Rattle.minijinja_parser_stmt_nodes.specs.contracts.tree_stmts.OfParts.TheBound as parts_bound
 use Rattle.minijinja_parser_stmt_nodes.specs.declared.tree_stmts.OfParts as parts_ghosts
 use Rattle.minijinja_parser_stmt_nodes.specs.contracts.tree_stmts.StmtOfParts.TheImpl as parts
@@ -71,8 +73,8 @@ use ghost.Rules.{thinned}
 use denote.Builtin.{unit}
 use denote.Triple.End.{Fins, lasts_of}
 use Rattle.minijinja_tree.specs.contracts.ast.Stmt.drop as drop_one
-use Rattle.minijinja_tree.proofs.ast.Stmt.drop.Symbol as let_go
-use Rattle.minijinja_tree.proofs.ast.Stmt.drop.Met.{met as let_go_met}
+use Rattle.minijinja_tree.proofs.ast.Stmt.drop.Symbol as dropping
+use Rattle.minijinja_tree.proofs.ast.Stmt.drop.Met.{met as dropping_met}
 
 -- ---- the type that the rules are called for: statements of a tree, whose texts live for κ
 -- what a call passes, by name
@@ -107,8 +109,8 @@ S-laws : (V VF : RattleType) → Laws V → Laws VF → (κ : Lft) → Laws (S V
 S-laws V VF L LF κ = arg_laws (laid_out V VF) no (statements V VF κ) (tree_laws.the_row_laws (record { mir = named 0; lft = κ }) (param 0 V) (param 1 VF) (param_laws 0 V L) (param_laws 1 VF LF)) refl
 
 -- ---- how the call lets one go
-abbrev let_go_by : RattleType → RattleType → Dict → Dict → Dict → Dict
-let_go_by V VF dV dD dFD = impl (let_go.symbol ∷ []) (tcons (layout V) (tcons (layout VF) tnil)) (dcons dV (dcons dD (dcons dFD dnil)))
+abbrev dropped_by : RattleType → RattleType → Dict → Dict → Dict → Dict
+dropped_by V VF dV dD dFD = impl (dropping.symbol ∷ []) (tcons (layout V) (tcons (layout VF) tnil)) (dcons dV (dcons dD (dcons dFD dnil)))
 
 -- ---- small steps
 -- what a walk has of a parameter at its end, where that is what the contract says of it
@@ -127,15 +129,15 @@ asked : {M : Type 1} (𝓤 : Ura M) (κ κ' τ τ' μ μ' : Lft) (P : Type 0) �
 asked 𝓤 κ κ' τ τ' μ μ' P h k m p = known 𝓤 _ _ h (known 𝓤 _ _ k (known 𝓤 _ _ m (known 𝓤 _ _ p (id⊢ 𝓤 (emp 𝓤)))))
 
 module _ (V VF : RattleType) (L : Laws V) (LF : Laws VF) (gV : value.Ghosts V.Denot VF.Denot) (κ : Lft) (dV dD dFD : Dict) {M : Type 1} {𝓤 : Ura M} (𝓛 : Logic 𝓤) (𝓜 : Model 𝓤 𝓛.H) (𝓡 : Running 𝓤 𝓛.H 𝓜) where
-  lets_go : Wired 𝓡.env let_go.code → value_bound.Met 𝓛 𝓜 𝓡 𝓡.env V VF gV dV → glue.Met 𝓛 𝓜 𝓡 𝓡.env V dD → glue.Met 𝓛 𝓜 𝓡 𝓡.env VF dFD → glue.Met 𝓛 𝓜 𝓡 𝓡.env (S V VF κ) (let_go_by V VF dV dD dFD)
-  lets_go wired met-V go-V go-VF y =
+  drops : Wired 𝓡.env dropping.code → value_bound.Met 𝓛 𝓜 𝓡 𝓡.env V VF gV dV → glue.Met 𝓛 𝓜 𝓡 𝓡.env V dD → glue.Met 𝓛 𝓜 𝓡 𝓡.env VF dFD → glue.Met 𝓛 𝓜 𝓡 𝓡.env (S V VF κ) (dropped_by V VF dV dD dFD)
+  drops wired met-V go-V go-VF y =
       let τ : Lft = y.0.0.0 in let q : Share = y.0.1.0 in let x = y.0.3.0 in let us = y.0.4.0 in
       let r : Share = (common q q).0 in let s : Share = (common q q).1 in let t : Share = thinned κ r in
       let s1 : Share = (common s s).0 in let s2 : Share = (common s s).1 in
       let c = drop_one.spec V VF gV dV dD dFD 𝓛 𝓜.mem 𝓡.returns in
       let G = triple_of 𝓛 (drop_one.signature V VF) c in
       let z : G.Ghost = (((κ, (τ, (τ, tt))), (t, (s1, (s2, tt))), tt, (x, tt), (us, tt)), tt) in
-      let k = method (let_go_by V VF dV dD dFD) 0 no_args in
+      let k = method (dropped_by V VF dV dD dFD) 0 no_args in
       let run : Fun 𝓤 = 𝓡.run (𝓡.env k) in
       let F : SProp 𝓤 = wand 𝓤 (𝓛.A.lft κ t) (𝓛.A.lft τ r) in
       let Q = triple_of 𝓛 (glue.signature (S V VF κ)) (glue.spent 𝓛 (S V VF κ)) in
@@ -150,7 +152,7 @@ module _ (V VF : RattleType) (L : Laws V) (LF : Laws VF) (gV : value.Ghosts V.De
       use0 𝓛 (raw (sep 𝓤 (fact 𝓤 (τ ⊑ V.lives)) (sep 𝓤 (fact 𝓤 (τ ⊑ VF.lives)) (emp 𝓤)))) (known 𝓤 _ _ (holds within).1.0 (known 𝓤 _ _ (holds within).1.1.0 (id⊢ 𝓤 (emp 𝓤)))) $
       move ! (1 ∷ 0 ∷ []) $ join ! $ done !))
       (via 𝓤 (sep 𝓤 (run (G.args z) (G.post z)) F)
-      (mono_l 𝓤 F (widened 𝓤 𝓛.H G 𝓜 𝓡 𝓡.env (𝓡.env (let_go.name (bounded (a_type ∷ a_type ∷ []) (V, (VF, tt)) (dcons dV (dcons dD (dcons dFD dnil)))))) (𝓡.env k) (let_go.as_method 𝓡.env wired k refl) (let_go_met 𝓤 𝓛 𝓜 𝓡 wired V VF L LF gV dV dD dFD met-V go-V go-VF) z))
+      (mono_l 𝓤 F (widened 𝓤 𝓛.H G 𝓜 𝓡 𝓡.env (𝓡.env (dropping.name (bounded (a_type ∷ a_type ∷ []) (V, (VF, tt)) (dcons dV (dcons dD (dcons dFD dnil)))))) (𝓡.env k) (dropping.as_method 𝓡.env wired k refl) (dropping_met 𝓤 𝓛 𝓜 𝓡 wired V VF L LF gV dV dD dFD met-V go-V go-VF) z))
       (run_framed 𝓤 𝓛.H 𝓜 𝓡 (𝓡.env k) (G.args z) (G.post z) (Q.post y) F (λ v. qed 𝓛 (raw (G.post z v) ∷ raw F ∷ []) ∵ updating ! $
       use1 𝓛 (later (some (λ (u : Unit {0}). ((‵ (flft κ t) ⊛ (‵ (flft τ s1) ⊛ (‵ (flft τ s2) ⊛ ‵ ftrue))) ⊛ ‵ (unit.own_val u (v ∷ []))) ⊛ raw ((c z.0.0 z.0.3).ensures tt u)))) (id⊢ 𝓤 _) $
       await ! tt $ pick ! (λ u. split ! $ split ! $ split ! $ move ! (1 ∷ []) $ split ! $ move ! (1 ∷ []) $ split ! $
@@ -179,14 +181,14 @@ module _ (V VF : RattleType) (LV : Laws V) (LVF : Laws VF) (gV : value.Ghosts V.
   made_by_parts = parts.dict V VF gV dV dD dFD
 
   abbrev U : Lft → Ended
-  U κ = rules.ended V (S V VF κ) VF gV dV made_of made_by_parts dD (let_go_by V VF dV dD dFD) dFD (same κ)
+  U κ = rules.ended V (S V VF κ) VF gV dV made_of made_by_parts dD (dropped_by V VF dV dD dFD) dFD (same κ)
 
   module _ {M : Type 1} {𝓤 : Ura M} (𝓛 : Logic 𝓤) (𝓜 : Model 𝓤 𝓛.H) (𝓡 : Running 𝓤 𝓛.H 𝓜) where
     abbrev c : Clauses 𝓤 T
     c = own.clauses V VF gV dV dD dFD 𝓛 𝓜.mem 𝓡.returns
 
     abbrev called : (κ : Lft) → Spec 𝓤 (U κ).signature
-    called κ = rules.spec V (S V VF κ) VF gV dV made_of made_by_parts dD (let_go_by V VF dV dD dFD) dFD (same κ) 𝓛 𝓜.mem 𝓡.returns
+    called κ = rules.spec V (S V VF κ) VF gV dV made_of made_by_parts dD (dropped_by V VF dV dD dFD) dFD (same κ) 𝓛 𝓜.mem 𝓡.returns
 
     -- a statement is made of its parts, as the rules ask of any type
     makes : (κ : Lft) → Wired 𝓡.env parts_symbol.code → value_bound.Met 𝓛 𝓜 𝓡 𝓡.env V VF gV dV → glue.Met 𝓛 𝓜 𝓡 𝓡.env V dD → glue.Met 𝓛 𝓜 𝓡 𝓡.env VF dFD → (d d' d'' : Dict)
@@ -197,16 +199,17 @@ module _ (V VF : RattleType) (LV : Laws V) (LVF : Laws VF) (gV : value.Ghosts V.
         let q : Share = qs.0 in let qσ : Share = qs.1.0 in let q3 : Share = qs.1.1.0 in let q4 : Share = qs.1.1.1.0 in
         let h = one.spec V VF gV dV dD dFD 𝓛 𝓜.mem 𝓡.returns in
         let G = triple_of 𝓛 (one.signature V VF) h in
-        let z : G.Ghost = (((τ, (τ3, (τ4, tt))), (q, (q3, (q4, tt))), tt, a, vss), tt) in
+        let z : G.Ghost = (((τ, (τ3, (τ4, tt))), (q, (q3, (q4, tt))), tt, a, vss), y.1) in
         let c = any.spec (S V VF κ) V VF made_of made_by_parts gV dV d d' d'' (λ κs. (κs.0 ≡ κ) × Unit {0}) 𝓛 𝓜.mem 𝓡.returns in
         let Q = triple_of 𝓛 (any.signature (S V VF κ) V VF) c in
         let k = method made_by_parts 0 no_args in
         let run : Fun 𝓤 = 𝓡.run (𝓡.env k) in
         let is : SProp 𝓤 = fact 𝓤 ((τ ≡ κ) × Unit {0}) in
+        let complete : SProp 𝓤 = fact 𝓤 (AreComplete (expr_node gV.contents) a.1.0) in
         let F : SProp 𝓤 = sep 𝓤 (𝓛.A.lft σ qσ) is in
         let ins : Fml = owns (types_at (any.signature (S V VF κ) V VF).params κs) a vss in
         via 𝓤 (sep 𝓤 (G.pre z) F) (qed 𝓛 (((‵ (flft τ q) ⊛ (‵ (flft σ qσ) ⊛ (‵ (flft τ3 q3) ⊛ (‵ (flft τ4 q4) ⊛ ‵ ftrue)))) ⊛ ‵ ins)
-        ∷ (raw (fact 𝓤 (σ ⊑ (S V VF κ).lives)) ⊛ (raw (fact 𝓤 (τ3 ⊑ V.lives)) ⊛ (raw (fact 𝓤 (τ4 ⊑ VF.lives)) ⊛ (raw is ⊛ raw (emp 𝓤))))) ∷ []) ∵
+        ∷ (raw (fact 𝓤 (σ ⊑ (S V VF κ).lives)) ⊛ (raw (fact 𝓤 (τ3 ⊑ V.lives)) ⊛ (raw (fact 𝓤 (τ4 ⊑ VF.lives)) ⊛ (raw is ⊛ raw complete)))) ∷ []) ∵
         move ! (1 ∷ []) $ split ! $ drop ! $ split ! $ move ! (1 ∷ []) $ split ! $ move ! (1 ∷ []) $ split ! $ heard ! _ (λ e.
         move ! (1 ∷ 0 ∷ []) $ join ! $ move ! (1 ∷ 0 ∷ []) $ join ! $ move ! (1 ∷ []) $ split ! $ split ! $ move ! (1 ∷ []) $ split ! $ move ! (2 ∷ 1 ∷ []) $ join ! $ move ! (2 ∷ []) $
         rewrite ! 0 (λ (κ' : Lft). ‵ (owns (types_at (any.signature (S V VF κ') V VF).params κs) a vss)) (sym e.0) refl $
@@ -215,25 +218,26 @@ module _ (V VF : RattleType) (LV : Laws V) (LVF : Laws VF) (gV : value.Ghosts V.
         (via 𝓤 (sep 𝓤 (run (G.args z) (G.post z)) F)
         (mono_l 𝓤 F (widened 𝓤 𝓛.H G 𝓜 𝓡 𝓡.env (𝓡.env (parts_symbol.name (bounded (a_type ∷ a_type ∷ []) (V, (VF, tt)) (dcons dV (dcons dD (dcons dFD dnil)))))) (𝓡.env k) (parts_symbol.as_method 𝓡.env wired k refl) (parts_met 𝓤 𝓛 𝓜 𝓡 wired V VF LV LVF gV dV dD dFD met-V go-V go-VF) z))
         (run_framed 𝓤 𝓛.H 𝓜 𝓡 (𝓡.env k) (G.args z) (G.post z) (Q.post y) F (λ v. qed 𝓛 (raw (G.post z v) ∷ raw F ∷ []) ∵ updating ! $
-        use1 𝓛 (later (some (λ (res : Res (any.signature (S V VF κ) V VF) κs). ((‵ (flft τ q) ⊛ (‵ (flft τ3 q3) ⊛ (‵ (flft τ4 q4) ⊛ ‵ ftrue))) ⊛ ‵ ((result.the_row (param 0 (S V VF τ)) fault.the_row).own_val res (v ∷ []))) ⊛ raw ((c κs a).ensures tt res)))) (id⊢ 𝓤 _) $
+        use1 𝓛 (later (some (λ (res : Res (any.signature (S V VF κ) V VF) κs). ((‵ (flft τ q) ⊛ (‵ (flft τ3 q3) ⊛ (‵ (flft τ4 q4) ⊛ ‵ ftrue))) ⊛ ‵ ((result.the_row (param 0 (S V VF τ)) fault.the_row).own_val res (v ∷ []))) ⊛ raw ((c κs a).ensures y.1 res)))) (id⊢ 𝓤 _) $
         await ! tt $ pick ! (λ res. split ! $ split ! $ move ! (3 ∷ []) $ use1 𝓛 (‵ (flft σ qσ) ⊛ raw is) (id⊢ 𝓤 _) $ split ! $ move ! (1 ∷ []) $ heard ! _ (λ e.
         move ! (2 ∷ 1 ∷ []) $ rewrite ! 0 (λ (κ' : Lft). ‵ ((result.the_row (param 0 (S V VF κ')) fault.the_row).own_val res (v ∷ []))) e.0 refl $
         move ! (1 ∷ []) $ split ! $ move ! (3 ∷ 1 ∷ []) $ join ! $ move ! (1 ∷ 0 ∷ []) $ join ! $ join ! $
         at_once ! $ show ! (λ (w : Res (any.signature (S V VF κ) V VF) κs). sep 𝓤 (Back 𝓛 (any.signature (S V VF κ) V VF) y.0 v w) ((c κs a).ensures y.1 w)) res $ frame ! $ done !)))))
 
     rules_meet : (κ : Lft) → Wired 𝓡.env code.code → value_bound.Met 𝓛 𝓜 𝓡 𝓡.env V VF gV dV → glue.Met 𝓛 𝓜 𝓡 𝓡.env V dD → glue.Met 𝓛 𝓜 𝓡 𝓡.env VF dFD
-        → Meets 𝓛 (U κ).signature (𝓡.run (𝓡.env (rules.Key.name (bounded (a_type ∷ a_type ∷ a_type ∷ []) (V, (S V VF κ, (VF, tt))) (dcons dV (dcons made_by_parts (dcons dD (dcons (let_go_by V VF dV dD dFD) (dcons dFD dnil))))))))) (called κ)
+        → Meets 𝓛 (U κ).signature (𝓡.run (𝓡.env (rules.Key.name (bounded (a_type ∷ a_type ∷ a_type ∷ []) (V, (S V VF κ, (VF, tt))) (dcons dV (dcons made_by_parts (dcons dD (dcons (dropped_by V VF dV dD dFD) (dcons dFD dnil))))))))) (called κ)
     rules_meet κ wired met-V go-V go-VF =
-        met 𝓤 𝓛 𝓜 𝓡 (code.calls-minijinja_parser_stmt_nodes::tree_stmts::template_of 𝓡.env wired) V (S V VF κ) VF LV (S-laws V VF LV LVF κ) LVF gV dV made_of made_by_parts dD (let_go_by V VF dV dD dFD) dFD (same κ)
+        met 𝓤 𝓛 𝓜 𝓡 (code.calls-minijinja_parser_stmt_nodes::tree_stmts::template_of 𝓡.env wired) V (S V VF κ) VF LV (S-laws V VF LV LVF κ) LVF gV dV made_of made_by_parts dD (dropped_by V VF dV dD dFD) dFD (same κ)
         met-V (λ τs is. subst (λ (τ : Lft). parts_bound.Met 𝓛 𝓜 𝓡 𝓡.env τ (S V VF κ) V VF made_of made_by_parts gV dV) (sym is)
         (record {
           V-Fault-lives = ⊑_trans (κ ++ ((S V VF κ).lives ++ V.lives)) V.lives VF.lives
               (⊑_trans (κ ++ ((S V VF κ).lives ++ V.lives)) ((S V VF κ).lives ++ V.lives) V.lives (meet_⊑_right κ ((S V VF κ).lives ++ V.lives)) (meet_⊑_right (S V VF κ).lives V.lives)) met-V.Self-Fault-lives;
           of_parts = makes κ (code.calls-minijinja_parser_stmt_nodes::tree_stmts::StmtOfParts::of_parts 𝓡.env wired) met-V go-V go-VF;
         }))
-        go-V (lets_go V VF LV LVF gV κ dV dD dFD 𝓛 𝓜 𝓡 (code.calls-minijinja_tree::ast::Stmt::drop 𝓡.env wired) met-V go-V go-VF) go-VF
+        go-V (drops V VF LV LVF gV κ dV dD dFD 𝓛 𝓜 𝓡 (code.calls-minijinja_tree::ast::Stmt::drop 𝓡.env wired) met-V go-V go-VF) go-VF
 
--- ---- the walk. The lifetimes are those of texts, of the syntax, and of the borrow of the tokens, then what values and faults live for. The rules ask for one more, that of
+-- ---- the walk. The lifetimes are those of texts, of the syntax, and of the borrow of the tokens,
+-- then what values and faults live for. The rules ask for one more, that of
 -- statements, which is the meet of the first and the fourth: a part of both tokens is lent for it
 pub template_spec : {M : Type 1} → statement M
 template_spec {M} 𝓤 𝓛 𝓜 𝓡 wired V VF LV LVF gV dV dD dFD met-V go-V go-VF =
@@ -257,7 +261,7 @@ template_spec {M} 𝓤 𝓛 𝓜 𝓡 wired V VF LV LVF gV dV dD dFD met-V go-V 
     let q0 : Share = qs.0 in let q1 : Share = qs.1.0 in let q2 : Share = qs.1.1.0 in let q3 : Share = qs.1.1.1.0 in let q4 : Share = qs.1.1.1.1.0 in
     let r0 : Share = (common q0 q0).0 in let s0 : Share = (common q0 q0).1 in let r3 : Share = (common q3 q3).0 in let s3 : Share = (common q3 q3).1 in
     let both : Share = (common s0 s3).0 in let σ : Lft = κ0 ++ κ3 in
-    let AnyParts : SProp 𝓤 = sep 𝓤 (𝓛.A.lft κ0 s0) (𝓛.A.lft κ3 s3) in
+    let lent : SProp 𝓤 = sep 𝓤 (𝓛.A.lft κ0 s0) (𝓛.A.lft κ3 s3) in
     let vss : Valss (types_at T.signature.params κs) = (struct_laws.vals (nodes.the_type (record { mir = named 0; lft = κs.0 }) (record { mir = named 1; lft = κs.1.0 }) (param 0 V)) (nodes_laws.the_laws (record { mir = named 0; lft = κs.0 }) (record { mir = named 1; lft = κs.1.0 }) (param 0 V) (param_laws 0 V LV)) a.0, (mut_vals a.1.0, (uint_vals w64 a.1.1.0, tt))) in
     let owned : Fml = owns (types_at T.signature.params κs) a vss in
     let y : (walk_of 𝓛 T stayed c).Ghost = ((κs, qs, bounds, a, vss), tt) in
@@ -275,7 +279,7 @@ template_spec {M} 𝓤 𝓛 𝓜 𝓡 wired V VF LV LVF gV dV dD dFD met-V go-V 
     keep ! (5 ∷ 4 ∷ 3 ∷ 2 ∷ 0 ∷ 6 ∷ []) $
     use1 𝓛 (‵ (flft κ0 r0) ⊛ ‵ (flft κ0 s0)) (𝓛.lfts.lft_cut κ0 q0 r0 s0 (common q0 q0).3) $ split ! $ move ! (4 ∷ []) $
     use1 𝓛 (‵ (flft κ3 r3) ⊛ ‵ (flft κ3 s3)) (𝓛.lfts.lft_cut κ3 q3 r3 s3 (common q3 q3).3) $ split ! $ move ! (3 ∷ 1 ∷ []) $
-    use2 𝓛 (‵ (flft σ both) ⊛ raw (wand 𝓤 (𝓛.A.lft σ both) AnyParts)) (lft-common 𝓛 κ0 κ3 s0 s3) $ split ! $
+    use2 𝓛 (‵ (flft σ both) ⊛ raw (wand 𝓤 (𝓛.A.lft σ both) lent)) (lft-common 𝓛 κ0 κ3 s0 s3) $ split ! $
     nothing ! $ move ! (7 ∷ 0 ∷ []) $ join ! $ move ! (1 ∷ 0 ∷ []) $ join ! $ move ! (2 ∷ 0 ∷ []) $ join ! $ move ! (4 ∷ 0 ∷ []) $ join ! $ move ! (3 ∷ 0 ∷ []) $ join ! $ move ! (2 ∷ 0 ∷ []) $ join ! $ move ! (0 ∷ 2 ∷ []) $ join ! $
     use0 𝓛 (raw (asks 𝓤 κ3 V.lives σ (S V VF κ0).lives κ4 VF.lives (κ0 ≡ κ0))) (asked 𝓤 κ3 V.lives σ (S V VF κ0).lives κ4 VF.lives (κ0 ≡ κ0) in-V in-S in-VF refl) $
     move ! (1 ∷ 0 ∷ []) $ join ! $ use1 𝓛 (raw (G.pre z)) (id⊢ 𝓤 _) $
@@ -289,7 +293,7 @@ template_spec {M} 𝓤 𝓛 𝓜 𝓡 wired V VF LV LVF gV dV dD dFD met-V go-V 
     lands_as ! refl refl ((r-lawful κ0).typed res (v ∷ []) is).0 $
     returns ! (look_at ! 0 refl) $ free_all ! refl $
     move ! (1 ∷ []) $ split ! $ move ! (1 ∷ []) $ split ! $ move ! (1 ∷ []) $ split ! $ move ! (1 ∷ []) $ split ! $ move ! (1 ∷ []) $ split ! $ move ! (1 ∷ []) $ split ! $
-    move ! (2 ∷ 9 ∷ []) $ use2 𝓛 (‵ (flft κ0 s0) ⊛ ‵ (flft κ3 s3)) (apply∗ 𝓤 (𝓛.A.lft σ both) AnyParts) $ split ! $
+    move ! (2 ∷ 9 ∷ []) $ use2 𝓛 (‵ (flft κ0 s0) ⊛ ‵ (flft κ3 s3)) (apply∗ 𝓤 (𝓛.A.lft σ both) lent) $ split ! $
     move ! (7 ∷ 0 ∷ []) $ use2 𝓛 (‵ (flft κ0 q0)) (𝓛.lfts.lft_glue κ0 q0 r0 s0 (common q0 q0).3) $
     move ! (4 ∷ 1 ∷ []) $ use2 𝓛 (‵ (flft κ3 q3)) (𝓛.lfts.lft_glue κ3 q3 r3 s3 (common q3 q3).3) $
     move ! (2 ∷ 3 ∷ []) $ join ! $ move ! (1 ∷ 0 ∷ []) $ join ! $ move ! (2 ∷ 0 ∷ []) $ join ! $ move ! (2 ∷ 0 ∷ []) $ join ! $ move ! (1 ∷ 0 ∷ []) $ join ! $
