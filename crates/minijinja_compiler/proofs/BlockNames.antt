@@ -67,11 +67,10 @@ block_lists f contents source filename bs old new empty added = record {
       (keys new) (All-contains_itself (keys new));
 }
 
--- the same of what is given of a tree, whose spans the blocks do not have
-pub compiled_lists : {V E C F L : Type 0} (f : Functions C F) (contents : V → C) (source filename text file : Text) (bare bs : List (Block C L)) (old new given : BTreeMap (Bor Text) (Instructions V E)) →
-    IsEmpty old → AddsLists f contents text file bs old new → given ≡ new → text ≡ source → file ≡ filename → bare ≡ bs → AreBlockLists f contents source filename bare given
-compiled_lists f contents source filename text file bare bs old new given empty added finished of_text named same =
-    subst (λ b. AreBlockLists f contents source filename b given) (sym same)
-    (subst (λ n. AreBlockLists f contents source n bs given) named
+-- the same of what is given
+pub compiled_lists : {V E C F L : Type 0} (f : Functions C F) (contents : V → C) (source filename text file : Text) (bs : List (Block C L)) (old new given : BTreeMap (Bor Text) (Instructions V E)) →
+    IsEmpty old → AddsLists f contents text file bs old new → given ≡ new → text ≡ source → file ≡ filename → AreBlockLists f contents source filename bs given
+compiled_lists f contents source filename text file bs old new given empty added finished of_text named =
+    subst (λ n. AreBlockLists f contents source n bs given) named
     (subst (λ t. AreBlockLists f contents t file bs given) of_text
-    (subst (λ m. AreBlockLists f contents text file bs m) (sym finished) (block_lists f contents text file bs old new empty added))))
+    (subst (λ m. AreBlockLists f contents text file bs m) (sym finished) (block_lists f contents text file bs old new empty added)))

@@ -9,8 +9,7 @@ use Rattle.minijinja_syntax.specs.Errors.{IsOutOfMemory, kind_of, span_of}
 use Rattle.minijinja_syntax.specs.declared.error.Error.{Error}
 use Rattle.minijinja_syntax.specs.declared.error.ErrorKind.TheVariants.{OutOfMemory, SourceTooLong, TooManyInstructions}
 use Rattle.minijinja_lexer.specs.Stream.{IsNamed}
-use Rattle.minijinja_tree.specs.SpannedTrees.{Expr, Stmt, bare_expr, bare_stmt}
-use Rattle.minijinja_tree.specs.Tree.{Block, blocks}
+use Rattle.minijinja_tree.specs.Tree.{Block, Expr, Stmt, blocks}
 use Rattle.minijinja_parser.specs.Causes.{IsRefusal}
 use Rattle.minijinja_parser.specs.Derived.{IsDerived, IsExprDerived}
 use Rattle.minijinja_instructions.specs.Instructions.{code_of}
@@ -32,7 +31,7 @@ pub record AreBlockLists {V E C F L : Type 0} (f : Functions C F) (contents : V 
   pub only : All (λ k. Any (λ b. b.name ≡ k.now) bs) (keys lists)
 
 -- The grammar derives one tree of the text (`tree`, `derived`, `only`). The code is the layout of
--- that tree, whatever the spans of its nodes are (`code`).
+-- that tree (`code`).
 --
 -- The code does what the tree means (`does`): run from its start, over any operands and open loops
 -- and on any answers from outside, the machine has the record, the ending and the answers left of
@@ -46,17 +45,17 @@ pub record AreBlockLists {V E C F L : Type 0} (f : Functions C F) (contents : V 
 -- that has to be overridden (`required`). Each block has a list of its own, of which the same holds
 -- (`lists`).
 pub record IsCompiled {V E C F : Type 0} (f : Functions C F) (contents : V → C) (syntax : Syntax) (source filename : Text) (c : Compiled V E) : Type 0 where
-  pub tree : Stmt C
+  pub tree : Stmt C (Unit {0})
   pub derived : IsDerived f syntax source tree
-  pub only : (t : Stmt C) → IsDerived f syntax source t → t ≡ tree
-  pub code : code_of contents c.instructions ≡ stmt_code f (bare_stmt tree) start
-  pub does : DoesStmt f (code_of contents c.instructions) 0 (length (code_of contents c.instructions)) (placed_stmt f (bare_stmt tree) start)
-  pub units : DoUnits f (code_of contents c.instructions) (bare_stmt tree) start
+  pub only : (t : Stmt C (Unit {0})) → IsDerived f syntax source t → t ≡ tree
+  pub code : code_of contents c.instructions ≡ stmt_code f tree start
+  pub does : DoesStmt f (code_of contents c.instructions) 0 (length (code_of contents c.instructions)) (placed_stmt f tree start)
+  pub units : DoUnits f (code_of contents c.instructions) tree start
   pub few : length (code_of contents c.instructions) < 2 ^ 32
   pub leads : LeadsWell (code_of contents c.instructions)
   pub required : is_required c.instructions ≡ false
-  pub hint : IsHint (data_bytes (bare_stmt tree)) c.buffer_size_hint
-  pub lists : AreBlockLists f contents source filename (blocks (bare_stmt tree)) c.blocks
+  pub hint : IsHint (data_bytes tree) c.buffer_size_hint
+  pub lists : AreBlockLists f contents source filename (blocks tree) c.blocks
   pub name : name_of c.instructions ≡ filename
   pub text : source_of c.instructions ≡ source
 
@@ -69,8 +68,8 @@ pub record IsCompiledExpr {V E C F : Type 0} (f : Functions C F) (contents : V �
   pub tree : Expr C
   pub derived : IsExprDerived f default_syntax source tree
   pub only : (t : Expr C) → IsExprDerived f default_syntax source t → t ≡ tree
-  pub code : code_of contents c ≡ expr_code f (bare_expr tree) start
-  pub does : DoesExpr f (code_of contents c) 0 (length (code_of contents c)) (bare_expr tree)
+  pub code : code_of contents c ≡ expr_code f tree start
+  pub does : DoesExpr f (code_of contents c) 0 (length (code_of contents c)) tree
   pub few : length (code_of contents c) < 2 ^ 32
   pub leads : LeadsWell (code_of contents c)
   pub required : is_required c ≡ false
@@ -79,15 +78,15 @@ pub record IsCompiledExpr {V E C F : Type 0} (f : Functions C F) (contents : V �
 
 -- a tree of the text has too much code, in its own list or in that of a block
 pub record HasTooLongCode {C F : Type 0} (f : Functions C F) (syntax : Syntax) (source : Text) : Type 0 where
-  pub tree : Stmt C
+  pub tree : Stmt C (Unit {0})
   pub derived : IsDerived f syntax source tree
-  pub long : (2 ^ 32 ≤ length (stmt_code f (bare_stmt tree) start)) ⊎ HaveTooLong f (blocks (bare_stmt tree))
+  pub long : (2 ^ 32 ≤ length (stmt_code f tree start)) ⊎ HaveTooLong f (blocks tree)
 
 -- the tree of an expression has too much code
 pub record HasTooLongExprCode {C F : Type 0} (f : Functions C F) (source : Text) : Type 0 where
   pub tree : Expr C
   pub derived : IsExprDerived f default_syntax source tree
-  pub long : 2 ^ 32 ≤ length (expr_code f (bare_expr tree) start)
+  pub long : 2 ^ 32 ≤ length (expr_code f tree start)
 
 -- a limit stands against the text: memory, the length of the source or the length of the code
 abbrev pub IsCompileLimit : Error → Type 0

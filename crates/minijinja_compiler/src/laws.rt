@@ -1,5 +1,8 @@
 //! The laws of the definitions that the contracts of all layers use.
-pub use minijinja_grammar::laws::{nodes_stand_at_tokens, one_tree, trees_are_well_formed};
+pub use minijinja_grammar::laws::{
+    derivable_deeper, derives, one_tree, only_what_follows_counts, refuses, rows_are_bounded,
+    trees_are_well_formed,
+};
 pub use minijinja_lexer::laws::{
     are_in_order, are_slices, columns_count_chars, one_cut, one_expression, some_cut,
     some_expression,

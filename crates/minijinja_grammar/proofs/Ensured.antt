@@ -1,9 +1,10 @@
 -- What is told along a form holds of all that it derives.
-use Rattle.std.proofs.Common.{◌≡◌, List, [], ◌∷◌, Option, Some, None, inl, inr, refl, sym, ap, ◌∙◌, subst}
+use Rattle.std.proofs.Common.{◌≡◌, List, [], ◌∷◌, Option, Some, inl, inr, refl, sym, ap, ◌∙◌, subst}
 use Rattle.minijinja_syntax.specs.Texts.{Text}
 use Rattle.minijinja_syntax.specs.declared.tokens.Span.{Span}
 use Rattle.minijinja_syntax.specs.Streams.{SpannedTok}
-use Rattle.minijinja_grammar.specs.Forms.{Place, Turn, go_on, over, Form, pure, nothing, one, source, start, last, new_name, start_at, and_then, either, many, after, Takes, Turns, no_turn, last_turn, turn, Derives}
+use Rattle.minijinja_grammar.specs.Places.{Place}
+use Rattle.minijinja_grammar.specs.internal.Forms.{Turn, go_on, over, Form, pure, nothing, one, source, start, last, new_name, start_at, and_then, either, many, Takes, Turns, no_turn, last_turn, turn, Derives}
 use Rattle.minijinja_grammar.specs.private.Ensured.{Holds, Kept, Ensured}
 
 module _ (T : SpannedTok → Type 0) (S : Span → Type 0) (spans : (t : SpannedTok) → T t → S t.1) (G : Text → Type 0) where

@@ -1,6 +1,6 @@
 -- The names that are given along a template are those of its blocks, and so no two of them are the
 -- same.
-use Rattle.std.proofs.Common.{◌≡◌, ◌≢◌, ℕ, zero, suc, List, [], ◌∷◌, ◌++◌, Bool, true, false, if◌then◌else◌, Option, inl, inr, refl, sym, ap, ◌∙◌, subst, arith}
+use Rattle.std.proofs.Common.{◌≡◌, ◌≢◌, ℕ, zero, suc, List, [], ◌∷◌, ◌++◌, Bool, true, false, Option, inl, inr, refl, sym, ap, ◌∙◌, subst, arith}
 use Rattle.std.specs.declared.cmp.Ordering.{Ordering}
 use Rattle.std.specs.declared.cmp.Ordering.TheVariants.{Less, Equal, Greater}
 use Rattle.std.specs.Ordering.{match_ordering, is_eq}
@@ -20,21 +20,23 @@ use Rattle.minijinja_syntax.specs.Tokens.{Tok, ident, template_data, variable_st
 use Rattle.minijinja_syntax.specs.declared.tokens.Span.{Span}
 use Rattle.minijinja_syntax.specs.Streams.{SpannedTok}
 use Rattle.minijinja_tree.specs.Tree as tree
-use Rattle.minijinja_tree.specs.SpannedTrees.{Expr, optional_of, Stmt, template, data_text, output, assignment, for_loop, with_block, set_block, auto_escape, filter_block, named_block, stmts_of, bare_stmt, bare_stmts}
+use Rattle.minijinja_tree.specs.SpannedTrees.{Expr, optional_of, Stmt, template, data_text, output, assignment, for_loop, with_block, set_block, auto_escape, filter_block, named_block, stmts_of, bare_stmt, bare_stmts, if_cond}
 use Rattle.minijinja_tree.specs.WellFormed.{AreDistinct}
-use Rattle.minijinja_grammar.specs.Words.{Keyword, for_keyword, if_keyword, with_keyword, set_keyword, autoescape_keyword, filter_keyword, block_keyword, extends_keyword, include_keyword, import_keyword, from_keyword, macro_keyword, call_keyword, do_keyword, break_keyword, continue_keyword, else_word, in_word, recursive_word, scoped_word, required_word, endfor_word, endif_word, endwith_word, endset_word, endautoescape_word, endfilter_word, endblock_word}
-use Rattle.minijinja_grammar.specs.Forms.{Place, Turn, go_on, over, Form, pure, one, last, new_name, and_then, either, many, Turns, no_turn, last_turn, turn, Derives, ◌>>=◌, ◌>>◌}
-use Rattle.minijinja_grammar.specs.Grammar as g
-use Rattle.minijinja_grammar.specs.Grammar.{expanded, expr_at, primary_at}
-use Rattle.minijinja_grammar.specs.Targets as target
-use Rattle.minijinja_grammar.specs.Statements as form
-use Rattle.minijinja_grammar.specs.Statements.{Ends, at_end_of_text, at_endfor_or_else, at_endfor, at_endif_else_or_elif, at_endif, at_endwith, at_endset, at_endautoescape, at_endfilter, at_endblock, Branch, Context, outside, inside_loop, inside_block, inside_macro, Parts}
-use Rattle.minijinja_grammar.specs.Templates.{template_at}
+use Rattle.minijinja_grammar.specs.internal.Keywords.{Keyword, for_keyword, if_keyword, with_keyword, set_keyword, autoescape_keyword, filter_keyword, block_keyword, extends_keyword, include_keyword, import_keyword, from_keyword, macro_keyword, call_keyword, do_keyword, break_keyword, continue_keyword}
+use Rattle.minijinja_grammar.specs.Words.{else_word, in_word, recursive_word, scoped_word, required_word, endfor_word, endif_word, endwith_word, endset_word, endautoescape_word, endfilter_word, endblock_word, elif_word}
+use Rattle.minijinja_grammar.specs.Places.{Place}
+use Rattle.minijinja_grammar.specs.internal.Forms.{Turn, go_on, over, Form, pure, one, last, new_name, and_then, either, many, Turns, no_turn, last_turn, turn, Derives}
+use Rattle.minijinja_grammar.specs.internal.ExprForms as g
+use Rattle.minijinja_grammar.specs.internal.ExprForms.{expanded, below, expr_at}
+use Rattle.minijinja_grammar.specs.internal.StmtForms as form
+use Rattle.minijinja_grammar.specs.Statements.{Ends, at_end_of_text, at_endfor_or_else, at_endfor, at_endif_else_or_elif, at_endif, at_endwith, at_endset, at_endautoescape, at_endfilter, at_endblock, Context, outside, inside_loop, inside_block, inside_macro}
+use Rattle.minijinja_grammar.specs.internal.StmtForms.{Parts}
+use Rattle.minijinja_grammar.specs.internal.TemplateForms.{template_at}
 use Rattle.minijinja_grammar.specs.private.Ensured.{Holds, Ensured}
 use Rattle.minijinja_grammar.proofs.Ensured.{All, Fine, No, quietly}
-use Rattle.minijinja_grammar.proofs.Sound.{expr_sound, or_level, primary_sound}
-use Rattle.minijinja_grammar.proofs.Targets.{any_targets}
-use Rattle.minijinja_grammar.proofs.Statements.{IsOne, IsOnePart, AreAllParts, IsChain, chain, value, loop_filter, bindings, blank_body, do_stmt, extends_stmt, include_stmt, import_stmt, from_stmt, macro_stmt, call_stmt, break_stmt, continue_stmt, stmt_at}
+use Rattle.minijinja_grammar.proofs.Sound.{below_sound, expr_sound, or_level}
+use Rattle.minijinja_grammar.proofs.Targets.{IsOneTarget, any_targets}
+use Rattle.minijinja_grammar.proofs.Statements.{IsOne, IsOnePart, AreAllParts, IsChain, chain, value, loop_filter, bound_target, bindings, blank_body, do_stmt, extends_stmt, include_stmt, import_stmt, from_stmt, macro_stmt, call_stmt, break_stmt, continue_stmt, stmt_at}
 use Rattle.minijinja_grammar.proofs.Statements.{body as bodies}
 
 -- ---- names that are given in turn
@@ -260,8 +262,9 @@ module _ {C : Type 0} where
 
   module _ (p : Parts C) (he : Ensured T S No p.expr (IsOne C T S spans joins No)) (ho : Ensured T S No p.or (IsOne C T S spans joins No)) (hv : Ensured T S No p.value (IsOne C T S spans joins No))
       (hc : Ensured T S No p.chain (λ e. Holds (IsChain C T S spans joins No e)))
+      (ht : (dotted : Bool) → Ensured T S No (p.targets dotted) (IsOneTarget C T S spans joins No)) (hw : Ensured T S No p.bound (IsOneTarget C T S spans joins No))
       (nb : (e : Ends) → Names (p.body e) all_names) (nl : (e : Ends) → Names (p.loop_body e) all_names) (nn : (e : Ends) → Names (p.block_body e) all_names)
-      (hm : (e : Ends) → Ensured T S No (p.macro_body e) (AreAllParts C T S spans joins No false true)) where
+      (hm : (e : Ends) → Ensured T S No (p.macro_body e) (AreAllParts C T S spans joins No false true)) (ni : (from : Span) → Names (p.if_ from) names) where
     closed_body : (e : Ends) (word : Tok) → Names (form.closed_body p e word) all_names
     unfolding form.closed_body
     closed_body e word a xs = step (next_quiet block_end) (λ _. in_turn (nb e a xs) (λ ss. step (next_quiet word) (λ _. given_as (λ ns j. j))))
@@ -277,50 +280,28 @@ module _ {C : Type 0} where
     for_stmt : (from : Span) → Names (form.for_stmt p from) names
     unfolding form.for_stmt
     for_stmt from a xs =
-        step (quiet (target.any_targets false) _ (any_targets C T S spans joins No false)) (λ t. step (next_quiet in_word) (λ _. step (quiet p.or _ ho) (λ e.
+        step (quiet (p.targets false) _ (ht false)) (λ t. step (next_quiet in_word) (λ _. step (quiet p.or _ ho) (λ e.
         step (quiet (form.loop_filter p.expr) _ (loop_filter C T S spans joins No p.expr he)) (λ only. flag_given recursive_word (λ again. in_turn (loop_body a xs) (λ ss. in_turn (else_body at_endfor endfor_word a (xs ++ all_names ss)) (λ other.
         made from (for_loop t e (optional_of only) again (stmts_of ss) (stmts_of other)) (λ s ns j. two a xs (tree.all_blocks (bare_stmts (stmts_of ss))) (tree.all_blocks (bare_stmts (stmts_of other))) ns j))))))))
 
-    branch : (from : Span) → Names (form.branch p from) (λ b. all_names b.body)
-    unfolding form.branch
-    branch from a xs = step (quiet p.or _ ho) (λ e. step (next_quiet block_end) (λ _. in_turn (nb at_endif_else_or_elif a xs) (λ ss. given_as (λ ns j. j))))
+    otherwise : Names (form.otherwise p) all_names
+    unfolding form.otherwise
+    otherwise a xs = choice
+        (in_turn (step (next_quiet elif_word) (λ s. ni s a xs)) (λ x. given_as (λ ns j. subst (λ ys. Given a (xs ++ ys) ns) (sym (ap tree.names_of_blocks (append-nil (tree.blocks (bare_stmt x))))) j)))
+        (else_body at_endif endif_word a xs)
 
-    -- those of branches, of which the last one stands first
-    abbrev branch_names : List (Branch C) → List Text
-    branch_names [] = []
-    branch_names (b ∷ bs) = branch_names bs ++ all_names b.body
-
-    others : Names (form.others p []) branch_names
-    unfolding form.others
-    others a xs = before (λ ns j. no_more_given a xs ns j) (all_turns (λ bs ns. Given a (xs ++ branch_names bs) ns) (λ bs at. in_turn (branch at a (xs ++ branch_names bs)) (λ b. given_as
-        (λ ns j. subst (λ ys. Given a ys ns) (append_assoc xs (branch_names bs) (all_names b.body)) j))))
-
-    if_names : (to : Span) (b : Branch C) (other : List (Stmt C)) → names (form.if_of to b other) ≡ all_names b.body ++ all_names other
-    if_names to b other = names_append (tree.all_blocks (bare_stmts (stmts_of b.body))) (tree.all_blocks (bare_stmts (stmts_of other)))
-
-    chosen_names : (to : Span) (b : Branch C) (bs : List (Branch C)) (other : List (Stmt C)) → names (form.chosen to b bs other) ≡ all_names b.body ++ branch_names bs ++ all_names other
-    chosen_names to b [] other = if_names to b other ∙ ap (λ ys. ys ++ all_names other) (sym (append-nil (all_names b.body)))
-    chosen_names to b (c ∷ cs) other =
-        chosen_names to b cs (form.if_of to c other ∷ [])
-        ∙ ap (λ ys. all_names b.body ++ branch_names cs ++ ys) (ap tree.names_of_blocks (append-nil (tree.blocks (bare_stmt (form.if_of to c other)))) ∙ if_names to c other)
-        ∙ sym (append_assoc (all_names b.body ++ branch_names cs) (all_names c.body) (all_names other))
-        ∙ ap (λ ys. ys ++ all_names other) (append_assoc (all_names b.body) (branch_names cs) (all_names c.body))
-
-    if_stmt : (from : Span) → Names (form.if_stmt p from) names
-    unfolding form.if_stmt
-    if_stmt from a xs = in_turn (branch from a xs) (λ b. in_turn (others a (xs ++ all_names b.body)) (λ bs. in_turn (else_body at_endif endif_word a (xs ++ all_names b.body ++ branch_names bs)) (λ other.
-        step last_quiet (λ to. given_as (λ ns j. subst (λ ys. Given a ys ns) (gathered xs (all_names b.body) (branch_names bs) (all_names other) ∙ ap (λ ys. xs ++ ys) (sym (chosen_names to b bs other))) j)))))
-      where
-        gathered : (ws xs ys zs : List Text) → ws ++ xs ++ ys ++ zs ≡ ws ++ (xs ++ ys ++ zs)
-        gathered ws xs ys zs = ap (λ us. us ++ zs) (append_assoc ws xs ys) ∙ append_assoc ws (xs ++ ys) zs
+    if_level : (from : Span) → Names (form.if_level p from) names
+    unfolding form.if_level
+    if_level from a xs = step (quiet p.or _ ho) (λ e. step (next_quiet block_end) (λ _. in_turn (nb at_endif_else_or_elif a xs) (λ ss. in_turn (otherwise a (xs ++ all_names ss)) (λ other.
+        made from (if_cond e (stmts_of ss) (stmts_of other)) (λ s ns j. two a xs (tree.all_blocks (bare_stmts (stmts_of ss))) (tree.all_blocks (bare_stmts (stmts_of other))) ns j)))))
 
     with_stmt : (from : Span) → Names (form.with_stmt p from) names
     unfolding form.with_stmt
-    with_stmt from a xs = step (quiet (form.bindings p.expr) _ (bindings C T S spans joins No p.expr he)) (λ bs. in_turn (closed_body at_endwith endwith_word a xs) (λ ss. made from (with_block bs (stmts_of ss)) (λ s ns j. j)))
+    with_stmt from a xs = step (quiet (form.bindings p.bound p.expr) _ (bindings C T S spans joins No p.expr he p.bound hw)) (λ bs. in_turn (closed_body at_endwith endwith_word a xs) (λ ss. made from (with_block bs (stmts_of ss)) (λ s ns j. j)))
 
     set_stmt : (from : Span) → Names (form.set_stmt p from) names
     unfolding form.set_stmt form.rest_of_set form.rest_of_set_block form.filters_if_any
-    set_stmt from a xs = step (quiet (target.any_targets true) _ (any_targets C T S spans joins No true)) (λ t. choice
+    set_stmt from a xs = step (quiet (p.targets true) _ (ht true)) (λ t. choice
         (in_turn (choice (step (next_quiet pipe) (λ _. step (quiet p.chain _ hc) (λ e. given_as {R = λ o. Given a xs} (λ ns j. j)))) (given_as {R = λ o. Given a xs} (λ ns j. j)))
         (λ o. in_turn (closed_body at_endset endset_word a xs) (λ ss. made from (set_block t (optional_of o) (stmts_of ss)) (λ s ns j. j))))
         (step (next_quiet assign) (λ _. step (quiet p.value _ hv) (λ v. made from (assignment t v) (λ s ns j. no_more_given a xs ns j)))))
@@ -363,7 +344,7 @@ module _ {C : Type 0} where
     stmt_of : (c : Context) (k : Keyword) (from : Span) → Names (form.stmt_of c p (k, from)) names
     unfolding form.break_stmt form.continue_stmt
     stmt_of c for_keyword from = for_stmt from
-    stmt_of c if_keyword from = if_stmt from
+    stmt_of c if_keyword from = if_level from
     stmt_of c with_keyword from = with_stmt from
     stmt_of c set_keyword from = set_stmt from
     stmt_of c autoescape_keyword from = autoescape_stmt from
@@ -383,19 +364,32 @@ module _ {C : Type 0} where
     macro_stmts : (d : ℕ) → Ensured T S No (form.stmt_at f inside_macro d) (IsOnePart C T S spans joins No false true)
     macro_stmts d = stmt_at C T S spans joins No f inside_macro (λ e. cc) d
 
-    stmt_names : (c : Context) (d : ℕ) → Names (form.stmt_at f c d) names
-    unfolding form.stmt_at
-    stmt_names c zero = λ a xs. record { tells = λ p q y j d. absurd d }
-    stmt_names c (suc d) = λ a xs. step (quiet_one form.keyword_and_span) (λ k. stmt_of (form.parts_at f c d)
+    -- a statement of each kind, where such statements and such an If nest
+    any_names : (c : Context) (d : ℕ) → ((c' : Context) → Names (form.stmt_at f c' d) names) → ((from : Span) → Names ((form.within f d).if_ c from) names) →
+        (k : Keyword) (from : Span) → Names (form.stmt_of c (form.parts_at f c d) (k, from)) names
+    any_names c d hs hi k from = stmt_of (form.parts_at f c d)
         (expr_sound T S spans joins No f d)
-        (or_level T S spans joins No f (expr_at f d) (primary_at f d) (expr_sound T S spans joins No f d) (primary_sound T S spans joins No f d))
+        (or_level T S spans joins No f (below f d) (below_sound T S spans joins No f d))
         (value C T S spans joins No (expr_at f d) (expr_sound T S spans joins No f d))
         (chain C T S spans joins No (expr_at f d) (expr_sound T S spans joins No f d))
-        (λ e b ys. body b ys (expr_at f d) (expr_sound T S spans joins No f d) (form.stmt_at f c d) (stmt_names c d) e)
-        (λ e b ys. body b ys (expr_at f d) (expr_sound T S spans joins No f d) (form.stmt_at f (inside_loop c) d) (stmt_names (inside_loop c) d) e)
-        (λ e b ys. body b ys (expr_at f d) (expr_sound T S spans joins No f d) (form.stmt_at f (inside_block c) d) (stmt_names (inside_block c) d) e)
+        (λ dotted. any_targets C T S spans joins No dotted d)
+        (bound_target C T S spans joins No d)
+        (λ e b ys. body b ys (expr_at f d) (expr_sound T S spans joins No f d) (form.stmt_at f c d) (hs c) e)
+        (λ e b ys. body b ys (expr_at f d) (expr_sound T S spans joins No f d) (form.stmt_at f (inside_loop c) d) (hs (inside_loop c)) e)
+        (λ e b ys. body b ys (expr_at f d) (expr_sound T S spans joins No f d) (form.stmt_at f (inside_block c) d) (hs (inside_block c)) e)
         (λ e. bodies C T S spans joins No false true (expr_at f d) (expr_sound T S spans joins No f d) (form.stmt_at f inside_macro d) (macro_stmts d) e)
-        c k.0 k.1 a xs)
+        hi c k from
+
+    mutual
+      unfolding form.within form.stmt_level
+
+      stmt_names : (c : Context) (d : ℕ) → Names (form.stmt_at f c d) names
+      stmt_names c zero = λ a xs. record { tells = λ p q y j d. absurd d }
+      stmt_names c (suc d) = λ a xs. step (quiet_one form.keyword_and_span) (λ k. any_names c d (λ c'. stmt_names c' d) (if_names c d) k.0 k.1 a xs)
+
+      if_names : (c : Context) (d : ℕ) (from : Span) → Names ((form.within f d).if_ c from) names
+      if_names c zero from = λ a xs. record { tells = λ p q y j d. absurd d }
+      if_names c (suc d) from = any_names c d (λ c'. stmt_names c' d) (if_names c d) if_keyword from
 
     template_names : (d : ℕ) → Names (template_at f d) names
     unfolding template_at

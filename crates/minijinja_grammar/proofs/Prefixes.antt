@@ -1,10 +1,9 @@
 -- What reading the first tokens of a text comes to, where more of them follow.
-use Rattle.std.proofs.Common.{◌≡◌, ◌≢◌, ℕ, zero, suc, ◌+◌, ◌<◌, ◌≤◌, Bool, true, false, List, [], ◌∷◌, ◌++◌, length, if◌then◌else◌, Option, Some, None, refl, sym, ap, ◌∙◌, subst, arith, length-append}
-use Rattle.minijinja_syntax.specs.Texts.{Text}
-use Rattle.minijinja_syntax.specs.Tokens.{Tok}
-use Rattle.minijinja_syntax.specs.declared.tokens.Span.{Span}
+use Rattle.std.proofs.Common.{◌≡◌, ◌≢◌, ℕ, zero, suc, ◌+◌, ◌<◌, ◌≤◌, Bool, true, false, List, [], ◌∷◌, ◌++◌, length, if◌then◌else◌, Option, Some, None, refl, ap, arith, length-append}
 use Rattle.minijinja_syntax.specs.Streams.{SpannedTok}
-use Rattle.minijinja_grammar.specs.Forms.{Place, Turn, go_on, over, Form, pure, nothing, one, source, start, last, new_name, is_given, giving, and_then, either, many, comes, held_next, start_at, Derives, Read, got, short, wrong, read_then, after, held_or_wrong, read_one, misfit, read_turn, if_held, read_any, read_many, reads}
+use Rattle.minijinja_grammar.specs.Places.{Place}
+use Rattle.minijinja_grammar.specs.internal.Forms.{Turn, go_on, over, Form, pure, nothing, one, source, start, last, new_name, is_given, giving, and_then, either, many, start_at, Read, got, short, wrong, read_then, after, held_or_wrong, read_one, misfit, read_turn, if_held, read_any, read_many, reads}
+use Rattle.minijinja_grammar.specs.Ahead.{comes}
 use Rattle.minijinja_grammar.proofs.Forms.{left, sound, no_longer}
 
 -- these tokens follow those that are left

@@ -1,23 +1,24 @@
 -- Trees of the grammar stand at tokens, and are whole.
 use Rattle.std.specs.Prelude.{◌&&◌, not, nat_lt}
 use Rattle.std.proofs.lemmas.Bool.{ltb-true}
-use Rattle.std.proofs.Common.{arith, ◌≤◌, ◌≡◌, ℕ, zero, suc, List, [], ◌∷◌, ◌++◌, map, length, Bool, true, false, if◌then◌else◌, Option, Some, None, refl, sym, ap, ◌∙◌, subst}
+use Rattle.std.proofs.Common.{arith, ◌≤◌, ◌≡◌, ℕ, zero, suc, List, [], ◌∷◌, ◌++◌, length, Bool, true, false, if◌then◌else◌, Option, Some, None, refl, sym, ap, ◌∙◌, subst}
 use Rattle.minijinja_syntax.specs.Texts.{Text}
 use Rattle.minijinja_value.specs.Values.{Functions}
-use Rattle.minijinja_syntax.specs.Tokens.{Tok, ident, str, string, int, int128, minus, mul, pow, dot, comma, colon, assign, pipe, bracket_open, bracket_close, paren_open, paren_close, brace_open, brace_close}
+use Rattle.minijinja_syntax.specs.Tokens.{Tok, ident, str, string, int, int128, minus, pow, dot, colon, assign, pipe, bracket_open, bracket_close, paren_open, paren_close, brace_open, brace_close}
 use Rattle.minijinja_syntax.specs.declared.tokens.Span.{Span}
+use Rattle.minijinja_tree.specs.BinOps as bin
 use Rattle.minijinja_tree.specs.BinOps.{BinOp}
 use Rattle.minijinja_tree.specs.CompareOps as cmp
 use Rattle.minijinja_tree.specs.CompareOps.{CompareOp}
-use Rattle.minijinja_grammar.specs.Words.{else_word, not_word, compare_op, or_op, and_op, sum_op, cat_op, term_op, pow_op, is, is_true_word, is_false_word, is_none_word, begins_expr, begins_primary, begins_postfix, begins_suffix, begins_arg}
+use Rattle.minijinja_grammar.specs.Words.{else_word, not_word, compare_op, or_op, and_op, sum_op, cat_op, term_op, is, is_true_word, is_false_word, is_none_word, begins_expr, begins_primary, begins_postfix, begins_arg}
 use Rattle.minijinja_syntax.specs.Streams.{SpannedTok}
-use Rattle.minijinja_grammar.specs.Forms.{Turn, go_on, over, Form, pure, nothing, one, either, many, and_then, ◌>>=◌, ◌>>◌}
+use Rattle.minijinja_grammar.specs.internal.Forms.{go_on, Form, pure, ◌>>=◌, ◌>>◌}
 use Rattle.minijinja_tree.specs.Tree.{logical_not, negation}
 use Rattle.minijinja_tree.specs.SpannedTrees as tree
 use Rattle.minijinja_tree.specs.SpannedTrees.{Expr, Arg, positional, starred, keyword, double_starred, exprs_of, args_of, comparisons_of, optional_of, variable, constant, bare_exprs, bare_args}
 use Rattle.minijinja_tree.specs.WellFormed.{arg_count, expr_count, most_arguments}
-use Rattle.minijinja_grammar.specs.Grammar as g
-use Rattle.minijinja_grammar.specs.Grammar.{expanded}
+use Rattle.minijinja_grammar.specs.internal.ExprForms as g
+use Rattle.minijinja_grammar.specs.internal.ExprForms.{expanded}
 use Rattle.minijinja_grammar.specs.private.Ensured.{Holds, Kept, Ensured}
 use Rattle.minijinja_grammar.specs.private.Sound.{IsSound, IsSoundIfAny, AreSound, AreComparedSound, AreArgsSound}
 use Rattle.minijinja_grammar.proofs.Ensured.{weaker}
@@ -65,11 +66,6 @@ module _ (T : SpannedTok → Type 0) (S : Span → Type 0) (spans : (t : Spanned
         (k x i),
     l x i,
   )
-
-  -- each of these is such a span
-  abbrev AllSpans : List Span → Type 0
-  AllSpans [] = Unit {0}
-  AllSpans (s ∷ ss) = S s × AllSpans ss
 
   pub mark_span : (m : Tok) (t : SpannedTok) (x : Span) → T t → g.span_of_mark m t ≡ Some x → S x
   mark_span m t x i j = go (is m t.0) j
@@ -215,9 +211,12 @@ module _ (T : SpannedTok → Type 0) (S : Span → Type 0) (spans : (t : Spanned
       args_append (keyword y e ∷ xs) x h k = (h.0, args_append xs x h.1 k)
       args_append (double_starred e ∷ xs) x h k = (h.0, args_append xs x h.1 k)
 
+      named : (x : Option Text) → Ensured T S G (g.named expr x) (λ x. Holds (IsArgSound x))
+      named None = alone tt
+      named (Some x) = weaker T S G expr IsOne _ (λ e k. alone k.it) he
+
       rest_of_arg : (e : Expr C) → IsSound T S e → Ensured T S G (g.rest_of_arg expr e) (λ x. Holds (IsArgSound x))
-      rest_of_arg (variable x s) h = ((λ t u i j. weaker T S G expr IsOne _ (λ e k. alone k.it) he), alone h)
-      rest_of_arg e h = alone h
+      rest_of_arg e h = behind assign (g.named expr (g.name_of_variable e)) (pure (positional e)) _ (named (g.name_of_variable e)) (alone h)
 
       arg : Ensured T S G (g.arg expr) (λ x. Holds (IsArgSound x))
       unfolding g.arg
@@ -300,75 +299,74 @@ module _ (T : SpannedTok → Type 0) (S : Span → Type 0) (spans : (t : Spanned
         postfix e from bracket_open h i = subscript e from h i
         postfix e from _ h i = called e from h i
 
-      -- ---- operators before an operand
+    -- ---- what nests
 
-      wrapped : (o : _) (to : Span) (ss : List Span) (e : Expr C) → S to → AllSpans ss → IsSound T S e → IsSound T S (g.wrapped o to ss e)
-      wrapped o to [] e i h k = k
-      wrapped o to (s ∷ ss) e i h k = wrapped o to ss (tree.unary o e (expanded s to)) i h.1 (joins s to h.0 i, k)
+    -- all that nests is so
+    pub record AreNestedSound (b : g.Below C) : Type 1 where
+      pub expr : Ensured T S G b.expr IsOne
+      pub opposite : Ensured T S G b.opposite IsOne
+      pub power : Ensured T S G b.power IsOne
+      pub negated : Ensured T S G b.negated IsOne
+      pub primary : Ensured T S G b.primary IsOne
 
-      prefixed : (m : Tok) (o : _) (f : Form (Expr C)) → Ensured T S G f IsOne → Ensured T S G (g.prefixed m o f) IsOne
-      prefixed m o f h = (
-        AllSpans,
-        alone tt,
-        (λ ss t s i j k. alone (mark_span m t s j k, i)),
-        λ ss i. weaker T S G f IsOne _ (λ e k. λ to l. alone (wrapped o to ss e l i k.it)) h,
+    prefixed : (m : Tok) (o : _) (f : Form (Expr C)) → Ensured T S G f IsOne → Ensured T S G (g.prefixed m o f) IsOne
+    prefixed m o f h = next m _ (λ from i. weaker T S G f IsOne _ (λ e k. spanned from (tree.unary o e) IsOne i (λ s j. alone (j, k.it))) h)
+
+    -- an operand so far, and where the next node begins
+    abbrev IsBase : Expr C × Span → Type 0
+    IsBase e = IsSound T S e.0 × S e.1
+
+    module _ {F : Type 0} (f : Functions C F) (b : g.Below C) (nested : AreNestedSound b) where
+      postfixed : Ensured T S G (g.postfixed f b) IsOne
+      unfolding g.postfixed
+      postfixed = λ from i. weaker T S G b.primary IsOne _ (λ e h. (
+        IsBase,
+        alone (h.it, i),
+        (λ y t u j k l. weaker T S G (g.postfix b.expr f y.0 y.1 u.0) IsOne _ (λ x m. alone (m.it, spans u (of_kind_is begins_postfix t u k l))) (postfix b.expr nested.expr f y.0 y.1 u.0 j.0 j.1)),
+        λ y j. alone j.0,
+      )) nested.primary
+
+      operand : Ensured T S G (g.operand f b) IsOne
+      unfolding g.operand
+      operand = (prefixed minus negation b.negated nested.negated, postfixed)
+
+      test_args : Ensured T S G (g.test_args f b) (λ xs. Holds (AreArgs b.expr nested.expr xs))
+      unfolding g.test_args
+      test_args = (
+        (λ t u i j. args b.expr nested.expr),
+        (weaker T S G (g.operand f b) IsOne _ (λ e h. alone ((h.it, tt), omega arith)) operand, alone (tt, omega arith)),
       )
 
-      module _ {F : Type 0} (f : Functions C F) (prim : Form (Expr C)) (hp : Ensured T S G prim IsOne) where
-        -- an operand so far, and where the next postfix begins the node that it makes
-        abbrev IsBase : Expr C × Span → Type 0
-        IsBase e = IsSound T S e.0 × S e.1
+      named_test : (e : Expr C) → IsSound T S e → Ensured T S G (g.named_test f b e) IsOne
+      unfolding g.named_test
+      named_test e h = λ from i. weaker T S G g.name IsName _
+          (λ x j. weaker T S G (g.test_args f b) (λ xs. Holds (AreArgs b.expr nested.expr xs)) _ (λ xs k. spanned from (tree.test e x (args_of xs)) IsOne i (λ s m. alone (m, h, k.it.0, k.it.1))) test_args) name
 
-        postfixed : Ensured T S G (g.postfixed f expr prim) IsOne
-        unfolding g.postfixed
-        postfixed = λ from i. weaker T S G prim IsOne _ (λ e h. (
-          IsBase,
-          alone (h.it, i),
-          (λ y t u j k l. weaker T S G (g.postfix expr f y.0 y.1 u.0) IsOne _ (λ x m. alone (m.it, spans u (of_kind_is begins_postfix t u k l))) (postfix f y.0 y.1 u.0 j.0 j.1)),
-          λ y j. alone j.0,
-        )) hp
+      negated_test : (from : Span) (e : Expr C) → S from → IsSound T S e → Ensured T S G (g.named_test f b e >>= (λ t. g.spanned from (tree.unary logical_not t))) IsOne
+      negated_test from e i h = weaker T S G (g.named_test f b e) IsOne _ (λ t k. spanned from (tree.unary logical_not t) IsOne i (λ s m. alone (m, k.it))) (named_test e h)
 
-        operand : Ensured T S G (g.operand f expr prim) IsOne
-        unfolding g.operand
-        operand = prefixed minus negation (g.postfixed f expr prim) postfixed
+      any_test : (e : Expr C) → IsSound T S e → Ensured T S G (g.any_test f b e) IsOne
+      unfolding g.any_test
+      any_test e h = ((λ t u i j. λ from k. negated_test from e k h), named_test e h)
 
-        test_args : Ensured T S G (g.test_args f expr prim) (λ xs. Holds (AreArgs xs))
-        unfolding g.test_args
-        test_args = (
-          (λ t u i j. args),
-          (weaker T S G (g.operand f expr prim) IsOne _ (λ e h. alone ((h.it, tt), omega arith)) operand, alone (tt, omega arith)),
-        )
+      filtered : (e : Expr C) → IsSound T S e → Ensured T S G (g.filtered f b e) IsOne
+      unfolding g.filtered
+      filtered e h = λ from i. weaker T S G g.name IsName _ (λ x j. behind paren_open (g.args b.expr) (pure []) _
+          (weaker T S G (g.args b.expr) (λ xs. Holds (AreArgs b.expr nested.expr xs)) _ (λ xs k. spanned from (tree.filter (tree.present e) x (args_of xs)) IsOne i (λ s m. alone (m, h, k.it.0, k.it.1))) (args b.expr nested.expr))
+          (spanned from (tree.filter (tree.present e) x (args_of [])) IsOne i (λ s m. alone (m, h, tt, omega arith)))) name
 
-        named_test : (e : Expr C) → IsSound T S e → Ensured T S G (g.named_test f expr prim e) IsOne
-        unfolding g.named_test
-        named_test e h = λ from i. weaker T S G g.name IsName _
-            (λ x j. weaker T S G (g.test_args f expr prim) (λ xs. Holds (AreArgs xs)) _ (λ xs k. spanned from (tree.test e x (args_of xs)) IsOne i (λ s m. alone (m, h, k.it.0, k.it.1))) test_args) name
+      suffix : (e : Expr C) (t : Tok) → IsSound T S e → Ensured T S G (g.suffix f b e t) IsOne
+      suffix e pipe h = filtered e h
+      suffix e _ h = any_test e h
 
-        negated_test : (from : Span) (e : Expr C) → S from → IsSound T S e → Ensured T S G (g.named_test f expr prim e >>= (λ t. g.spanned from (tree.unary logical_not t))) IsOne
-        negated_test from e i h = weaker T S G (g.named_test f expr prim e) IsOne _ (λ t k. spanned from (tree.unary logical_not t) IsOne i (λ s m. alone (m, k.it))) (named_test e h)
-
-        any_test : (e : Expr C) → IsSound T S e → Ensured T S G (g.any_test f expr prim e) IsOne
-        unfolding g.any_test
-        any_test e h = ((λ t u i j. λ from k. negated_test from e k h), named_test e h)
-
-        filtered : (e : Expr C) → IsSound T S e → Ensured T S G (g.filtered f expr prim e) IsOne
-        unfolding g.filtered
-        filtered e h = λ from i. weaker T S G g.name IsName _ (λ x j. chosen paren_open (g.args expr) (pure []) _
-            (weaker T S G (g.args expr) (λ xs. Holds (AreArgs xs)) _ (λ xs k. spanned from (tree.filter (tree.present e) x (args_of xs)) IsOne i (λ s m. alone (m, h, k.it.0, k.it.1))) args)
-            (spanned from (tree.filter (tree.present e) x (args_of [])) IsOne i (λ s m. alone (m, h, tt, omega arith)))) name
-
-        suffix : (e : Expr C) (t : Tok) → IsSound T S e → Ensured T S G (g.suffix f expr prim e t) IsOne
-        suffix e pipe h = filtered e h
-        suffix e _ h = any_test e h
-
-        unary_level : Ensured T S G (g.unary_level f expr prim) IsOne
-        unfolding g.unary_level
-        unary_level = weaker T S G (g.operand f expr prim) IsOne _ (λ e h. (
-          IsSound T S,
-          h,
-          (λ y t u i j k. weaker T S G (g.suffix f expr prim y u.0) IsOne _ (λ x m. alone m.it) (suffix y u.0 i)),
-          λ y i. alone i,
-        )) operand
+      unary_level : Ensured T S G (g.unary_level f b) IsOne
+      unfolding g.unary_level
+      unary_level = weaker T S G (g.operand f b) IsOne _ (λ e h. (
+        IsSound T S,
+        h,
+        (λ y t u i j k. weaker T S G (g.suffix f b y u.0) IsOne _ (λ x m. alone m.it) (suffix y u.0 i)),
+        λ y i. alone i,
+      )) operand
 
     -- ---- operators of two sides
 
@@ -425,53 +423,61 @@ module _ (T : SpannedTok → Type 0) (S : Span → Type 0) (spans : (t : Spanned
 
     -- ---- if expressions
 
-    abbrev AreWaiting : List (Span × Expr C × Expr C) → Type 0
-    AreWaiting [] = Unit {0}
-    AreWaiting (w ∷ ws) = S w.0 × IsSound T S w.1 × IsSound T S w.2 × AreWaiting ws
-
-    abbrev AreIfs : g.Ifs C → Type 0
-    AreIfs c = AreWaiting c.waiting × IsSound T S c.now × S c.from
-
-    closed_ifs : (to : Span) (ws : List (Span × Expr C × Expr C)) (e : Expr C) → S to → AreWaiting ws → IsSound T S e → IsSound T S (g.closed to ws e)
-    closed_ifs to [] e i h k = k
-    closed_ifs to (w ∷ ws) e i h k = closed_ifs to ws (tree.if_expr w.2 w.1 (tree.present e) (expanded w.0 to)) i h.3 (joins w.0 to h.0 i, h.2, h.1, k)
-
-    if_turn : (f : Form (Expr C)) → Ensured T S G f IsOne → (c : g.Ifs C) (at : Span) → AreIfs c → Ensured T S G (g.if_turn f c at) (λ z. Holds (Kept AreIfs z))
+    if_turn : (f other : Form (Expr C)) → Ensured T S G f IsOne → Ensured T S G other IsOne → (x : Expr C × Span) (at : Span) → IsBase x →
+        Ensured T S G (g.if_turn f other x at) (λ z. Holds (Kept IsBase z))
     unfolding g.if_turn
-    if_turn f h c at k = weaker T S G f IsOne _ (λ t i. λ to j. pair
-        (λ u s l m. weaker T S G f IsOne _ (λ e n. alone ((k.2, k.1, i.it, k.0), n.it, mark_span else_word u s l m)) h)
-        (alone (k.0, (joins c.from to k.2 j, i.it, k.1, tt), j))) h
+    if_turn f other h ho x at k = weaker T S G f IsOne _ (λ t i. behind else_word (other >>= (λ e. pure (Some e))) (pure None) (Made t)
+        (weaker T S G other IsOne (λ e. Made t (Some e)) (λ e j. made t (Some e) i.it j.it) ho) (made t None i.it tt)) h
+      where
+        -- what is made of the test and the else part, if there is one
+        Made : Expr C → Option (Expr C) → Type 1
+        Made t o = (to : Span) → S to → Holds (Kept IsBase (go_on (tree.if_expr t x.0 (optional_of o) (expanded x.1 to), to)))
 
-    cond : (f : Form (Expr C)) → Ensured T S G f IsOne → Ensured T S G (g.cond f) IsOne
+        made : (t : Expr C) (o : Option (Expr C)) → IsSound T S t → IsSoundIfAny T S (optional_of o) → Made t o
+        made t o i j to l = alone ((joins x.1 to k.1 l, i, k.0, j), l)
+
+    cond : (f other : Form (Expr C)) → Ensured T S G f IsOne → Ensured T S G other IsOne → Ensured T S G (g.cond f other) IsOne
     unfolding g.cond
-    cond f h = λ from i. weaker T S G f IsOne _ (λ e j. (
-      AreIfs,
-      alone (tt, j.it, i),
-      (λ c t u k l m. if_turn f h c u k),
-      λ c k. λ to l. alone (closed_ifs to c.waiting c.now l k.0 k.1),
+    cond f other h ho = λ from i. weaker T S G f IsOne _ (λ e j. (
+      IsBase,
+      alone (j.it, i),
+      (λ x t u k l m. if_turn f other h ho x u k),
+      λ x k. alone k.0,
     )) h
 
     -- ---- the levels
 
     module _ {F : Type 0} (f : Functions C F) where
-      pub or_level : (expr prim : Form (Expr C)) → Ensured T S G expr IsOne → Ensured T S G prim IsOne → Ensured T S G (g.or_level f expr prim) IsOne
-      or_level expr prim he hp =
-          let unaries = unary_level expr he f prim hp in
-          let powers = level pow_op (g.unary_level f expr prim) unaries in
-          let terms = level term_op (g.pow_level f expr prim) powers in
-          let cats = level cat_op (g.term_level f expr prim) terms in
-          let sums = level sum_op (g.cat_level f expr prim) cats in
-          let compares = compared_level (g.sum_level f expr prim) sums in
-          let nots = prefixed expr he not_word logical_not (g.compared_level (g.sum_level f expr prim)) compares in
-          level or_op (g.and_level f expr prim) (level and_op (g.not_level f expr prim) nots)
+      module _ (b : g.Below C) (nested : AreNestedSound b) where
+        pow_level : Ensured T S G (g.pow_level f b) IsOne
+        unfolding g.pow_level
+        pow_level = λ from i. weaker T S G (g.unary_level f b) IsOne _ (λ l h. behind pow (b.power >>= (λ r. g.spanned from (tree.binary bin.pow l r))) (pure l) IsOne
+            (weaker T S G b.power IsOne _ (λ r k. spanned from (tree.binary bin.pow l r) IsOne i (λ s j. alone (j, h.it, k.it))) nested.power) h) (unary_level f b nested)
 
-      mutual
-        unfolding g.expr_at
+        not_level : Ensured T S G (g.not_level f b) IsOne
+        unfolding g.not_level
+        not_level =
+            let terms = level term_op (g.pow_level f b) pow_level in
+            let cats = level cat_op (g.term_level f b) terms in
+            let sums = level sum_op (g.cat_level f b) cats in
+            (prefixed not_word logical_not b.opposite nested.opposite, compared_level (g.sum_level f b) sums)
 
-        pub expr_sound : (d : ℕ) → Ensured T S G (g.expr_at f d) IsOne
-        expr_sound zero = alone tt
-        expr_sound (suc d) = cond (g.or_level f (g.expr_at f d) (g.primary_at f d)) (or_level (g.expr_at f d) (g.primary_at f d) (expr_sound d) (primary_sound d))
+        pub or_level : Ensured T S G (g.or_level f b) IsOne
+        or_level = level or_op (g.and_level f b) (level and_op (g.not_level f b) not_level)
 
-        pub primary_sound : (d : ℕ) → Ensured T S G (g.primary_at f d) IsOne
-        primary_sound zero = alone tt
-        primary_sound (suc d) = primary (g.expr_at f d) (expr_sound d) f
+        also_nested : AreNestedSound (g.deeper f b)
+        also_nested = record {
+          expr = cond (g.or_level f b) b.expr or_level nested.expr;
+          opposite = not_level;
+          power = pow_level;
+          negated = operand f b nested;
+          primary = primary b.expr nested.expr f;
+        }
+
+      pub below_sound : (d : ℕ) → AreNestedSound (g.below f d)
+      unfolding g.below
+      below_sound zero = record { expr = alone tt; opposite = alone tt; power = alone tt; negated = alone tt; primary = alone tt }
+      below_sound (suc d) = also_nested (g.below f d) (below_sound d)
+
+      pub expr_sound : (d : ℕ) → Ensured T S G (g.expr_at f d) IsOne
+      expr_sound d = (below_sound d).expr

@@ -1,5 +1,4 @@
 -- What is told of trees in one, taken apart: where they stand, and that they are whole.
-use Rattle.std.proofs.Common.{◌≡◌, ◌≤◌, ap}
 use Rattle.minijinja_syntax.specs.declared.tokens.Span.{Span}
 use Rattle.minijinja_syntax.specs.Streams.{SpannedTok}
 use Rattle.minijinja_tree.specs.SpannedTrees.{Expr, variable, constant, slice, unary, binary, compare, if_expr, filter, test, attribute, item, call, list, tuple, map, Optional, absent, present, Exprs, no_more, more, Comparisons, compared, against, Args, no_args, pos, pos_splat, kwarg, kwarg_splat, bare_expr, bare_optional, bare_exprs, bare_comparisons, bare_args}

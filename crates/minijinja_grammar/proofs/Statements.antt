@@ -5,24 +5,27 @@ use Rattle.std.specs.List.{filter_map, starts_with}
 use Rattle.std.specs.Option.{option_map}
 use Rattle.minijinja_syntax.specs.Texts.{Text}
 use Rattle.minijinja_value.specs.Values.{Functions}
-use Rattle.minijinja_syntax.specs.Tokens.{Tok, ident, template_data, variable_start, variable_end, block_start, block_end, assign, comma, pipe, paren_open, paren_close}
+use Rattle.minijinja_syntax.specs.Tokens.{Tok, ident, template_data, variable_start, block_start, block_end, assign, paren_open, paren_close}
 use Rattle.minijinja_syntax.specs.declared.tokens.Span.{Span}
 use Rattle.minijinja_syntax.specs.Streams.{SpannedTok}
-use Rattle.minijinja_tree.specs.SpannedTrees.{macro_of, Arg, Args, Expr, variable, attribute, call, filter, list, tuple, Optional, absent, present, optional_of, Exprs, no_more, more, exprs_of, args_of, Stmt, data_text, output, assignment, for_loop, if_cond, with_block, set_block, auto_escape, filter_block, named_block, extends, include, import_all, from_import, declare, call_block, do_call, break_loop, continue_loop, stmts_of, bare_expr, bare_optional, bare_exprs, bare_args, bare_list, bare_bindings, bare_names, bare_stmt, bare_stmts, bare_macro}
+use Rattle.minijinja_tree.specs.SpannedTrees.{macro_of, Arg, Args, Expr, variable, attribute, call, filter, list, tuple, Optional, optional_of, Exprs, no_more, more, exprs_of, args_of, Stmt, data_text, assignment, for_loop, with_block, set_block, auto_escape, filter_block, named_block, extends, include, import_all, from_import, declare, call_block, do_call, break_loop, continue_loop, stmts_of, bare_expr, bare_optional, bare_exprs, bare_args, bare_list, bare_bindings, bare_names, bare_stmt, bare_stmts, bare_macro, if_cond}
 use Rattle.minijinja_tree.specs.Tree.{blocks, all_blocks, macro_blocks, names_of_blocks}
-use Rattle.minijinja_tree.specs.WellFormed.{IsInner, AreInner, IsMacro, IsTarget, AreTargets, AreVariables, AreAllWhole, IsVariableIfAny, AreNames, IsChainOfFilters, IsChainIfAny, AreAssignments, AreArguments, arg_count, most_arguments}
-use Rattle.minijinja_grammar.specs.Words.{is_identifier, is_reserved, Keyword, for_keyword, if_keyword, with_keyword, set_keyword, autoescape_keyword, filter_keyword, block_keyword, extends_keyword, include_keyword, import_keyword, from_keyword, macro_keyword, call_keyword, do_keyword, break_keyword, continue_keyword, keyword_of, as_word, import_word, required_word, missing_word, context_word, endblock_word, endmacro_word, endcall_word, in_word, if_word, else_word, elif_word, recursive_word, endfor_word, endif_word, endwith_word, endset_word, endautoescape_word, endfilter_word}
-use Rattle.minijinja_grammar.specs.Forms.{Form, Turn, go_on, over, pure, nothing, one, many, either, ◌>>=◌, ◌>>◌}
-use Rattle.minijinja_grammar.specs.Grammar as g
-use Rattle.minijinja_grammar.specs.Grammar.{expanded, expr_at, primary_at}
-use Rattle.minijinja_grammar.specs.Targets as target
-use Rattle.minijinja_grammar.specs.Statements as form
-use Rattle.minijinja_grammar.specs.Statements.{Ends, at_endfor_or_else, at_endfor, at_endif_else_or_elif, at_endif, at_endwith, at_endset, at_endautoescape, at_endfilter, at_endblock, at_endmacro, at_endcall, Branch, Context, inside_loop, inside_block, inside_macro, Parts}
+use Rattle.minijinja_tree.specs.WellFormed.{IsInner, AreInner, IsMacro, IsTarget, AreTargets, AreVariables, AreAllWhole, IsVariableIfAny, AreNames, IsChainOfFilters, AreAssignments, arg_count, most_arguments}
+use Rattle.minijinja_grammar.specs.Words.{is_identifier, is_reserved, as_word, import_word, required_word, missing_word, context_word, endblock_word, endmacro_word, endcall_word, in_word, if_word, elif_word, recursive_word, endfor_word, endif_word, endwith_word, endset_word, endautoescape_word, endfilter_word}
+use Rattle.minijinja_grammar.specs.internal.Keywords.{Keyword, for_keyword, if_keyword, with_keyword, set_keyword, autoescape_keyword, filter_keyword, block_keyword, extends_keyword, include_keyword, import_keyword, from_keyword, macro_keyword, call_keyword, do_keyword, break_keyword, continue_keyword, keyword_of}
+use Rattle.minijinja_grammar.specs.internal.Forms.{Form, pure, ◌>>=◌, ◌>>◌}
+use Rattle.minijinja_grammar.specs.internal.ExprForms as g
+use Rattle.minijinja_grammar.specs.internal.ExprForms.{expanded, below, expr_at}
+use Rattle.minijinja_grammar.specs.internal.TargetForms as target
+use Rattle.minijinja_grammar.specs.internal.StmtForms as form
+use Rattle.minijinja_grammar.specs.Statements as statements
+use Rattle.minijinja_grammar.specs.Statements.{Ends, at_endfor_or_else, at_endfor, at_endif_else_or_elif, at_endif, at_endwith, at_endset, at_endautoescape, at_endfilter, at_endblock, at_endmacro, at_endcall, Context, inside_loop, inside_block, inside_macro}
+use Rattle.minijinja_grammar.specs.internal.StmtForms.{Parts}
 use Rattle.minijinja_grammar.specs.Standing.{Stands, StandsIfAny, StmtStands, StmtsStand, MacroStands, BindingsStand, NamesStand, AllStand}
 use Rattle.minijinja_grammar.specs.private.Sound.{IsSound, IsSoundIfAny, AreSound, AreArgsSound}
 use Rattle.minijinja_grammar.specs.private.Ensured.{Holds, Kept, Ensured}
 use Rattle.minijinja_grammar.proofs.Ensured.{weaker}
-use Rattle.minijinja_grammar.proofs.Sound.{alone, args, behind, exprs, expr_sound, items, mark_span, name, next, of_kind_is, or_level, primary_sound, spanned}
+use Rattle.minijinja_grammar.proofs.Sound.{alone, args, behind, exprs, expr_sound, items, name, next, or_level, below_sound, spanned}
 use Rattle.minijinja_grammar.proofs.Standing.{all_args, if_any, is_whole, stands, whole_args, whole_if_any}
 use Rattle.minijinja_grammar.proofs.Targets.{word_is, IsName, stored_name, IsAssignable, IsOneTarget, any_targets}
 
@@ -226,8 +229,14 @@ module _ (C : Type 0) (T : SpannedTok → Type 0) (S : Span → Type 0) (spans :
 
   -- ---- the bodies of blocks that are to be overridden
 
+  any_is : (t u : SpannedTok) → T t → form.any_token t ≡ Some u → T u
+  any_is t u i e = subst T (same t u e) i
+    where
+      same : (t u : SpannedTok) → Some t ≡ Some u → t ≡ u
+      same t u e = cc
+
   blank_part : (inside : Bool) (ss : List (Stmt C)) (t : SpannedTok) → T t → AreParts false inside ss → Ensured T S G (form.blank_part ss t) (λ z. Holds (Kept (AreParts false inside) z))
-  blank_part inside ss (template_data t, s) i h = when_is (form.is_blank t) _ _ (λ _. alone (append false inside ss (data_text t s) h (record { stands = i; inner = tt; free = none _ inside })))
+  blank_part inside ss (template_data t, s) i h = when_is (statements.is_blank t) _ _ (λ _. alone (append false inside ss (data_text t s) h (record { stands = i; inner = tt; free = none _ inside })))
   blank_part inside ss (block_start, s) i h = alone h
   blank_part inside ss _ i h = alone tt
 
@@ -236,7 +245,7 @@ module _ (C : Type 0) (T : SpannedTok → Type 0) (S : Span → Type 0) (spans :
   blank_body inside = (
     AreParts false inside,
     alone (no_parts false inside),
-    (λ ss t u h k m. blank_part inside ss u (of_kind_is T S spans joins G form.begins_part t u k m) h),
+    (λ ss t u h k m. blank_part inside ss u (any_is t u k m) h),
     λ ss h. alone h,
   )
 
@@ -249,6 +258,21 @@ module _ (C : Type 0) (T : SpannedTok → Type 0) (S : Span → Type 0) (spans :
   abbrev IsAnyChain : Option (Expr C) → Type 0
   IsAnyChain None = Unit {0}
   IsAnyChain (Some e) = IsChain e
+
+  -- ---- what a `with` assigns to
+
+  stored_target : Ensured T S G (target.stored_name {C = C}) (IsOneTarget C T S spans joins G)
+  stored_target = weaker T S G (target.stored_name {C = C}) (λ e. Holds (IsName C T S spans joins G e)) _ (λ x h. alone (record { sound = h.it.sound; target = h.it.target })) (stored_name C T S spans joins G)
+
+  pub bound_target : (d : ℕ) → Ensured T S G (form.bound_target d) (IsOneTarget C T S spans joins G)
+  unfolding form.bound_target
+  bound_target zero = stored_target
+  bound_target (suc d) = behind T S spans joins G paren_open
+      (target.any_targets false d >>= (λ t. g.next paren_close >> pure t))
+      (target.stored_name {C = C})
+      (IsOneTarget C T S spans joins G)
+      (weaker T S G (target.any_targets false d) (IsOneTarget C T S spans joins G) _ (λ x h. next T S spans joins G paren_close _ (λ s k. h)) (any_targets C T S spans joins G false d))
+      stored_target
 
   module _ (expr : Form (Expr C)) (he : Ensured T S G expr IsOne) where
     link_is : (o : Option (Expr C)) (x : Text) (xs : List (Arg C)) (s : Span) → IsAnyChain o → S s → AreArgsSound T S (args_of xs) →
@@ -299,26 +323,21 @@ module _ (C : Type 0) (T : SpannedTok → Type 0) (S : Span → Type 0) (spans :
         let i = also bs b (record { stand = h.stand.2; assigned = h.assigned.2 }) k in
         record { stand = (h.stand.0, h.stand.1, i.stand); assigned = (h.assigned.0, h.assigned.1, i.assigned) }
 
-    binding : Ensured T S G (form.binding expr) (λ b. Holds (IsBinding b))
-    unfolding form.binding form.bound_target
-    binding = (
-      (λ t u i j. weaker T S G (target.any_targets false) (IsOneTarget C T S spans joins G) _ (λ x h. next T S spans joins G paren_close _ (λ s k. valued x h.it)) (any_targets C T S spans joins G false)),
-      weaker T S G (target.stored_name {C = C}) (λ e. Holds (IsName C T S spans joins G e)) _ (λ x h. valued x (record { sound = h.it.sound; target = h.it.target })) (stored_name C T S spans joins G),
-    )
-      where
-        valued : (x : Expr C) → IsAssignable C T S spans joins G x → Ensured T S G (g.next assign >>= (λ _. expr >>= (λ e. pure (x, e)))) (λ b. Holds (IsBinding b))
-        valued x h = next T S spans joins G assign _ (λ s i. weaker T S G expr IsOne _ (λ e j. alone (record { target = h; value = j.it })) he)
+    binding : (bound : Form (Expr C)) → Ensured T S G bound (IsOneTarget C T S spans joins G) → Ensured T S G (form.binding bound expr) (λ b. Holds (IsBinding b))
+    unfolding form.binding
+    binding bound hw = weaker T S G bound (IsOneTarget C T S spans joins G) _ (λ x h. next T S spans joins G assign _ (λ s i. weaker T S G expr IsOne _
+        (λ e j. alone (record { target = h.it; value = j.it })) he)) hw
 
-    pub bindings : Ensured T S G (form.bindings expr) (λ bs. Holds (AreBindings bs))
+    pub bindings : (bound : Form (Expr C)) → Ensured T S G bound (IsOneTarget C T S spans joins G) → Ensured T S G (form.bindings bound expr) (λ bs. Holds (AreBindings bs))
     unfolding form.bindings
-    bindings = (
+    bindings bound hw = (
       alone (record { stand = tt; assigned = tt }),
-      weaker T S G (form.binding expr) (λ b. Holds (IsBinding b)) _ (λ b h. (
+      weaker T S G (form.binding bound expr) (λ b. Holds (IsBinding b)) _ (λ b h. (
         AreBindings,
         alone (also [] b (record { stand = tt; assigned = tt }) h.it),
-        (λ bs t u i j k. weaker T S G (form.binding expr) (λ c. Holds (IsBinding c)) _ (λ c l. alone (also bs c i l.it)) binding),
+        (λ bs t u i j k. weaker T S G (form.binding bound expr) (λ c. Holds (IsBinding c)) _ (λ c l. alone (also bs c i l.it)) (binding bound hw)),
         λ bs i. alone i,
-      )) binding,
+      )) (binding bound hw),
     )
 
     -- ---- `do`
@@ -395,9 +414,11 @@ module _ (C : Type 0) (T : SpannedTok → Type 0) (S : Span → Type 0) (spans :
   -- ---- statements, of such parts
 
   module _ (l inside : Bool) (p : Parts C) (he : Ensured T S G p.expr IsOne) (ho : Ensured T S G p.or IsOne) (hv : Ensured T S G p.value IsOne) (hc : Ensured T S G p.chain (λ e. Holds (IsChain e)))
+      (ht : (dotted : Bool) → Ensured T S G (p.targets dotted) (IsOneTarget C T S spans joins G)) (hw : Ensured T S G p.bound (IsOneTarget C T S spans joins G))
       (hb : (e : Ends) → Ensured T S G (p.body e) (AreAllParts l inside))
       (hl : (e : Ends) → Ensured T S G (p.loop_body e) (AreAllParts true inside))
-      (hn : (e : Ends) → Ensured T S G (p.block_body e) (AreAllParts false inside)) where
+      (hn : (e : Ends) → Ensured T S G (p.block_body e) (AreAllParts false inside))
+      (hi : (from : Span) → S from → Ensured T S G (p.if_ from) (IsOnePart l inside)) where
     closed_body : (e : Ends) (word : Tok) → Ensured T S G (form.closed_body p e word) (AreAllParts l inside)
     unfolding form.closed_body
     closed_body e word = next T S spans joins G block_end _ (λ s i. weaker T S G (p.body e) (AreAllParts l inside) _ (λ ss h. next T S spans joins G word _ (λ u k. h)) (hb e))
@@ -413,57 +434,37 @@ module _ (C : Type 0) (T : SpannedTok → Type 0) (S : Span → Type 0) (spans :
     for_stmt : (from : Span) → S from → Ensured T S G (form.for_stmt p from) (IsOnePart l inside)
     unfolding form.for_stmt
     for_stmt from i =
-        weaker T S G (target.any_targets false) (IsOneTarget C T S spans joins G) _ (λ t ht. next T S spans joins G in_word _ (λ _ _.
-        weaker T S G p.or IsOne _ (λ e k. weaker T S G (form.loop_filter p.expr) (λ o. Holds (IsAnySound o)) _ (λ only m. flag recursive_word _ (λ again.
+        weaker T S G (p.targets false) (IsOneTarget C T S spans joins G) _ (λ t m. next T S spans joins G in_word _ (λ _ _.
+        weaker T S G p.or IsOne _ (λ e k. weaker T S G (form.loop_filter p.expr) (λ o. Holds (IsAnySound o)) _ (λ only n. flag recursive_word _ (λ again.
         weaker T S G (form.loop_body p) (AreAllParts true inside) _ (λ ss b.
         weaker T S G (form.else_body p at_endfor endfor_word) (AreAllParts l inside) _ (λ other c.
         spanned T S spans joins G from (for_loop t e (optional_of only) again (stmts_of ss) (stmts_of other)) (IsOnePart l inside) i (λ s j. alone (record {
-          stands = (j, stands T S t ht.it.sound, stands T S e k.it, if_any T S (optional_of only) m.it, b.it.stand, c.it.stand);
-          inner = (ht.it.target, is_whole T S e k.it, whole_if_any T S (optional_of only) m.it, b.it.inner, c.it.inner);
+          stands = (j, stands T S t m.it.sound, stands T S e k.it, if_any T S (optional_of only) n.it, b.it.stand, c.it.stand);
+          inner = (m.it.target, is_whole T S e k.it, whole_if_any T S (optional_of only) n.it, b.it.inner, c.it.inner);
           free = both_none inside (all_blocks (bare_stmts (stmts_of ss))) _ b.it.free c.it.free;
-        }))) (else_body at_endfor endfor_word)) loop_body)) (loop_filter p.expr he)) ho)) (any_targets C T S spans joins G false)
+        }))) (else_body at_endfor endfor_word)) loop_body)) (loop_filter p.expr he)) ho)) (ht false)
 
-    pub record IsBranch (b : Branch C) : Type 0 where
-      pub from : S b.from
-      pub test : IsSound T S b.test
-      pub body : AreParts l inside b.body
+    otherwise : Ensured T S G (form.otherwise p) (AreAllParts l inside)
+    unfolding form.otherwise
+    otherwise = (
+      next T S spans joins G elif_word _ (λ s i. weaker T S G (p.if_ s) (IsOnePart l inside) _ (λ x h. alone (append l inside [] x (no_parts l inside) h.it)) (hi s i)),
+      else_body at_endif endif_word,
+    )
 
-    abbrev AreBranches : List (Branch C) → Type 0
-    AreBranches [] = Unit {0}
-    AreBranches (b ∷ bs) = IsBranch b × AreBranches bs
-
-    branch : (from : Span) → S from → Ensured T S G (form.branch p from) (λ b. Holds (IsBranch b))
-    unfolding form.branch
-    branch from i = weaker T S G p.or IsOne _ (λ e k. next T S spans joins G block_end _ (λ _ _. weaker T S G (p.body at_endif_else_or_elif) (AreAllParts l inside) _
-        (λ ss b. alone (record { from = i; test = k.it; body = b.it })) (hb at_endif_else_or_elif))) ho
-
-    if_of : (to : Span) (b : Branch C) (other : List (Stmt C)) → S to → IsBranch b → AreParts l inside other → IsPart l inside (form.if_of to b other)
-    if_of to b other i h k = record {
-      stands = (joins b.from to h.from i, stands T S b.test h.test, h.body.stand, k.stand);
-      inner = (is_whole T S b.test h.test, h.body.inner, k.inner);
-      free = both_none inside (all_blocks (bare_stmts (stmts_of b.body))) _ h.body.free k.free;
-    }
-
-    chosen : (to : Span) (b : Branch C) (cs : List (Branch C)) (other : List (Stmt C)) → S to → IsBranch b → AreBranches cs → AreParts l inside other → IsPart l inside (form.chosen to b cs other)
-    chosen to b [] other i h k m = if_of to b other i h m
-    chosen to b (c ∷ cs) other i h k m =
-        let n = if_of to c other i k.0 m in
-        chosen to b cs (form.if_of to c other ∷ []) i h k.1 (append l inside [] (form.if_of to c other) (no_parts l inside) n)
-
-    if_stmt : (from : Span) → S from → Ensured T S G (form.if_stmt p from) (IsOnePart l inside)
-    unfolding form.if_stmt form.others
-    if_stmt from i = weaker T S G (form.branch p from) (λ b. Holds (IsBranch b)) _ (λ b h. (
-      AreBranches,
-      alone tt,
-      (λ bs t s k m n. weaker T S G (form.branch p s) (λ c. Holds (IsBranch c)) _ (λ c o. alone (o.it, k)) (branch s (mark_span T S spans joins G elif_word t s m n))),
-      λ bs k. weaker T S G (form.else_body p at_endif endif_word) (AreAllParts l inside) _ (λ other m. λ to n. alone (chosen to b bs other n h.it k m.it)) (else_body at_endif endif_word),
-    )) (branch from i)
+    if_level : (from : Span) → S from → Ensured T S G (form.if_level p from) (IsOnePart l inside)
+    unfolding form.if_level
+    if_level from i = weaker T S G p.or IsOne _ (λ e k. next T S spans joins G block_end _ (λ _ _. weaker T S G (p.body at_endif_else_or_elif) (AreAllParts l inside) _ (λ ss b.
+        weaker T S G (form.otherwise p) (AreAllParts l inside) _ (λ other m. spanned T S spans joins G from (if_cond e (stmts_of ss) (stmts_of other)) (IsOnePart l inside) i (λ s j. alone (record {
+          stands = (j, stands T S e k.it, b.it.stand, m.it.stand);
+          inner = (is_whole T S e k.it, b.it.inner, m.it.inner);
+          free = both_none inside (all_blocks (bare_stmts (stmts_of ss))) _ b.it.free m.it.free;
+        }))) otherwise) (hb at_endif_else_or_elif))) ho
 
     with_stmt : (from : Span) → S from → Ensured T S G (form.with_stmt p from) (IsOnePart l inside)
     unfolding form.with_stmt
-    with_stmt from i = weaker T S G (form.bindings p.expr) (λ bs. Holds (AreBindings p.expr he bs)) _ (λ bs h. weaker T S G (form.closed_body p at_endwith endwith_word) (AreAllParts l inside) _
+    with_stmt from i = weaker T S G (form.bindings p.bound p.expr) (λ bs. Holds (AreBindings p.expr he bs)) _ (λ bs h. weaker T S G (form.closed_body p at_endwith endwith_word) (AreAllParts l inside) _
         (λ ss k. spanned T S spans joins G from (with_block bs (stmts_of ss)) (IsOnePart l inside) i (λ s j. alone (record { stands = (j, h.it.stand, k.it.stand); inner = (h.it.assigned, k.it.inner); free = k.it.free })))
-        (closed_body at_endwith endwith_word)) (bindings p.expr he)
+        (closed_body at_endwith endwith_word)) (bindings p.expr he p.bound hw)
 
     set_block_is : (t : Expr C) (o : Option (Expr C)) (ss : List (Stmt C)) (s : Span) → IsAssignable C T S spans joins G t → IsAnyChain o → AreParts l inside ss → S s →
         IsPart l inside (set_block t (optional_of o) (stmts_of ss) s)
@@ -488,7 +489,7 @@ module _ (C : Type 0) (T : SpannedTok → Type 0) (S : Span → Type 0) (spans :
 
     set_stmt : (from : Span) → S from → Ensured T S G (form.set_stmt p from) (IsOnePart l inside)
     unfolding form.set_stmt
-    set_stmt from i = weaker T S G (target.any_targets true) (IsOneTarget C T S spans joins G) _ (λ t h. (rest_of_set_block from t i h.it, rest_of_set from t i h.it)) (any_targets C T S spans joins G true)
+    set_stmt from i = weaker T S G (p.targets true) (IsOneTarget C T S spans joins G) _ (λ t h. (rest_of_set_block from t i h.it, rest_of_set from t i h.it)) (ht true)
 
     autoescape_stmt : (from : Span) → S from → Ensured T S G (form.autoescape_stmt p from) (IsOnePart l inside)
     unfolding form.autoescape_stmt
@@ -597,29 +598,31 @@ module _ (C : Type 0) (T : SpannedTok → Type 0) (S : Span → Type 0) (spans :
 
   -- no name is given within a macro
   stmt_of : (c : Context) → (c.in_macro ≡ false → (x : Text) → G x) → (p : Parts C) → Ensured T S G p.expr IsOne → Ensured T S G p.or IsOne → Ensured T S G p.value IsOne → Ensured T S G p.chain (λ e. Holds (IsChain e)) →
+      ((dotted : Bool) → Ensured T S G (p.targets dotted) (IsOneTarget C T S spans joins G)) → Ensured T S G p.bound (IsOneTarget C T S spans joins G) →
       ((e : Ends) → Ensured T S G (p.body e) (AreAllParts c.in_loop c.in_macro)) → ((e : Ends) → Ensured T S G (p.loop_body e) (AreAllParts true c.in_macro)) →
       ((e : Ends) → Ensured T S G (p.block_body e) (AreAllParts false c.in_macro)) → ((e : Ends) → Ensured T S G (p.macro_body e) (AreAllParts false true)) →
+      ((from : Span) → S from → Ensured T S G (p.if_ from) (IsOnePart c.in_loop c.in_macro)) →
       (k : Keyword) (from : Span) → S from → Ensured T S G (form.stmt_of c p (k, from)) (IsOnePart c.in_loop c.in_macro)
-  stmt_of c gives p he ho hv hc hb hl hn hm for_keyword from i = for_stmt c.in_loop c.in_macro p he ho hv hc hb hl hn from i
-  stmt_of c gives p he ho hv hc hb hl hn hm if_keyword from i = if_stmt c.in_loop c.in_macro p he ho hv hc hb hl hn from i
-  stmt_of c gives p he ho hv hc hb hl hn hm with_keyword from i = with_stmt c.in_loop c.in_macro p he ho hv hc hb hl hn from i
-  stmt_of c gives p he ho hv hc hb hl hn hm set_keyword from i = set_stmt c.in_loop c.in_macro p he ho hv hc hb hl hn from i
-  stmt_of c gives p he ho hv hc hb hl hn hm autoescape_keyword from i = autoescape_stmt c.in_loop c.in_macro p he ho hv hc hb hl hn from i
-  stmt_of c gives p he ho hv hc hb hl hn hm filter_keyword from i = filter_stmt c.in_loop c.in_macro p he ho hv hc hb hl hn from i
-  stmt_of c gives p he ho hv hc hb hl hn hm block_keyword from i = when_is (not c.in_macro) _ _ (λ e. block_stmt c.in_loop c.in_macro p he ho hv hc hb hl hn (gives (is_false c.in_macro e)) (is_false c.in_macro e) from i)
+  stmt_of c gives p he ho hv hc ht hw hb hl hn hm hi for_keyword from i = for_stmt c.in_loop c.in_macro p he ho hv hc ht hw hb hl hn hi from i
+  stmt_of c gives p he ho hv hc ht hw hb hl hn hm hi if_keyword from i = if_level c.in_loop c.in_macro p he ho hv hc ht hw hb hl hn hi from i
+  stmt_of c gives p he ho hv hc ht hw hb hl hn hm hi with_keyword from i = with_stmt c.in_loop c.in_macro p he ho hv hc ht hw hb hl hn hi from i
+  stmt_of c gives p he ho hv hc ht hw hb hl hn hm hi set_keyword from i = set_stmt c.in_loop c.in_macro p he ho hv hc ht hw hb hl hn hi from i
+  stmt_of c gives p he ho hv hc ht hw hb hl hn hm hi autoescape_keyword from i = autoescape_stmt c.in_loop c.in_macro p he ho hv hc ht hw hb hl hn hi from i
+  stmt_of c gives p he ho hv hc ht hw hb hl hn hm hi filter_keyword from i = filter_stmt c.in_loop c.in_macro p he ho hv hc ht hw hb hl hn hi from i
+  stmt_of c gives p he ho hv hc ht hw hb hl hn hm hi block_keyword from i = when_is (not c.in_macro) _ _ (λ e. block_stmt c.in_loop c.in_macro p he ho hv hc ht hw hb hl hn hi (gives (is_false c.in_macro e)) (is_false c.in_macro e) from i)
     where
       is_false : (b : Bool) → not b ≡ true → b ≡ false
       is_false true e = cc
       is_false false e = refl
-  stmt_of c gives p he ho hv hc hb hl hn hm extends_keyword from i = extends_stmt p.expr he c.in_loop c.in_macro from i
-  stmt_of c gives p he ho hv hc hb hl hn hm include_keyword from i = include_stmt p.expr he c.in_loop c.in_macro from i
-  stmt_of c gives p he ho hv hc hb hl hn hm import_keyword from i = import_stmt p.expr he c.in_loop c.in_macro from i
-  stmt_of c gives p he ho hv hc hb hl hn hm from_keyword from i = from_stmt p.expr he c.in_loop c.in_macro from i
-  stmt_of c gives p he ho hv hc hb hl hn hm macro_keyword from i = macro_stmt p he hm c.in_loop c.in_macro from i
-  stmt_of c gives p he ho hv hc hb hl hn hm call_keyword from i = call_stmt p he hm c.in_loop c.in_macro from i
-  stmt_of c gives p he ho hv hc hb hl hn hm do_keyword from i = do_stmt p.expr he c.in_loop c.in_macro from i
-  stmt_of c gives p he ho hv hc hb hl hn hm break_keyword from i = break_stmt c from i
-  stmt_of c gives p he ho hv hc hb hl hn hm continue_keyword from i = continue_stmt c from i
+  stmt_of c gives p he ho hv hc ht hw hb hl hn hm hi extends_keyword from i = extends_stmt p.expr he c.in_loop c.in_macro from i
+  stmt_of c gives p he ho hv hc ht hw hb hl hn hm hi include_keyword from i = include_stmt p.expr he c.in_loop c.in_macro from i
+  stmt_of c gives p he ho hv hc ht hw hb hl hn hm hi import_keyword from i = import_stmt p.expr he c.in_loop c.in_macro from i
+  stmt_of c gives p he ho hv hc ht hw hb hl hn hm hi from_keyword from i = from_stmt p.expr he c.in_loop c.in_macro from i
+  stmt_of c gives p he ho hv hc ht hw hb hl hn hm hi macro_keyword from i = macro_stmt p he hm c.in_loop c.in_macro from i
+  stmt_of c gives p he ho hv hc ht hw hb hl hn hm hi call_keyword from i = call_stmt p he hm c.in_loop c.in_macro from i
+  stmt_of c gives p he ho hv hc ht hw hb hl hn hm hi do_keyword from i = do_stmt p.expr he c.in_loop c.in_macro from i
+  stmt_of c gives p he ho hv hc ht hw hb hl hn hm hi break_keyword from i = break_stmt c from i
+  stmt_of c gives p he ho hv hc ht hw hb hl hn hm hi continue_keyword from i = continue_stmt c from i
 
   -- ---- bodies
 
@@ -647,24 +650,39 @@ module _ (C : Type 0) (T : SpannedTok → Type 0) (S : Span → Type 0) (spans :
     body e = (
       AreParts l inside,
       alone (no_parts l inside),
-      (λ ss t u h k m. part e ss u (of_kind_is T S spans joins G form.begins_part t u k m) h),
+      (λ ss t u h k m. part e ss u (any_is t u k m) h),
       λ ss h. alone h,
     )
 
   module _ {F : Type 0} (f : Functions C F) where
-    pub stmt_at : (c : Context) → (c.in_macro ≡ false → (x : Text) → G x) → (d : ℕ) → Ensured T S G (form.stmt_at f c d) (IsOnePart c.in_loop c.in_macro)
-    unfolding form.stmt_at
-    stmt_at c gives zero = alone tt
-    stmt_at c gives (suc d) = λ t x i j. stmt_of c gives (form.parts_at f c d)
+    -- a statement of each kind, where such statements and such an If nest
+    any_of : (c : Context) → (c.in_macro ≡ false → (x : Text) → G x) → (d : ℕ) →
+        ((c' : Context) → (c'.in_macro ≡ false → (x : Text) → G x) → Ensured T S G (form.stmt_at f c' d) (IsOnePart c'.in_loop c'.in_macro)) →
+        ((from : Span) → S from → Ensured T S G ((form.within f d).if_ c from) (IsOnePart c.in_loop c.in_macro)) →
+        (k : Keyword) (from : Span) → S from → Ensured T S G (form.stmt_of c (form.parts_at f c d) (k, from)) (IsOnePart c.in_loop c.in_macro)
+    any_of c gives d hs hi k from i = stmt_of c gives (form.parts_at f c d)
         (expr_sound T S spans joins G f d)
-        (or_level T S spans joins G f (expr_at f d) (primary_at f d) (expr_sound T S spans joins G f d) (primary_sound T S spans joins G f d))
+        (or_level T S spans joins G f (below f d) (below_sound T S spans joins G f d))
         (value (expr_at f d) (expr_sound T S spans joins G f d))
         (chain (expr_at f d) (expr_sound T S spans joins G f d))
-        (nested c (stmt_at c gives d))
-        (nested (inside_loop c) (stmt_at (inside_loop c) gives d))
-        (nested (inside_block c) (stmt_at (inside_block c) gives d))
-        (nested inside_macro (stmt_at inside_macro (λ e. cc) d))
-        x.0 x.1 (keyword_span t x i j)
+        (λ dotted. any_targets C T S spans joins G dotted d)
+        (bound_target d)
+        (nested c (hs c gives))
+        (nested (inside_loop c) (hs (inside_loop c) gives))
+        (nested (inside_block c) (hs (inside_block c) gives))
+        (nested inside_macro (hs inside_macro (λ e. cc)))
+        hi k from i
       where
         nested : (c' : Context) → Ensured T S G (form.stmt_at f c' d) (IsOnePart c'.in_loop c'.in_macro) → (e : Ends) → Ensured T S G (form.body (expr_at f d) (form.stmt_at f c' d) e) (AreAllParts c'.in_loop c'.in_macro)
         nested c' h = body c'.in_loop c'.in_macro (expr_at f d) (expr_sound T S spans joins G f d) (form.stmt_at f c' d) h
+
+    mutual
+      unfolding form.within form.stmt_level
+
+      pub stmt_at : (c : Context) → (c.in_macro ≡ false → (x : Text) → G x) → (d : ℕ) → Ensured T S G (form.stmt_at f c d) (IsOnePart c.in_loop c.in_macro)
+      stmt_at c gives zero = alone tt
+      stmt_at c gives (suc d) = λ t x i j. any_of c gives d (λ c' g. stmt_at c' g d) (if_at c gives d) x.0 x.1 (keyword_span t x i j)
+
+      if_at : (c : Context) → (c.in_macro ≡ false → (x : Text) → G x) → (d : ℕ) → (from : Span) → S from → Ensured T S G ((form.within f d).if_ c from) (IsOnePart c.in_loop c.in_macro)
+      if_at c gives zero from i = alone tt
+      if_at c gives (suc d) from i = any_of c gives d (λ c' g. stmt_at c' g d) (if_at c gives d) if_keyword from i

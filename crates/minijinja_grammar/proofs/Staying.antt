@@ -1,8 +1,10 @@
 -- Reading stays in one text.
 use Rattle.minijinja_grammar.proofs.Forms.{left, sound, no_longer}
-use Rattle.std.proofs.Common.{◌≡◌, ◌<◌, ◌≤◌, arith, List, [], ◌∷◌, ℕ, zero, suc, Bool, true, false, if◌then◌else◌, Option, Some, None, refl, sym, ap, ◌∙◌, length}
-use Rattle.minijinja_syntax.specs.Streams.{SpannedTok, Ending}
-use Rattle.minijinja_grammar.specs.Forms.{Place, Turn, go_on, over, Form, pure, nothing, one, source, start, last, new_name, is_given, giving, and_then, either, many, comes, after, Read, got, short, wrong, read_then, misfit, read_one, held_or_wrong, read_turn, if_held, read_any, read_many, reads}
+use Rattle.std.proofs.Common.{◌≡◌, ◌<◌, ◌≤◌, arith, List, [], ◌∷◌, ℕ, zero, suc, Bool, true, false, if◌then◌else◌, Option, Some, None, refl, ap, ◌∙◌, length}
+use Rattle.minijinja_syntax.specs.Streams.{SpannedTok}
+use Rattle.minijinja_grammar.specs.Places.{Place}
+use Rattle.minijinja_grammar.specs.internal.Forms.{Turn, go_on, over, Form, pure, nothing, one, source, start, last, new_name, is_given, giving, and_then, either, many, after, Read, got, short, wrong, read_then, misfit, read_one, held_or_wrong, read_turn, if_held, read_any, read_many, reads}
+use Rattle.minijinja_grammar.specs.Ahead.{comes}
 
 -- the text is the same, and how its tokens end
 pub record IsOfSame (p q : Place) : Type 0 where

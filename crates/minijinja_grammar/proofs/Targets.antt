@@ -1,18 +1,16 @@
 -- Targets of the grammar stand at tokens, and may be assigned to.
-use Rattle.std.proofs.Common.{◌≡◌, ℕ, zero, suc, List, [], ◌∷◌, ◌++◌, Bool, true, false, if◌then◌else◌, Option, Some, None, subst}
-use Rattle.std.specs.Prelude.{◌||◌, codes}
-use Rattle.std.specs.Str.{bytes_eq}
+use Rattle.std.proofs.Common.{◌≡◌, ℕ, zero, suc, List, [], ◌∷◌, ◌++◌, Bool, true, false, if◌then◌else◌, Some, None, subst}
 use Rattle.minijinja_syntax.specs.Texts.{Text}
-use Rattle.minijinja_syntax.specs.Tokens.{Tok, ident, comma, paren_open, paren_close}
+use Rattle.minijinja_syntax.specs.Tokens.{ident, comma, paren_open, paren_close}
 use Rattle.minijinja_syntax.specs.declared.tokens.Span.{Span}
 use Rattle.minijinja_syntax.specs.Streams.{SpannedTok}
-use Rattle.minijinja_tree.specs.SpannedTrees.{Expr, variable, attribute, list, exprs_of, bare_expr, bare_exprs}
+use Rattle.minijinja_tree.specs.SpannedTrees.{Expr, variable, list, exprs_of, bare_expr, bare_exprs}
 use Rattle.minijinja_tree.specs.WellFormed.{IsTarget, AreTargets, IsVariable}
 use Rattle.minijinja_grammar.specs.Words.{is_reserved}
-use Rattle.minijinja_grammar.specs.Forms.{Form, Turn, go_on, over, pure, one, either, many, ◌>>=◌, ◌>>◌}
-use Rattle.minijinja_grammar.specs.Grammar as g
-use Rattle.minijinja_grammar.specs.Grammar.{expanded}
-use Rattle.minijinja_grammar.specs.Targets as form
+use Rattle.minijinja_grammar.specs.internal.Forms.{Form, pure, many, ◌>>=◌, ◌>>◌}
+use Rattle.minijinja_grammar.specs.internal.ExprForms as g
+use Rattle.minijinja_grammar.specs.internal.ExprForms.{expanded}
+use Rattle.minijinja_grammar.specs.internal.TargetForms as form
 use Rattle.minijinja_grammar.specs.private.Sound.{IsSound, AreSound}
 use Rattle.minijinja_grammar.specs.private.Ensured.{Holds, Kept, Ensured}
 use Rattle.minijinja_grammar.proofs.Ensured.{weaker}
@@ -100,17 +98,17 @@ module _ (C : Type 0) (T : SpannedTok → Type 0) (S : Span → Type 0) (spans :
       weaker T S G target IsOneTarget _ (λ e h. (commas from e i h.it, alone h.it)) ht,
     )
 
-  target_in : (dotted : Bool) (n : ℕ) → Ensured T S G (form.target_in dotted n) IsOneTarget
+  target_in : (dotted : Bool) (d : ℕ) → Ensured T S G (form.target_in dotted d) IsOneTarget
   unfolding form.target_in
   target_in dotted zero = named dotted
-  target_in dotted (suc n) = behind T S spans joins G paren_open
-      (form.targets (form.target_in dotted n) >>= (λ t. g.next paren_close >> pure t))
+  target_in dotted (suc d) = behind T S spans joins G paren_open
+      (form.targets (form.target_in dotted d) >>= (λ t. g.next paren_close >> pure t))
       (form.named_target {C = C} dotted)
       IsOneTarget
-      (weaker T S G (form.targets (form.target_in dotted n)) IsOneTarget _ (λ e h. next T S spans joins G paren_close _ (λ s i. h))
-      (all_targets (form.target_in dotted n) (target_in dotted n)))
+      (weaker T S G (form.targets (form.target_in dotted d)) IsOneTarget _ (λ e h. next T S spans joins G paren_close _ (λ s i. h))
+      (all_targets (form.target_in dotted d) (target_in dotted d)))
       (named dotted)
 
-  pub any_targets : (dotted : Bool) → Ensured T S G (form.any_targets dotted) IsOneTarget
+  pub any_targets : (dotted : Bool) (d : ℕ) → Ensured T S G (form.any_targets dotted d) IsOneTarget
   unfolding form.any_targets
-  any_targets dotted = all_targets (form.target_in dotted form.most_parentheses) (target_in dotted form.most_parentheses)
+  any_targets dotted d = all_targets (form.target_in dotted d) (target_in dotted d)

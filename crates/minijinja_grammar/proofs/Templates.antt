@@ -6,10 +6,10 @@ use Rattle.minijinja_syntax.specs.declared.tokens.Span.{Span}
 use Rattle.minijinja_syntax.specs.Streams.{SpannedTok}
 use Rattle.minijinja_tree.specs.SpannedTrees.{Stmt, template, stmts_of, bare_stmt}
 use Rattle.minijinja_tree.specs.WellFormed.{IsRoot}
-use Rattle.minijinja_grammar.specs.Grammar.{expanded, expr_at}
-use Rattle.minijinja_grammar.specs.Statements as stmt
+use Rattle.minijinja_grammar.specs.internal.ExprForms.{expanded, expr_at}
+use Rattle.minijinja_grammar.specs.internal.StmtForms as stmt
 use Rattle.minijinja_grammar.specs.Statements.{outside, at_end_of_text}
-use Rattle.minijinja_grammar.specs.Templates as form
+use Rattle.minijinja_grammar.specs.internal.TemplateForms as form
 use Rattle.minijinja_grammar.specs.Standing.{StmtStands}
 use Rattle.minijinja_grammar.specs.private.Ensured.{Holds, Ensured}
 use Rattle.minijinja_grammar.proofs.Ensured.{weaker}

@@ -1,22 +1,22 @@
 -- The laws of the grammar.
-use Rattle.std.proofs.Common.{◌≡◌, ◌<◌, ℕ, suc, List, [], ◌∷◌, ◌++◌, length, Contains, arith, refl, sym, ap, ◌∙◌, subst}
+use Rattle.std.proofs.Common.{◌≡◌, suc, List, [], ◌∷◌, Contains, arith, refl}
 use Rattle.minijinja_syntax.specs.Texts.{Text}
 use Rattle.minijinja_value.specs.Values.{Functions}
 use Rattle.minijinja_syntax.specs.declared.tokens.Span.{Span}
-use Rattle.minijinja_syntax.specs.Streams.{SpannedTok, finished}
-use Rattle.minijinja_grammar.specs.Forms.{Form, Place, Derives, Read, got, wrong, reads}
-use Rattle.minijinja_grammar.specs.Grammar.{expanded, expr_at, max_depth}
-use Rattle.minijinja_grammar.specs.Templates.{template_at}
-use Rattle.minijinja_grammar.specs.Derived.{IsWholeOf, IsTemplateTree, IsExprTree, FitsSoFar, continued}
-use Rattle.minijinja_grammar.specs.private.Ensured.{Holds}
+use Rattle.minijinja_syntax.specs.Streams.{SpannedTok}
+use Rattle.minijinja_grammar.specs.internal.Forms.{Form, reads}
+use Rattle.minijinja_grammar.specs.Places.{Place}
+use Rattle.minijinja_grammar.specs.internal.ExprForms.{expanded, expr_at}
+use Rattle.minijinja_grammar.specs.Derived.{max_depth, FitsSoFar, continued}
+use Rattle.minijinja_grammar.specs.internal.TemplateForms.{template_at}
+use Rattle.minijinja_grammar.specs.internal.Whole.{IsWholeOf}
 use Rattle.minijinja_grammar.specs.private.Sound.{IsSound}
 use Rattle.minijinja_tree.specs.SpannedTrees.{Expr, Stmt, bare_expr, bare_stmt}
 use Rattle.minijinja_tree.specs.WellFormed.{IsWellFormed, IsWhole}
 use Rattle.minijinja_grammar.specs.Standing.{Stands, StmtStands}
-use Rattle.minijinja_grammar.specs.TokenSpans.{SameStart, SameEnd, StartsAtToken, token_start, start_before, EndsAtToken, token_end, end_before, IsOfTokens}
-use Rattle.minijinja_grammar.proofs.Ensured.{All, Fine, Gives, ensured}
+use Rattle.minijinja_grammar.specs.TokenSpans.{StartsAtToken, token_start, start_before, EndsAtToken, token_end, end_before, IsOfTokens}
+use Rattle.minijinja_grammar.proofs.Ensured.{All, Fine, ensured}
 use Rattle.minijinja_grammar.proofs.Whole.{one_only, ending_in, elsewhere, IsAtEnd, at_end}
-use Rattle.minijinja_grammar.proofs.Prefixes.{with_more}
 use Rattle.minijinja_grammar.proofs.Sound.{expr_sound}
 use Rattle.minijinja_grammar.proofs.Standing.{stands, is_whole}
 use Rattle.minijinja_grammar.proofs.Templates.{IsTemplate, template_sound}
@@ -72,28 +72,28 @@ module _ {C F : Type 0} (f : Functions C F) (p : Place) where
   fine : Fine T S (token_span p.tokens p.last) G p
   fine = record { tokens = all_contained p.tokens p.last p.tokens (λ t h. h); last = span_before p.tokens p.last }
 
-  template : (t : Stmt C) → IsTemplateTree f p t → IsTemplate T S (token_span p.tokens p.last) (joined p.tokens p.last) G f t
+  template : (t : Stmt C) → IsWholeOf (template_at f max_depth) p t → IsTemplate T S (token_span p.tokens p.last) (joined p.tokens p.last) G f t
   template t h = (ensured T S (token_span p.tokens p.last) G (template_at f max_depth) _
       (template_sound T S (token_span p.tokens p.last) (joined p.tokens p.last) G f (λ x. tt) max_depth) p h.stop t fine h.derived).is.it
 
-  expression : (e : Expr C) → IsExprTree f p e → IsSound T S e
+  expression : (e : Expr C) → IsWholeOf (expr_at f max_depth) p e → IsSound T S e
   expression e h = (ensured T S (token_span p.tokens p.last) G (expr_at f max_depth) _
       (expr_sound T S (token_span p.tokens p.last) (joined p.tokens p.last) G f max_depth) p h.stop e fine h.derived).is.it
 
-  pub template_formed : (t : Stmt C) → IsTemplateTree f p t → IsWellFormed (bare_stmt t)
+  pub template_formed : (t : Stmt C) → IsWholeOf (template_at f max_depth) p t → IsWellFormed (bare_stmt t)
   template_formed t h = ((template t h).root, template_distinct f max_depth p h.stop t h.derived)
 
-  pub template_stands : (t : Stmt C) → IsTemplateTree f p t → StmtStands T S t
+  pub template_stands : (t : Stmt C) → IsWholeOf (template_at f max_depth) p t → StmtStands T S t
   template_stands t h = (template t h).stands
 
-  pub expression_whole : (e : Expr C) → IsExprTree f p e → IsWhole (bare_expr e)
+  pub expression_whole : (e : Expr C) → IsWholeOf (expr_at f max_depth) p e → IsWhole (bare_expr e)
   expression_whole e h = is_whole T S e (expression e h)
 
-  pub expression_stands : (e : Expr C) → IsExprTree f p e → Stands T S e
+  pub expression_stands : (e : Expr C) → IsWholeOf (expr_at f max_depth) p e → Stands T S e
   expression_stands e h = stands T S e (expression e h)
 
 -- ---- where tokens fit so far, reading them comes to their end
 
-pub fits_to_end : {A : Type 0} (form : Form A) (p : Place) → FitsSoFar form p → IsAtEnd (reads form p)
+pub fits_to_end : {A : Type 0} (form : Form A) (p : Place) → FitsSoFar (IsWholeOf form) p → IsAtEnd (reads form p)
 fits_to_end form p h =
     at_end form p (ending_in p.ending h.whole.stop) h.more h.tree (elsewhere p.ending form (continued h.more p) h.whole.stop h.tree h.whole.derived) h.whole.none_left

@@ -1,11 +1,8 @@
 -- Repetitions, a turn at a time.
-use Rattle.std.proofs.Common.{◌≡◌, ◌≢◌, ℕ, zero, suc, ◌<◌, ◌≤◌, Bool, true, false, List, [], ◌∷◌, length, if◌then◌else◌, Option, Some, None, refl, sym, ap, ◌∙◌, arith}
-use Rattle.minijinja_syntax.specs.Tokens.{Tok, comma}
-use Rattle.minijinja_syntax.specs.declared.tokens.Span.{Span}
-use Rattle.minijinja_grammar.specs.Words.{is}
+use Rattle.std.proofs.Common.{◌≡◌, ℕ, zero, suc, ◌<◌, ◌≤◌, List, [], ◌∷◌, length, Option, Some, None, refl, ap, arith}
 use Rattle.minijinja_syntax.specs.Streams.{SpannedTok}
-use Rattle.minijinja_grammar.specs.Forms.{Place, Turn, go_on, over, Form, pure, and_then, either, many, comes, Read, got, short, wrong, read_then, after, held_or_wrong, read_one, read_turn, if_held, read_any, read_many, reads, ◌>>=◌}
-use Rattle.minijinja_grammar.specs.Grammar.{next, items, behind, span_of_mark}
+use Rattle.minijinja_grammar.specs.Places.{Place}
+use Rattle.minijinja_grammar.specs.internal.Forms.{Turn, go_on, over, Form, many, Read, got, short, wrong, after, read_turn, if_held, read_any, read_many, reads}
 use Rattle.minijinja_grammar.proofs.Forms.{left, sound, no_longer}
 
 module _ {A B : Type 0} (held : SpannedTok → Option B) (r : A → B → Place → Read (Turn A))

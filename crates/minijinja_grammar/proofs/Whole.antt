@@ -1,9 +1,10 @@
 -- What a form derives of all tokens: one thing at most, and what reading them comes to where they
 -- end refused.
-use Rattle.std.proofs.Common.{◌≡◌, ◌≢◌, ◌⊎◌, inl, inr, List, [], ◌∷◌, ◌++◌, Option, Some, None, refl, sym, ap, ◌∙◌, subst}
+use Rattle.std.proofs.Common.{◌≡◌, ◌≢◌, inl, inr, List, [], ◌∷◌, ◌++◌, Option, refl, sym, ap, ◌∙◌}
 use Rattle.minijinja_syntax.specs.Streams.{SpannedTok, Ending}
-use Rattle.minijinja_grammar.specs.Forms.{Place, Turn, go_on, over, Form, pure, nothing, one, source, start, last, new_name, and_then, either, many, start_at, held_next, after, Takes, Turns, no_turn, last_turn, turn, Derives, Read, got, short, wrong, read_then, misfit, read_one, held_or_wrong, read_turn, if_held, read_any, read_many, reads}
-use Rattle.minijinja_grammar.proofs.Forms.{same_read, sound, complete}
+use Rattle.minijinja_grammar.specs.Places.{Place}
+use Rattle.minijinja_grammar.specs.internal.Forms.{Turn, go_on, over, Form, pure, nothing, one, source, start, last, new_name, and_then, either, many, start_at, Takes, Turns, no_turn, last_turn, turn, Derives, Read, got, short, wrong, reads}
+use Rattle.minijinja_grammar.proofs.Forms.{same_read, complete}
 use Rattle.minijinja_grammar.proofs.Prefixes.{with_more, Goes, goes}
 
 -- one place and one tree at most

@@ -1,34 +1,48 @@
 -- Which trees tokens have.
-use Rattle.std.specs.Prelude.{◌≡◌, List, [], ◌++◌}
+use Rattle.std.specs.Prelude.{◌≡◌, ℕ, Bool, true, not, ◌&&◌, List, [], ◌∷◌, ◌++◌}
+use Rattle.std.specs.List.{list_any}
+use Rattle.std.specs.Str.{bytes_eq}
+use Rattle.minijinja_syntax.specs.Texts.{Text}
 use Rattle.minijinja_syntax.specs.Streams.{SpannedTok, finished}
 use Rattle.minijinja_value.specs.Values.{Functions}
-use Rattle.minijinja_tree.specs.SpannedTrees.{Expr, Stmt}
-use Rattle.minijinja_grammar.specs.Forms.{Form, Place, Derives}
-use Rattle.minijinja_grammar.specs.Grammar.{expr_at, max_depth}
-use Rattle.minijinja_grammar.specs.Templates.{template_at}
+use Rattle.minijinja_tree.specs.Tree.{Expr, Stmt, template, Stmts, all_block_names}
+use Rattle.minijinja_grammar.specs.Places.{Place}
+use Rattle.minijinja_grammar.specs.Expressions.{IsExpr}
+use Rattle.minijinja_grammar.specs.Statements.{IsBody, at_end_of_text, outside}
 
--- the tokens that are left at the place end unrefused, and all of them are of the form, which gives
--- this tree
-pub record IsWholeOf {A : Type 0} (form : Form A) (p : Place) (tree : A) : Type 0 where
+-- how deep what counts may nest
+abbrev pub max_depth : ℕ
+max_depth = 300
+
+-- no two of the names are one
+abbrev pub are_distinct : List Text → Bool
+are_distinct [] = true
+are_distinct (x ∷ xs) = not (list_any (bytes_eq x) xs) && are_distinct xs
+
+-- none of them is one of the old ones
+abbrev pub are_new : (old : List Text) → List Text → Bool
+are_new old [] = true
+are_new old (x ∷ xs) = not (list_any (bytes_eq x) old) && are_new old xs
+
+-- Template = Body, of depth at most 300: the tokens that are left at the place end unrefused, and all
+-- of them are its body. No two of its blocks have one name, and none has a name that was given before
+-- the place.
+pub data IsTemplateTree {C F : Type 0} (f : Functions C F) (p : Place) : Stmt C (Unit {0}) → Type 0 where
+  template_tree : {ss : Stmts C (Unit {0})} → p.ending ≡ finished → IsBody f p.source outside at_end_of_text max_depth p.tokens [] ss →
+      are_distinct (all_block_names ss) ≡ true → are_new p.names (all_block_names ss) ≡ true → IsTemplateTree f p (template ss)
+
+-- one Expr of depth at most 300: the tokens that are left at the place end unrefused, and all of them
+-- are the Expr
+pub record IsExprTree {C F : Type 0} (f : Functions C F) (p : Place) (e : Expr C) : Type 0 where
   pub unrefused : p.ending ≡ finished
-  pub stop : Place
-  pub derived : Derives form p stop tree
-  pub none_left : stop.tokens ≡ []
-
--- a template of depth at most 150
-abbrev pub IsTemplateTree : {C F : Type 0} → Functions C F → Place → Stmt C → Type 0
-IsTemplateTree f p tree = IsWholeOf (template_at f max_depth) p tree
-
--- one expression of depth at most 150
-abbrev pub IsExprTree : {C F : Type 0} → Functions C F → Place → Expr C → Type 0
-IsExprTree f p tree = IsWholeOf (expr_at f max_depth) p tree
+  pub derived : IsExpr f p.source max_depth p.tokens [] e
 
 -- as if these tokens followed those that are left, and then the end
 abbrev pub continued : List SpannedTok → Place → Place
 continued more p = record p { tokens = p.tokens ++ more; ending = finished }
 
--- with some tokens more, those that are left are of the form
-pub record FitsSoFar {A : Type 0} (form : Form A) (p : Place) : Type 0 where
+-- with some tokens more, those that are left at the place have a tree
+pub record FitsSoFar {A : Type 0} (IsTree : Place → A → Type 0) (p : Place) : Type 0 where
   pub more : List SpannedTok
   pub tree : A
-  pub whole : IsWholeOf form (continued more p) tree
+  pub whole : IsTree (continued more p) tree

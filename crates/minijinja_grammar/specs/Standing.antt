@@ -1,9 +1,7 @@
 -- Where the nodes of a tree stand.
-use Rattle.std.specs.Prelude.{List, [], ◌∷◌, Option, Some, None}
-use Rattle.minijinja_syntax.specs.Texts.{Text}
-use Rattle.minijinja_syntax.specs.Tokens.{Tok, ident, template_data}
+use Rattle.std.specs.Prelude.{List, [], ◌∷◌}
+use Rattle.minijinja_syntax.specs.Tokens.{ident, template_data}
 use Rattle.minijinja_syntax.specs.declared.tokens.Span.{Span}
-use Rattle.minijinja_tree.specs.CompareOps.{CompareOp}
 use Rattle.minijinja_syntax.specs.Streams.{SpannedTok}
 use Rattle.minijinja_tree.specs.SpannedTrees.{Expr, variable, constant, slice, unary, binary, compare, if_expr, filter, test, attribute, item, call, list, tuple, map, Optional, absent, present, Exprs, no_more, more, Comparisons, compared, against, Args, no_args, pos, pos_splat, kwarg, kwarg_splat, Stmt, template, data_text, output, assignment, for_loop, if_cond, with_block, set_block, auto_escape, filter_block, named_block, extends, include, import_all, from_import, declare, call_block, do_call, break_loop, continue_loop, Stmts, done, also, Macro, macro}
 

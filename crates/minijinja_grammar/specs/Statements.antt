@@ -1,27 +1,21 @@
--- The grammar of statements, over that of expressions.
-use Rattle.std.specs.Prelude.{ℕ, zero, suc, ◌==◌, List, [], ◌∷◌, ◌++◌, map, length, Bool, true, false, not, ◌||◌, if◌then◌else◌, Option, Some, None, is_some, nat_eq, codes}
-use Rattle.std.specs.List.{list_any, starts_with}
+-- The grammar of statements, a relation for each rule: `IsX .. d ts rest x` says that the tokens ts,
+-- as far as rest, are an X of depth at most d, and that x is its tree. The token that follows is the
+-- first of rest.
+use Rattle.std.specs.Prelude.{◌≡◌, ◌==◌, ℕ, suc, Bool, true, false, ◌||◌, List, [], ◌∷◌, length, map, if◌then◌else◌, nat_eq, codes}
+use Rattle.std.specs.List.{starts_with}
 use Rattle.std.specs.Str.{trim}
-use Rattle.std.specs.Option.{option_map}
 use Rattle.minijinja_syntax.specs.Texts.{Text}
 use Rattle.minijinja_value.specs.Values.{Functions}
-use Rattle.minijinja_syntax.specs.Tokens.{Tok, ident, template_data, variable_start, variable_end, block_start, block_end, assign, comma, pipe, paren_open, paren_close}
 use Rattle.minijinja_syntax.specs.declared.tokens.Span.{Span}
-use Rattle.minijinja_tree.specs.SpannedTrees.{Expr, Args, variable, attribute, call, filter, list, tuple, Optional, absent, present, optional_of, Exprs, no_more, more, exprs_of, args_of, Stmt, template, data_text, output, assignment, for_loop, if_cond, with_block, set_block, auto_escape, filter_block, named_block, extends, include, import_all, from_import, declare, call_block, do_call, break_loop, continue_loop, stmts_of, macro_of}
-use Rattle.minijinja_grammar.specs.Words.{is, is_identifier, in_word, if_word, else_word, elif_word, recursive_word, as_word, import_word, scoped_word, required_word, ignore_word, missing_word, with_word, without_word, context_word, endfor_word, endif_word, endwith_word, endset_word, endautoescape_word, endfilter_word, endblock_word, endmacro_word, endcall_word, Keyword, for_keyword, if_keyword, with_keyword, set_keyword, autoescape_keyword, filter_keyword, block_keyword, extends_keyword, include_keyword, import_keyword, from_keyword, macro_keyword, call_keyword, do_keyword, break_keyword, continue_keyword, keyword_of}
 use Rattle.minijinja_syntax.specs.Streams.{SpannedTok}
-use Rattle.minijinja_grammar.specs.Forms.{Form, Turn, go_on, over, pure, nothing, one, start, last, new_name, many, either, ◌>>=◌, ◌>>◌}
-use Rattle.minijinja_grammar.specs.Grammar.{next, of_kind, span_of_mark, when, spanned, behind, ident_and_span, items, exprs, maybe_args, name, expanded, expr_at, primary_at, or_level, max_depth}
-use Rattle.minijinja_grammar.specs.Targets.{name_word, stored_name, any_targets}
+use Rattle.minijinja_syntax.specs.Tokens.{Tok, ident, template_data, variable_start, variable_end, block_start, block_end, comma, assign, pipe, paren_open, paren_close}
+use Rattle.minijinja_tree.specs.Tree.{Expr, variable, call, filter, attribute, list, tuple, Optional, absent, present, Exprs, no_more, more, Args, Stmt, data_text, output, assignment, for_loop, if_cond, with_block, set_block, auto_escape, filter_block, named_block, extends, include, import_all, from_import, declare, call_block, do_call, break_loop, continue_loop, Macro, macro, Stmts, done, also}
+use Rattle.minijinja_grammar.specs.Words.{is, is_identifier, is_reserved, in_word, if_word, else_word, elif_word, recursive_word, as_word, import_word, scoped_word, required_word, ignore_word, missing_word, with_word, without_word, context_word, endfor_word, endif_word, endwith_word, endset_word, endautoescape_word, endfilter_word, endblock_word, endmacro_word, endcall_word}
+use Rattle.minijinja_grammar.specs.Ahead.{comes, IsName, or_level}
+use Rattle.minijinja_grammar.specs.Expressions.{IsExpr, IsLevel, AreArgsIfAny, AreExprs}
+use Rattle.minijinja_grammar.specs.Targets.{AreTargets, IsBound}
 
--- ---- words
-
--- the statement that a word begins, and where the word stands
-abbrev pub keyword_and_span : SpannedTok → Option (Keyword × Span)
-keyword_and_span (ident x, s) = option_map (λ k. (k, s)) (keyword_of x)
-keyword_and_span _ = None
-
--- ---- bodies
+-- ---- where statements stand
 
 -- what a body may end at: the words that may follow its last `{%`; a template's own goes on to the
 -- end of the text
@@ -42,430 +36,8 @@ ends_body at_endblock t = is endblock_word t
 ends_body at_endmacro t = is endmacro_word t
 ends_body at_endcall t = is endcall_word t
 
-abbrev pub begins_part : Tok → Bool
-begins_part (template_data t) = true
-begins_part variable_start = true
-begins_part block_start = true
-begins_part _ = false
-
--- an output, after its start: it ends before the end of its tag
-unfoldable pub shown : {C : Type 0} → Form (Expr C) → Span → Form (Stmt C)
-shown expr from = do
-  e ← expr
-  s ← spanned from (output e)
-  next variable_end
-  pure s
-
--- a statement and the end of its tag, after the start of it
-unfoldable pub tag : {C : Type 0} → Form (Stmt C) → Form (Stmt C)
-tag stmt = do
-  s ← stmt
-  next block_end
-  pure s
-
--- one part more
-abbrev pub also_part : {C : Type 0} → List (Stmt C) → Form (Stmt C) → Form (Turn (List (Stmt C)))
-also_part ss f = f >>= (λ s. pure (go_on (ss ++ s ∷ [])))
-
--- Data | {{ Expr }} | {% Stmt %}, from its first token on, or the {% of the word that the body ends
--- at
-abbrev pub part : {C : Type 0} → Form (Expr C) → Form (Stmt C) → Ends → List (Stmt C) → SpannedTok → Form (Turn (List (Stmt C)))
-part expr stmt ends ss (template_data t, s) = pure (go_on (ss ++ data_text t s ∷ []))
-part expr stmt ends ss (variable_start, s) = also_part ss (shown expr s)
-part expr stmt ends ss (block_start, s) = either (ends_body ends) (pure (over ss)) (also_part ss (tag stmt))
-part expr stmt ends ss _ = nothing
-
--- Body w = { Data | {{ Expr }} | {% Stmt %} } up to the first {% whose next token is a word of w
-unfoldable pub body : {C : Type 0} → Form (Expr C) → Form (Stmt C) → Ends → Form (List (Stmt C))
-body expr stmt ends = many (of_kind begins_part) (part expr stmt ends) []
-
--- ---- statements
-
--- Expr [ , [ Expr { , Expr } [,] ] ]: with a comma a tuple, which begins after that comma
-unfoldable pub value : {C : Type 0} → Form (Expr C) → Form (Expr C)
-value expr = do
-  e ← expr
-  behind comma
-      (do
-        from ← start
-        es ← exprs expr (e ∷ [])
-        spanned from (tuple (exprs_of es)))
-      (pure e)
-
--- Name [Args], on an operand that is absent at the start of a chain
-unfoldable pub chained : {C : Type 0} → Form (Expr C) → Option (Expr C) → Form (Expr C)
-chained expr e = do
-  from ← start
-  x ← name
-  xs ← maybe_args expr
-  spanned from (filter (optional_of e) x (args_of xs))
-
--- Chain = Name [Args] { | Name [Args] }
-unfoldable pub chain : {C : Type 0} → Form (Expr C) → Form (Expr C)
-chain expr = do
-  e ← chained expr None
-  many (span_of_mark pipe) (λ e _. chained expr (Some e) >>= (λ x. pure (go_on x))) e
-
--- ( Targets ) | Ident
-unfoldable pub bound_target : {C : Type 0} → Form (Expr C)
-bound_target = behind paren_open
-    (do
-      t ← any_targets false
-      next paren_close
-      pure t)
-    stored_name
-
--- With = ( ( Targets ) | Ident ) = Expr
-unfoldable pub binding : {C : Type 0} → Form (Expr C) → Form (Expr C × Expr C)
-binding expr = do
-  t ← bound_target
-  next assign
-  e ← expr
-  pure (t, e)
-
--- [ With { , With } ]
-unfoldable pub bindings : {C : Type 0} → Form (Expr C) → Form (List (Expr C × Expr C))
-bindings expr = either (is block_end) (pure [])
-    (binding expr >>= (λ b. many (span_of_mark comma) (λ bs _. binding expr >>= (λ c. pure (go_on (bs ++ c ∷ [])))) (b ∷ [])))
-
--- ["if" Expr], the test that the items of a loop have to pass
-unfoldable pub loop_filter : {C : Type 0} → Form (Expr C) → Form (Option (Expr C))
-loop_filter expr = behind if_word (expr >>= (λ e. pure (Some e))) (pure None)
-
--- [ | Chain ]
-unfoldable pub filters_if_any : {C : Type 0} → Form (Expr C) → Form (Option (Expr C))
-filters_if_any chain' = behind pipe (chain' >>= (λ e. pure (Some e))) (pure None)
-
--- = Expr [ , [ Expr { , Expr } [,] ] ], after the targets of a `set`
-unfoldable pub rest_of_set : {C : Type 0} → Form (Expr C) → Span → Expr C → Form (Stmt C)
-rest_of_set value' from t = do
-  next assign
-  v ← value'
-  spanned from (assignment t v)
-
--- a branch of an `if`: where it begins, its test and its body
-pub record Branch (C : Type 0) : Type 0 where
-  pub from : Span
-  pub test : Expr C
-  pub body : List (Stmt C)
-
--- a branch and what stands where its test fails, up to the end of the token taken last
-abbrev pub if_of : {C : Type 0} → Span → Branch C → List (Stmt C) → Stmt C
-if_of to b other = if_cond b.test (stmts_of b.body) (stmts_of other) (expanded b.from to)
-
--- the first branch, the others, the last of them first, and the else body: each of the others is
--- all of the false body before it
-abbrev pub chosen : {C : Type 0} → Span → Branch C → List (Branch C) → List (Stmt C) → Stmt C
-chosen to b [] other = if_of to b other
-chosen to b (c ∷ cs) other = chosen to b cs (if_of to c other ∷ [])
-
--- a call: what is called, the arguments, and where the call stands
-abbrev pub call_of : {C : Type 0} → Expr C → Option (Expr C × Args C × Span)
-call_of (call e xs s) = Some (e, xs, s)
-call_of _ = None
-
--- `do` wants a call
-abbrev pub done : {C : Type 0} → Span → Option (Expr C × Args C × Span) → Form (Stmt C)
-done from None = nothing
-done from (Some c) = spanned from (do_call c.0 c.1 c.2)
-
--- "do" Expr
-unfoldable pub do_stmt : {C : Type 0} → Form (Expr C) → Span → Form (Stmt C)
-do_stmt expr from = expr >>= (λ e. done from (call_of e))
-
--- an expression that has to be a call: what is called, the arguments, and where the call stands
-abbrev pub call_in : {C : Type 0} → Option (Expr C × Args C × Span) → Form (Expr C × Args C × Span)
-call_in None = nothing
-call_in (Some c) = pure c
-
-unfoldable pub called : {C : Type 0} → Form (Expr C) → Form (Expr C × Args C × Span)
-called expr = expr >>= (λ e. call_in (call_of e))
-
--- ---- other templates
-
-abbrev pub begins_context : Tok → Bool
-begins_context t = is with_word t || is without_word t
-
--- [ ("with" | "without") "context" ], and whether it was there
-unfoldable pub context_if_any : Form Bool
-context_if_any = either begins_context (one (of_kind begins_context) >> next context_word >> pure true) (pure false)
-
--- the same, unless it was there before
-abbrev pub context_unless : Bool → Form Bool
-context_unless true = pure true
-context_unless false = context_if_any
-
--- "extends" Expr
-unfoldable pub extends_stmt : {C : Type 0} → Form (Expr C) → Span → Form (Stmt C)
-extends_stmt expr from = do
-  e ← expr
-  spanned from (extends e)
-
--- "include" Expr [Ctx] [ "ignore" "missing" [Ctx] ]
-unfoldable pub include_stmt : {C : Type 0} → Form (Expr C) → Span → Form (Stmt C)
-include_stmt expr from = do
-  e ← expr
-  had ← context_if_any
-  ignore ← behind ignore_word (next missing_word >> context_unless had >> pure true) (pure false)
-  spanned from (include e ignore)
-
--- a variable, an attribute, or a list of such
-abbrev mutual
-  pub is_storable : {C : Type 0} → Expr C → Bool
-  is_storable (variable x s) = true
-  is_storable (attribute e x s) = true
-  is_storable (list es s) = are_storable es
-  is_storable _ = false
-
-  pub are_storable : {C : Type 0} → Exprs C → Bool
-  are_storable no_more = true
-  are_storable (more e es) = if is_storable e then are_storable es else false
-
--- "import" Expr "as" Expr [Ctx]: what all that the template stores is stored to has to be storable
-unfoldable pub import_stmt : {C : Type 0} → Form (Expr C) → Span → Form (Stmt C)
-import_stmt expr from = do
-  e ← expr
-  next as_word
-  t ← expr
-  when (is_storable t) (context_if_any >> spanned from (import_all e t))
-
--- a name that may be taken from a template: it is not reserved, and has no `_` in front
-abbrev pub public_word : SpannedTok → Option (Text × Span)
-public_word (ident x, s) = if starts_with nat_eq x (codes "_") then None else name_word (ident x, s)
-public_word _ = None
-
--- Imp = Ident [ "as" Ident ]
-unfoldable pub imported : {C : Type 0} → Form (Expr C × Optional C)
-imported = do
-  x ← one public_word
-  alias ← behind as_word (stored_name >>= (λ e. pure (present e))) (pure absent)
-  pure (variable x.0 x.1, alias)
-
-abbrev pub ends_names : Tok → Bool
-ends_names t = is block_end t || begins_context t
-
--- the name after a comma, unless that was the last one
-unfoldable pub next_imported : {C : Type 0} → List (Expr C × Optional C) → Span → Form (Turn (List (Expr C × Optional C)))
-next_imported ns at = either ends_names (pure (over ns)) (imported >>= (λ n. pure (go_on (ns ++ n ∷ []))))
-
--- [ Imp { , Imp } [,] ]
-unfoldable pub imports : {C : Type 0} → Form (List (Expr C × Optional C))
-imports = either ends_names (pure []) (imported >>= (λ n. many (span_of_mark comma) next_imported (n ∷ [])))
-
--- "from" Expr "import" [ Imp { , Imp } [,] ] [Ctx]
-unfoldable pub from_stmt : {C : Type 0} → Form (Expr C) → Span → Form (Stmt C)
-from_stmt expr from = do
-  e ← expr
-  next import_word
-  ns ← imports
-  context_if_any
-  spanned from (from_import e ns)
-
--- ---- blocks
-
--- an identifier that no block before it has as its name
-unfoldable pub block_name : Form Text
-block_name = do
-  x ← one ident_and_span
-  new_name x.0
-  pure x.0
-
--- ["scoped"], which changes nothing
-abbrev pub scoped_if_any : Form (Unit {0})
-scoped_if_any = behind scoped_word (pure tt) (pure tt)
-
--- [Ident], which has to be that name
-unfoldable pub end_name : Text → Form (Unit {0})
-end_name x = either is_identifier (next (ident x) >> pure tt) (pure tt)
-
--- whitespace alone
-abbrev pub is_blank : Text → Bool
-is_blank t = length (trim t) == 0
-
--- Data that is whitespace, from its token on, or the {% of the word that the body ends at
-abbrev pub blank_part : {C : Type 0} → List (Stmt C) → SpannedTok → Form (Turn (List (Stmt C)))
-blank_part ss (template_data t, s) = when (is_blank t) (pure (go_on (ss ++ data_text t s ∷ [])))
-blank_part ss (block_start, s) = pure (over ss)
-blank_part ss _ = nothing
-
--- { Data }, all of it whitespace, up to the first {%
-unfoldable pub blank_body : {C : Type 0} → Form (List (Stmt C))
-blank_body = many (of_kind begins_part) blank_part []
-
--- ---- macros
-
--- whether an argument of a macro has a default
-abbrev pub have_default : {C : Type 0} → List (Expr C × Option (Expr C)) → Bool
-have_default ps = list_any (λ p. is_some p.1) ps
-
--- [ = Expr ]: after an argument that has a default all have one
-abbrev pub default_of : {C : Type 0} → Form (Expr C) → (has_to_have : Bool) → Form (Option (Expr C))
-default_of expr true = next assign >> expr >>= (λ d. pure (Some d))
-default_of expr false = behind assign (expr >>= (λ d. pure (Some d))) (pure None)
-
--- Param = Ident [ = Expr ], after those so far
-unfoldable pub param : {C : Type 0} → Form (Expr C) → List (Expr C × Option (Expr C)) → Form (List (Expr C × Option (Expr C)))
-param expr ps = do
-  e ← stored_name
-  d ← default_of expr (have_default ps)
-  pure (ps ++ (e, d) ∷ [])
-
--- Params ), with Params = [ Param { , Param } [,] ], after the (
-unfoldable pub params : {C : Type 0} → Form (Expr C) → Form (List (Expr C × Option (Expr C)))
-params expr = do
-  ps ← items is_identifier (param expr) []
-  next paren_close
-  pure ps
-
--- what follows the targets of a set block: the end of its tag, or filters
-abbrev pub begins_set_block : Tok → Bool
-begins_set_block t = is block_end t || is pipe t
-
--- What statements are made of: expressions, those that no `if` part ends, values that may be
--- tuples, chains of filters, bodies, and the bodies of loops, of blocks and of macros.
-pub record Parts (C : Type 0) : Type 1 where
-  pub expr : Form (Expr C)
-  pub or : Form (Expr C)
-  pub value : Form (Expr C)
-  pub chain : Form (Expr C)
-  pub body : Ends → Form (List (Stmt C))
-  pub loop_body : Ends → Form (List (Stmt C))
-  pub block_body : Ends → Form (List (Stmt C))
-  pub macro_body : Ends → Form (List (Stmt C))
-
-module _ {C : Type 0} (p : Parts C) where
-  -- %} Body w, and the word w
-  unfoldable pub closed_body : Ends → Tok → Form (List (Stmt C))
-  closed_body ends word = do
-    next block_end
-    ss ← p.body ends
-    next word
-    pure ss
-
-  -- [ "else" %} Body w ], and the word w
-  unfoldable pub else_body : Ends → Tok → Form (List (Stmt C))
-  else_body ends word = behind else_word (closed_body ends word) (next word >> pure [])
-
-  -- %} Body, of a loop
-  unfoldable pub loop_body : Form (List (Stmt C))
-  loop_body = next block_end >> p.loop_body at_endfor_or_else
-
-  -- "for" Targets "in" Or ["if" Expr] ["recursive"] %} Body [ "else" %} Body ] "endfor"
-  unfoldable pub for_stmt : Span → Form (Stmt C)
-  for_stmt from = do
-    t ← any_targets false
-    next in_word
-    e ← p.or
-    only ← loop_filter p.expr
-    again ← behind recursive_word (pure true) (pure false)
-    ss ← loop_body
-    other ← else_body at_endfor endfor_word
-    spanned from (for_loop t e (optional_of only) again (stmts_of ss) (stmts_of other))
-
-  -- Or %} Body, after the `if` or `elif` at the span
-  unfoldable pub branch : Span → Form (Branch C)
-  branch from = do
-    e ← p.or
-    next block_end
-    ss ← p.body at_endif_else_or_elif
-    pure (record { from = from; test = e; body = ss })
-
-  abbrev pub branch_turn : List (Branch C) → Span → Form (Turn (List (Branch C)))
-  branch_turn bs from = branch from >>= (λ b. pure (go_on (b ∷ bs)))
-
-  -- { "elif" Or %} Body }, the last of them first
-  unfoldable pub others : List (Branch C) → Form (List (Branch C))
-  others = many (span_of_mark elif_word) branch_turn
-
-  -- If = Or %} Body { "elif" Or %} Body } [ "else" %} Body ] "endif"
-  unfoldable pub if_stmt : Span → Form (Stmt C)
-  if_stmt from = do
-    b ← branch from
-    bs ← others []
-    other ← else_body at_endif endif_word
-    to ← last
-    pure (chosen to b bs other)
-
-  -- "with" [ With { , With } ] %} Body "endwith"
-  unfoldable pub with_stmt : Span → Form (Stmt C)
-  with_stmt from = do
-    bs ← bindings p.expr
-    ss ← closed_body at_endwith endwith_word
-    spanned from (with_block bs (stmts_of ss))
-
-  -- [ | Chain ] %} Body "endset", after the targets
-  unfoldable pub rest_of_set_block : Span → Expr C → Form (Stmt C)
-  rest_of_set_block from t = do
-    e ← filters_if_any p.chain
-    ss ← closed_body at_endset endset_word
-    spanned from (set_block t (optional_of e) (stmts_of ss))
-
-  -- "set" Targets, and a block or a value
-  unfoldable pub set_stmt : Span → Form (Stmt C)
-  set_stmt from = do
-    t ← any_targets true
-    either begins_set_block (rest_of_set_block from t) (rest_of_set p.value from t)
-
-  -- "autoescape" Expr %} Body "endautoescape"
-  unfoldable pub autoescape_stmt : Span → Form (Stmt C)
-  autoescape_stmt from = do
-    e ← p.expr
-    ss ← closed_body at_endautoescape endautoescape_word
-    spanned from (auto_escape e (stmts_of ss))
-
-  -- "filter" Chain %} Body "endfilter"
-  unfoldable pub filter_stmt : Span → Form (Stmt C)
-  filter_stmt from = do
-    e ← p.chain
-    ss ← closed_body at_endfilter endfilter_word
-    spanned from (filter_block e (stmts_of ss))
-
-  -- %} Body, of a block: where it has to be overridden, whitespace
-  unfoldable pub block_body : Bool → Form (List (Stmt C))
-  block_body true = next block_end >> blank_body
-  block_body false = next block_end >> p.block_body at_endblock
-
-  -- "block" Ident ["scoped"] ["required"] %} Body "endblock" [Ident]
-  unfoldable pub block_stmt : Span → Form (Stmt C)
-  block_stmt from = do
-    x ← block_name
-    scoped_if_any
-    required ← behind required_word (pure true) (pure false)
-    ss ← block_body required
-    next endblock_word
-    end_name x
-    spanned from (named_block x required (stmts_of ss))
-
-  -- %} Body w, of a macro, and the word w
-  unfoldable pub macro_body : Ends → Tok → Form (List (Stmt C))
-  macro_body ends word = do
-    next block_end
-    ss ← p.macro_body ends
-    next word
-    pure ss
-
-  -- "macro" Ident ( Params ) %} Body "endmacro"
-  unfoldable pub macro_stmt : Span → Form (Stmt C)
-  macro_stmt from = do
-    x ← one ident_and_span
-    next paren_open
-    ps ← params p.expr
-    ss ← macro_body at_endmacro endmacro_word
-    spanned from (λ s. declare (macro_of x.0 ps ss s))
-
-  -- "call" [ ( Params ) ] Expr %} Body "endcall": the macro is named `caller`, and stands where the
-  -- statement does
-  unfoldable pub call_stmt : Span → Form (Stmt C)
-  call_stmt from = do
-    ps ← behind paren_open (params p.expr) (pure [])
-    c ← called p.expr
-    ss ← macro_body at_endcall endcall_word
-    spanned from (λ s. call_block c.0 c.1 c.2 (macro_of (codes "caller") ps ss s) s)
-
--- ---- in their context
-
--- where a statement stands: whether the body of a loop is around it, in the same block, macro or
--- call block, and whether it is in a macro or call block
+-- whether the body of a loop is round a statement, in the same block, macro or call block, and
+-- whether it is in a macro or call block
 pub record Context : Type 0 where
   pub in_loop : Bool
   pub in_macro : Bool
@@ -482,55 +54,214 @@ inside_block c = record c { in_loop = false }
 abbrev pub inside_macro : Context
 inside_macro = record { in_loop = false; in_macro = true }
 
-unfoldable pub break_stmt : {C : Type 0} → Context → Span → Form (Stmt C)
-break_stmt c from = when c.in_loop (spanned from break_loop)
+-- ---- options without a tree
 
-unfoldable pub continue_stmt : {C : Type 0} → Context → Span → Form (Stmt C)
-continue_stmt c from = when c.in_loop (spanned from continue_loop)
+-- a word that may be there, and whether it is
+pub data IsWordIfAny (word : Tok) : List SpannedTok → List SpannedTok → Bool → Type 0 where
+  no_word : {rest : List SpannedTok} → comes (is word) rest ≡ false → IsWordIfAny word rest rest false
+  one_word : {s : Span} {rest : List SpannedTok} → IsWordIfAny word ((word, s) ∷ rest) rest true
 
--- Stmt, after its first word
-abbrev pub stmt_of : {C : Type 0} → Context → Parts C → Keyword × Span → Form (Stmt C)
-stmt_of c p (for_keyword, from) = for_stmt p from
-stmt_of c p (if_keyword, from) = if_stmt p from
-stmt_of c p (with_keyword, from) = with_stmt p from
-stmt_of c p (set_keyword, from) = set_stmt p from
-stmt_of c p (autoescape_keyword, from) = autoescape_stmt p from
-stmt_of c p (filter_keyword, from) = filter_stmt p from
-stmt_of c p (block_keyword, from) = when (not c.in_macro) (block_stmt p from)
-stmt_of c p (extends_keyword, from) = extends_stmt p.expr from
-stmt_of c p (include_keyword, from) = include_stmt p.expr from
-stmt_of c p (import_keyword, from) = import_stmt p.expr from
-stmt_of c p (from_keyword, from) = from_stmt p.expr from
-stmt_of c p (macro_keyword, from) = macro_stmt p from
-stmt_of c p (call_keyword, from) = call_stmt p from
-stmt_of c p (do_keyword, from) = do_stmt p.expr from
-stmt_of c p (break_keyword, from) = break_stmt c from
-stmt_of c p (continue_keyword, from) = continue_stmt c from
+abbrev pub begins_context : Tok → Bool
+begins_context t = is with_word t || is without_word t
 
--- the level of expressions that takes no `if` part, with so much depth left for what nests in it
-abbrev pub or_at : {C F : Type 0} → Functions C F → ℕ → Form (Expr C)
-or_at f d = or_level f (expr_at f d) (primary_at f d)
+-- [Ctx], with Ctx = ("with" | "without") "context", and whether it was there
+pub data IsContextIfAny : List SpannedTok → List SpannedTok → Bool → Type 0 where
+  no_context : {rest : List SpannedTok} → comes begins_context rest ≡ false → IsContextIfAny rest rest false
+  with_context : {s r : Span} {rest : List SpannedTok} → IsContextIfAny ((with_word, s) ∷ (context_word, r) ∷ rest) rest true
+  without_context : {s r : Span} {rest : List SpannedTok} → IsContextIfAny ((without_word, s) ∷ (context_word, r) ∷ rest) rest true
 
--- the parts of statements of such expressions, in which such statements nest, and such in the body
--- of a loop, of a block and of a macro
-abbrev pub parts_of : {C : Type 0} → (expr or : Form (Expr C)) → (nested in_loop in_block in_macro : Form (Stmt C)) → Parts C
-parts_of expr or nested in_loop in_block in_macro = record {
-  expr = expr;
-  or = or;
-  value = value expr;
-  chain = chain expr;
-  body = body expr nested;
-  loop_body = body expr in_loop;
-  block_body = body expr in_block;
-  macro_body = body expr in_macro;
-}
+-- [ "ignore" "missing" [Ctx] ], where a Ctx is looked for only if none was there before
+pub data IsIgnoreIfAny : Bool → List SpannedTok → List SpannedTok → Bool → Type 0 where
+  no_ignore : {had : Bool} {rest : List SpannedTok} → comes (is ignore_word) rest ≡ false → IsIgnoreIfAny had rest rest false
+  ignore_after_context : {s r : Span} {rest : List SpannedTok} → IsIgnoreIfAny true ((ignore_word, s) ∷ (missing_word, r) ∷ rest) rest true
+  ignore : {s r : Span} {had : Bool} {ts rest : List SpannedTok} → IsContextIfAny ts rest had → IsIgnoreIfAny false ((ignore_word, s) ∷ (missing_word, r) ∷ ts) rest true
 
--- each nested Stmt counts 1
-unfoldable pub stmt_at : {C F : Type 0} → Functions C F → Context → ℕ → Form (Stmt C)
-stmt_at f c zero = nothing
-stmt_at f c (suc d) =
-    one keyword_and_span >>= stmt_of c (parts_of (expr_at f d) (or_at f d) (stmt_at f c d) (stmt_at f (inside_loop c) d) (stmt_at f (inside_block c) d) (stmt_at f inside_macro d))
+-- [Ident], which has to be that name
+pub data IsEndName (x : Text) : List SpannedTok → List SpannedTok → Type 0 where
+  no_end_name : {rest : List SpannedTok} → comes is_identifier rest ≡ false → IsEndName x rest rest
+  same_name : {s : Span} {rest : List SpannedTok} → IsEndName x ((ident x, s) ∷ rest) rest
 
--- the parts of a statement in which statements and expressions nest so deep at most
-abbrev pub parts_at : {C F : Type 0} → Functions C F → Context → ℕ → Parts C
-parts_at f c d = parts_of (expr_at f d) (or_at f d) (stmt_at f c d) (stmt_at f (inside_loop c) d) (stmt_at f (inside_block c) d) (stmt_at f inside_macro d)
+-- ---- names that are imported
+
+abbrev pub ends_names : Tok → Bool
+ends_names t = is block_end t || begins_context t
+
+module _ {C : Type 0} where
+  -- Imp = Ident [ "as" Ident ]
+  pub data IsImport : List SpannedTok → List SpannedTok → Expr C → Optional C → Type 0 where
+    import_name : {x : Text} {s : Span} {rest : List SpannedTok} → starts_with nat_eq x (codes "_") ≡ false → is_reserved x ≡ false → comes (is as_word) rest ≡ false →
+        IsImport ((ident x, s) ∷ rest) rest (variable x) absent
+    import_alias : {x y : Text} {s r q : Span} {rest : List SpannedTok} → starts_with nat_eq x (codes "_") ≡ false → is_reserved x ≡ false → is_reserved y ≡ false →
+        IsImport ((ident x, s) ∷ (as_word, r) ∷ (ident y, q) ∷ rest) rest (variable x) (present (variable y))
+
+  -- [ Imp { , Imp } [,] ]: none, and a last comma, only before the end of the tag or a Ctx
+  pub data AreImports : List SpannedTok → List SpannedTok → List (Expr C × Optional C) → Type 0 where
+    no_imports : {rest : List SpannedTok} → comes ends_names rest ≡ true → AreImports rest rest []
+    last_import : {ts rest : List SpannedTok} {e : Expr C} {a : Optional C} → comes ends_names ts ≡ false → IsImport ts rest e a → comes (is comma) rest ≡ false → AreImports ts rest ((e, a) ∷ [])
+    imports : {s : Span} {ts us rest : List SpannedTok} {e : Expr C} {a : Optional C} {ns : List (Expr C × Optional C)} → comes ends_names ts ≡ false → IsImport ts ((comma, s) ∷ us) e a →
+        AreImports us rest ns → AreImports ts rest ((e, a) ∷ ns)
+
+-- a variable, an attribute, or a list of such
+abbrev mutual
+  pub is_storable : {C : Type 0} → Expr C → Bool
+  is_storable (variable x) = true
+  is_storable (attribute e x) = true
+  is_storable (list es) = are_storable es
+  is_storable _ = false
+
+  pub are_storable : {C : Type 0} → Exprs C → Bool
+  are_storable no_more = true
+  are_storable (more e es) = if is_storable e then are_storable es else false
+
+-- after an argument that has a default all have one
+abbrev pub all_default : {C : Type 0} → List (Expr C × Optional C) → Bool
+all_default [] = true
+all_default ((e, absent) ∷ ps) = false
+all_default ((e, present d) ∷ ps) = all_default ps
+
+abbrev pub defaults_come_last : {C : Type 0} → List (Expr C × Optional C) → Bool
+defaults_come_last [] = true
+defaults_come_last ((e, absent) ∷ ps) = defaults_come_last ps
+defaults_come_last ((e, present d) ∷ ps) = all_default ps
+
+abbrev pub defaults_of : {C : Type 0} → List (Expr C × Optional C) → List (Expr C)
+defaults_of [] = []
+defaults_of ((e, absent) ∷ ps) = defaults_of ps
+defaults_of ((e, present d) ∷ ps) = d ∷ defaults_of ps
+
+abbrev pub macro_of : {C : Type 0} → Text → List (Expr C × Optional C) → Stmts C (Unit {0}) → Macro C (Unit {0})
+macro_of x ps ss = macro tt x (map (λ p. p.0) ps) (defaults_of ps) ss
+
+-- whitespace alone
+abbrev pub is_blank : Text → Bool
+is_blank t = length (trim t) == 0
+
+module _ {C F : Type 0} (f : Functions C F) (source : Text) where
+  -- Expr [ , [ Expr { , Expr } [,] ] ]: with a comma a tuple
+  pub data IsValue : ℕ → List SpannedTok → List SpannedTok → Expr C → Type 0 where
+    one_value : {d : ℕ} {ts rest : List SpannedTok} {e : Expr C} → IsExpr f source d ts rest e → comes (is comma) rest ≡ false → IsValue d ts rest e
+    values : {d : ℕ} {s : Span} {ts us rest : List SpannedTok} {e : Expr C} {es : Exprs C} → IsExpr f source d ts ((comma, s) ∷ us) e → AreExprs f source d us rest es → IsValue d ts rest (tuple (more e es))
+
+  -- Chain = Name [Args] { | Name [Args] }: the first has no operand
+  pub data IsChainRow : ℕ → List SpannedTok → List SpannedTok → Expr C → Type 0 where
+    first_filter : {d : ℕ} {ts us rest : List SpannedTok} {x : Text} {xs : Args C} → IsName source ts us x → AreArgsIfAny f source d us rest xs → IsChainRow d ts rest (filter absent x xs)
+    also_filter : {d : ℕ} {s : Span} {ts us vs rest : List SpannedTok} {e : Expr C} {x : Text} {xs : Args C} → IsChainRow d ts ((pipe, s) ∷ us) e → IsName source us vs x → AreArgsIfAny f source d vs rest xs →
+        IsChainRow d ts rest (filter (present e) x xs)
+
+  pub data IsChain : ℕ → List SpannedTok → List SpannedTok → Expr C → Type 0 where
+    chain : {d : ℕ} {ts rest : List SpannedTok} {e : Expr C} → IsChainRow d ts rest e → comes (is pipe) rest ≡ false → IsChain d ts rest e
+
+  -- [ | Chain ]
+  pub data IsChainIfAny : ℕ → List SpannedTok → List SpannedTok → Optional C → Type 0 where
+    no_chain : {d : ℕ} {rest : List SpannedTok} → comes (is pipe) rest ≡ false → IsChainIfAny d rest rest absent
+    one_chain : {d : ℕ} {s : Span} {ts rest : List SpannedTok} {e : Expr C} → IsChain d ts rest e → IsChainIfAny d ((pipe, s) ∷ ts) rest (present e)
+
+  -- ["if" Expr]
+  pub data IsFilterIfAny : ℕ → List SpannedTok → List SpannedTok → Optional C → Type 0 where
+    no_filter : {d : ℕ} {rest : List SpannedTok} → comes (is if_word) rest ≡ false → IsFilterIfAny d rest rest absent
+    one_filter : {d : ℕ} {s : Span} {ts rest : List SpannedTok} {e : Expr C} → IsExpr f source d ts rest e → IsFilterIfAny d ((if_word, s) ∷ ts) rest (present e)
+
+  -- [ With { , With } ], with With = ( ( Targets ) | Ident ) = Expr
+  mutual
+    pub data AreBindings : ℕ → List SpannedTok → List SpannedTok → List (Expr C × Expr C) → Type 0 where
+      no_bindings : {d : ℕ} {rest : List SpannedTok} → comes (is block_end) rest ≡ true → AreBindings d rest rest []
+      bindings : {d : ℕ} {ts rest : List SpannedTok} {bs : List (Expr C × Expr C)} → comes (is block_end) ts ≡ false → AreSomeBindings d ts rest bs → AreBindings d ts rest bs
+
+    pub data AreSomeBindings : ℕ → List SpannedTok → List SpannedTok → List (Expr C × Expr C) → Type 0 where
+      last_binding : {d : ℕ} {s : Span} {ts us rest : List SpannedTok} {t e : Expr C} → IsBound d ts ((assign, s) ∷ us) t → IsExpr f source d us rest e → comes (is comma) rest ≡ false →
+          AreSomeBindings d ts rest ((t, e) ∷ [])
+      more_bindings : {d : ℕ} {s r : Span} {ts us vs rest : List SpannedTok} {t e : Expr C} {bs : List (Expr C × Expr C)} → IsBound d ts ((assign, s) ∷ us) t → IsExpr f source d us ((comma, r) ∷ vs) e →
+          AreSomeBindings d vs rest bs → AreSomeBindings d ts rest ((t, e) ∷ bs)
+
+  -- Params = [ Param { , Param } [,] ], with Param = Ident [ = Expr ]
+  mutual
+    pub data AreParams : ℕ → List SpannedTok → List SpannedTok → List (Expr C × Optional C) → Type 0 where
+      no_params : {d : ℕ} {rest : List SpannedTok} → comes is_identifier rest ≡ false → AreParams d rest rest []
+      param : {d : ℕ} {x : Text} {s : Span} {ts rest : List SpannedTok} {ps : List (Expr C × Optional C)} → is_reserved x ≡ false → comes (is assign) ts ≡ false → AreMoreParams d ts rest ps →
+          AreParams d ((ident x, s) ∷ ts) rest ((variable x, absent) ∷ ps)
+      param_with_default : {d : ℕ} {x : Text} {s r : Span} {ts us rest : List SpannedTok} {e : Expr C} {ps : List (Expr C × Optional C)} → is_reserved x ≡ false → IsExpr f source d ts us e →
+          AreMoreParams d us rest ps → AreParams d ((ident x, s) ∷ (assign, r) ∷ ts) rest ((variable x, present e) ∷ ps)
+
+    pub data AreMoreParams : ℕ → List SpannedTok → List SpannedTok → List (Expr C × Optional C) → Type 0 where
+      no_more_params : {d : ℕ} {rest : List SpannedTok} → comes (is comma) rest ≡ false → AreMoreParams d rest rest []
+      more_params : {d : ℕ} {s : Span} {ts rest : List SpannedTok} {ps : List (Expr C × Optional C)} → AreParams d ts rest ps → AreMoreParams d ((comma, s) ∷ ts) rest ps
+
+  -- [ ( Params ) ]
+  pub data AreParamsIfAny : ℕ → List SpannedTok → List SpannedTok → List (Expr C × Optional C) → Type 0 where
+    no_parentheses : {d : ℕ} {rest : List SpannedTok} → comes (is paren_open) rest ≡ false → AreParamsIfAny d rest rest []
+    params_in_parentheses : {d : ℕ} {s r : Span} {ts rest : List SpannedTok} {ps : List (Expr C × Optional C)} → AreParams d ts ((paren_close, r) ∷ rest) ps → defaults_come_last ps ≡ true →
+        AreParamsIfAny d ((paren_open, s) ∷ ts) rest ps
+
+  -- { Data }, all of it whitespace, up to the first {%
+  pub data IsBlank : List SpannedTok → List SpannedTok → Stmts C (Unit {0}) → Type 0 where
+    blank_end : {s : Span} {rest : List SpannedTok} → IsBlank ((block_start, s) ∷ rest) rest done
+    blank_data : {t : Text} {s : Span} {ts rest : List SpannedTok} {ss : Stmts C (Unit {0})} → is_blank t ≡ true → IsBlank ts rest ss → IsBlank ((template_data t, s) ∷ ts) rest (also (data_text t) ss)
+
+  mutual
+    -- Body w = { Data | {{ Expr }} | {% Stmt %} } up to the first {% whose next token is a word of
+    -- w, which is taken; a template's goes on to the end of the text
+    pub data IsBody : Context → Ends → ℕ → List SpannedTok → List SpannedTok → Stmts C (Unit {0}) → Type 0 where
+      body_end : {c : Context} {w : Ends} {d : ℕ} {s : Span} {rest : List SpannedTok} → comes (ends_body w) rest ≡ true → IsBody c w d ((block_start, s) ∷ rest) rest done
+      text_end : {c : Context} {d : ℕ} → IsBody c at_end_of_text d [] [] done
+      data_part : {c : Context} {w : Ends} {d : ℕ} {t : Text} {s : Span} {ts rest : List SpannedTok} {ss : Stmts C (Unit {0})} → IsBody c w d ts rest ss →
+          IsBody c w d ((template_data t, s) ∷ ts) rest (also (data_text t) ss)
+      output_part : {c : Context} {w : Ends} {d : ℕ} {s r : Span} {ts us rest : List SpannedTok} {e : Expr C} {ss : Stmts C (Unit {0})} → IsExpr f source d ts ((variable_end, r) ∷ us) e →
+          IsBody c w d us rest ss → IsBody c w d ((variable_start, s) ∷ ts) rest (also (output e) ss)
+      stmt_part : {c : Context} {w : Ends} {d : ℕ} {s r : Span} {ts us rest : List SpannedTok} {x : Stmt C (Unit {0})} {ss : Stmts C (Unit {0})} → comes (ends_body w) ts ≡ false →
+          IsStmt c d ts ((block_end, r) ∷ us) x → IsBody c w d us rest ss → IsBody c w d ((block_start, s) ∷ ts) rest (also x ss)
+
+    -- [ "else" %} Body w ] and the word w
+    pub data IsElse : Context → Ends → Tok → ℕ → List SpannedTok → List SpannedTok → Stmts C (Unit {0}) → Type 0 where
+      no_else : {c : Context} {w : Ends} {word : Tok} {d : ℕ} {s : Span} {rest : List SpannedTok} → comes (is else_word) ((word, s) ∷ rest) ≡ false → IsElse c w word d ((word, s) ∷ rest) rest done
+      else_part : {c : Context} {w : Ends} {word : Tok} {d : ℕ} {s r q : Span} {ts rest : List SpannedTok} {ss : Stmts C (Unit {0})} → IsBody c w d ts ((word, q) ∷ rest) ss →
+          IsElse c w word d ((else_word, s) ∷ (block_end, r) ∷ ts) rest ss
+
+    -- If = Or %} Body endif,else,elif ( "endif" | "else" %} Body endif "endif" | "elif" If ): the
+    -- If after an elif counts 1
+    pub data IsIf : Context → ℕ → List SpannedTok → List SpannedTok → Stmt C (Unit {0}) → Type 0 where
+      if_alone : {c : Context} {d : ℕ} {s r : Span} {ts us rest : List SpannedTok} {e : Expr C} {ss : Stmts C (Unit {0})} → IsLevel f source or_level d ts ((block_end, s) ∷ us) e →
+          IsBody c at_endif_else_or_elif d us ((endif_word, r) ∷ rest) ss → IsIf c d ts rest (if_cond e ss done)
+      if_else : {c : Context} {d : ℕ} {s r q p : Span} {ts us vs rest : List SpannedTok} {e : Expr C} {ss zs : Stmts C (Unit {0})} → IsLevel f source or_level d ts ((block_end, s) ∷ us) e →
+          IsBody c at_endif_else_or_elif d us ((else_word, r) ∷ (block_end, q) ∷ vs) ss → IsBody c at_endif d vs ((endif_word, p) ∷ rest) zs → IsIf c d ts rest (if_cond e ss zs)
+      if_elif : {c : Context} {d : ℕ} {s r : Span} {ts us vs rest : List SpannedTok} {e : Expr C} {ss : Stmts C (Unit {0})} {x : Stmt C (Unit {0})} → IsLevel f source or_level (suc d) ts ((block_end, s) ∷ us) e →
+          IsBody c at_endif_else_or_elif (suc d) us ((elif_word, r) ∷ vs) ss → IsIf c d vs rest x → IsIf c (suc d) ts rest (if_cond e ss (also x done))
+
+    -- Stmt, which counts 1
+    pub data IsStmt : Context → ℕ → List SpannedTok → List SpannedTok → Stmt C (Unit {0}) → Type 0 where
+      for_stmt : {c : Context} {d : ℕ} {s r q : Span} {again : Bool} {ts us vs ws xs ys rest : List SpannedTok} {t e : Expr C} {only : Optional C} {ss zs : Stmts C (Unit {0})} →
+          AreTargets false d ts ((in_word, r) ∷ us) t → IsLevel f source or_level d us vs e → IsFilterIfAny d vs ws only → IsWordIfAny recursive_word ws ((block_end, q) ∷ xs) again →
+          IsBody (inside_loop c) at_endfor_or_else d xs ys ss → IsElse c at_endfor endfor_word d ys rest zs → IsStmt c (suc d) ((ident (codes "for"), s) ∷ ts) rest (for_loop tt t e only again ss zs)
+      if_stmt : {c : Context} {d : ℕ} {s : Span} {ts rest : List SpannedTok} {x : Stmt C (Unit {0})} → IsIf c d ts rest x → IsStmt c (suc d) ((if_word, s) ∷ ts) rest x
+      with_stmt : {c : Context} {d : ℕ} {s r q : Span} {ts us rest : List SpannedTok} {bs : List (Expr C × Expr C)} {ss : Stmts C (Unit {0})} → AreBindings d ts ((block_end, r) ∷ us) bs →
+          IsBody c at_endwith d us ((endwith_word, q) ∷ rest) ss → IsStmt c (suc d) ((with_word, s) ∷ ts) rest (with_block bs ss)
+      set_stmt : {c : Context} {d : ℕ} {s r : Span} {ts us rest : List SpannedTok} {t e : Expr C} → AreTargets true d ts ((assign, r) ∷ us) t → IsValue d us rest e →
+          IsStmt c (suc d) ((ident (codes "set"), s) ∷ ts) rest (assignment t e)
+      set_block_stmt : {c : Context} {d : ℕ} {s r q : Span} {ts us vs rest : List SpannedTok} {t : Expr C} {e : Optional C} {ss : Stmts C (Unit {0})} → AreTargets true d ts us t →
+          IsChainIfAny d us ((block_end, r) ∷ vs) e → IsBody c at_endset d vs ((endset_word, q) ∷ rest) ss → IsStmt c (suc d) ((ident (codes "set"), s) ∷ ts) rest (set_block t e ss)
+      autoescape_stmt : {c : Context} {d : ℕ} {s r q : Span} {ts us rest : List SpannedTok} {e : Expr C} {ss : Stmts C (Unit {0})} → IsExpr f source d ts ((block_end, r) ∷ us) e →
+          IsBody c at_endautoescape d us ((endautoescape_word, q) ∷ rest) ss → IsStmt c (suc d) ((ident (codes "autoescape"), s) ∷ ts) rest (auto_escape e ss)
+      filter_stmt : {c : Context} {d : ℕ} {s r q : Span} {ts us rest : List SpannedTok} {e : Expr C} {ss : Stmts C (Unit {0})} → IsChain d ts ((block_end, r) ∷ us) e →
+          IsBody c at_endfilter d us ((endfilter_word, q) ∷ rest) ss → IsStmt c (suc d) ((ident (codes "filter"), s) ∷ ts) rest (filter_block e ss)
+      -- not in a macro or call block
+      block_stmt : {c : Context} {d : ℕ} {s r q p : Span} {scoped : Bool} {x : Text} {ts us vs ws rest : List SpannedTok} {ss : Stmts C (Unit {0})} → c.in_macro ≡ false → IsWordIfAny scoped_word ts us scoped →
+          IsWordIfAny required_word us ((block_end, r) ∷ vs) false → IsBody (inside_block c) at_endblock d vs ((endblock_word, q) ∷ ws) ss → IsEndName x ws rest →
+          IsStmt c (suc d) ((ident (codes "block"), s) ∷ (ident x, p) ∷ ts) rest (named_block x false ss)
+      required_block_stmt : {c : Context} {d : ℕ} {s r q p : Span} {scoped : Bool} {x : Text} {ts us vs ws rest : List SpannedTok} {ss : Stmts C (Unit {0})} → c.in_macro ≡ false →
+          IsWordIfAny scoped_word ts us scoped → IsWordIfAny required_word us ((block_end, r) ∷ vs) true → IsBlank vs ((endblock_word, q) ∷ ws) ss → IsEndName x ws rest →
+          IsStmt c (suc d) ((ident (codes "block"), s) ∷ (ident x, p) ∷ ts) rest (named_block x true ss)
+      extends_stmt : {c : Context} {d : ℕ} {s : Span} {ts rest : List SpannedTok} {e : Expr C} → IsExpr f source d ts rest e → IsStmt c (suc d) ((ident (codes "extends"), s) ∷ ts) rest (extends e)
+      include_stmt : {c : Context} {d : ℕ} {s : Span} {had missing : Bool} {ts us vs rest : List SpannedTok} {e : Expr C} → IsExpr f source d ts us e → IsContextIfAny us vs had →
+          IsIgnoreIfAny had vs rest missing → IsStmt c (suc d) ((ident (codes "include"), s) ∷ ts) rest (include e missing)
+      import_stmt : {c : Context} {d : ℕ} {s r : Span} {had : Bool} {ts us vs rest : List SpannedTok} {e t : Expr C} → IsExpr f source d ts ((as_word, r) ∷ us) e → IsExpr f source d us vs t →
+          is_storable t ≡ true → IsContextIfAny vs rest had → IsStmt c (suc d) ((import_word, s) ∷ ts) rest (import_all e t)
+      from_stmt : {c : Context} {d : ℕ} {s r : Span} {had : Bool} {ts us vs rest : List SpannedTok} {e : Expr C} {ns : List (Expr C × Optional C)} → IsExpr f source d ts ((import_word, r) ∷ us) e →
+          AreImports us vs ns → IsContextIfAny vs rest had → IsStmt c (suc d) ((ident (codes "from"), s) ∷ ts) rest (from_import e ns)
+      macro_stmt : {c : Context} {d : ℕ} {s p o r q t : Span} {x : Text} {ts us rest : List SpannedTok} {ps : List (Expr C × Optional C)} {ss : Stmts C (Unit {0})} →
+          AreParams d ts ((paren_close, r) ∷ (block_end, q) ∷ us) ps → defaults_come_last ps ≡ true → IsBody inside_macro at_endmacro d us ((endmacro_word, t) ∷ rest) ss →
+          IsStmt c (suc d) ((ident (codes "macro"), s) ∷ (ident x, p) ∷ (paren_open, o) ∷ ts) rest (declare (macro_of x ps ss))
+      call_stmt : {c : Context} {d : ℕ} {s r q : Span} {ts us vs rest : List SpannedTok} {ps : List (Expr C × Optional C)} {e : Expr C} {xs : Args C} {ss : Stmts C (Unit {0})} →
+          AreParamsIfAny d ts us ps → IsExpr f source d us ((block_end, r) ∷ vs) (call e xs) → IsBody inside_macro at_endcall d vs ((endcall_word, q) ∷ rest) ss →
+          IsStmt c (suc d) ((ident (codes "call"), s) ∷ ts) rest (call_block e xs (macro_of (codes "caller") ps ss))
+      do_stmt : {c : Context} {d : ℕ} {s : Span} {ts rest : List SpannedTok} {e : Expr C} {xs : Args C} → IsExpr f source d ts rest (call e xs) → IsStmt c (suc d) ((ident (codes "do"), s) ∷ ts) rest (do_call e xs)
+      break_stmt : {c : Context} {d : ℕ} {s : Span} {rest : List SpannedTok} → c.in_loop ≡ true → IsStmt c (suc d) ((ident (codes "break"), s) ∷ rest) rest break_loop
+      continue_stmt : {c : Context} {d : ℕ} {s : Span} {rest : List SpannedTok} → c.in_loop ≡ true → IsStmt c (suc d) ((ident (codes "continue"), s) ∷ rest) rest continue_loop

@@ -1,86 +1,51 @@
--- The grammar of what may be assigned to.
-use Rattle.std.specs.Prelude.{ℕ, zero, suc, ◌^◌, List, [], ◌∷◌, ◌++◌, Bool, true, false, ◌||◌, if◌then◌else◌, Option, Some, None, codes}
-use Rattle.std.specs.Str.{bytes_eq}
+-- The grammar of what may be assigned to, a relation for each rule: `IsX d ts rest t` says that the
+-- tokens ts, as far as rest, are an X of depth at most d, and that t is its tree. The token that
+-- follows is the first of rest. With `dotted`, attributes are targets too: in `set` alone.
+use Rattle.std.specs.Prelude.{◌≡◌, ℕ, suc, Bool, true, false, ◌||◌, List, ◌∷◌}
 use Rattle.minijinja_syntax.specs.Texts.{Text}
-use Rattle.minijinja_syntax.specs.Tokens.{Tok, ident, comma, dot, paren_open, paren_close, block_end}
 use Rattle.minijinja_syntax.specs.declared.tokens.Span.{Span}
-use Rattle.minijinja_tree.specs.SpannedTrees.{Expr, variable, attribute, list, exprs_of}
-use Rattle.minijinja_grammar.specs.Words.{is, is_reserved, in_word}
 use Rattle.minijinja_syntax.specs.Streams.{SpannedTok}
-use Rattle.minijinja_grammar.specs.Forms.{Form, Turn, go_on, over, pure, nothing, one, start, many, either, ◌>>=◌, ◌>>◌}
-use Rattle.minijinja_grammar.specs.Grammar.{next, span_of_mark, ident_and_span, spanned, behind}
-
--- an identifier, unless it is one of the refused
-abbrev pub word_but : (Text → Bool) → SpannedTok → Option (Text × Span)
-word_but refused (ident x, s) = if refused x then None else Some (x, s)
-word_but refused _ = None
-
--- an identifier that is not reserved
-abbrev pub name_word : SpannedTok → Option (Text × Span)
-name_word t = word_but is_reserved t
-
--- an identifier that is neither `in` nor reserved
-abbrev pub target_word : SpannedTok → Option (Text × Span)
-target_word t = word_but (λ x. bytes_eq x (codes "in") || is_reserved x) t
-
--- Ident, where a name stands by itself: it may be `in`
-unfoldable pub stored_name : {C : Type 0} → Form (Expr C)
-stored_name = do
-  x ← one name_word
-  pure (variable x.0 x.1)
-
--- . Ident, after a target so far: an attribute, which stands where its name does
-unfoldable pub target_part : {C : Type 0} → Expr C → Span → Form (Turn (Expr C))
-target_part e at = do
-  x ← one ident_and_span
-  pure (go_on (attribute e x.0 x.1))
-
--- { . Ident }, after a target
-unfoldable pub attributes : {C : Type 0} → Expr C → Form (Expr C)
-attributes = many (span_of_mark dot) target_part
-
--- { . Ident }, after a target that dots may follow
-abbrev pub target_parts : {C : Type 0} → Bool → Expr C → Form (Expr C)
-target_parts false e = pure e
-target_parts true e = attributes e
-
--- Ident { . Ident }, with the dots in `set` alone
-unfoldable pub named_target : {C : Type 0} → Bool → Form (Expr C)
-named_target dotted = do
-  x ← one target_word
-  target_parts dotted (variable x.0 x.1)
+use Rattle.minijinja_syntax.specs.Tokens.{Tok, ident, block_end, dot, comma, paren_open, paren_close}
+use Rattle.minijinja_tree.specs.Tree.{Expr, variable, attribute, list, Exprs, no_more, more}
+use Rattle.minijinja_grammar.specs.Words.{is, is_reserved, in_word}
+use Rattle.minijinja_grammar.specs.Ahead.{comes}
 
 -- what ends targets: `)`, `%}` or `in`
 abbrev pub ends_targets : Tok → Bool
 ends_targets t = is paren_close t || is block_end t || is in_word t
 
-module _ {C : Type 0} (target : Form (Expr C)) where
-  -- the target after a comma, unless that was the last one
-  unfoldable pub next_target : List (Expr C) → Span → Form (Turn (List (Expr C)))
-  next_target ts at = either ends_targets (pure (over ts)) (target >>= (λ t. pure (go_on (ts ++ t ∷ []))))
+module _ {C : Type 0} where
+  -- { . Ident }, after a target
+  pub data AreAttributes : Expr C → List SpannedTok → List SpannedTok → Expr C → Type 0 where
+    no_attribute : {e : Expr C} {rest : List SpannedTok} → comes (is dot) rest ≡ false → AreAttributes e rest rest e
+    also_attribute : {e : Expr C} {s r : Span} {x : Text} {ts rest : List SpannedTok} {t : Expr C} → AreAttributes (attribute e x) ts rest t → AreAttributes e ((dot, s) ∷ (ident x, r) ∷ ts) rest t
 
-  -- Targets = [ Target { , Target } [,] ]: one without a comma is itself, else they are a list
-  unfoldable pub targets : Form (Expr C)
-  targets = do
-    from ← start
-    either ends_targets (spanned from (list (exprs_of [])))
-        (target >>= (λ t. either (is comma)
-        (many (span_of_mark comma) next_target (t ∷ []) >>= (λ ts. spanned from (list (exprs_of ts))))
-        (pure t)))
+  mutual
+    -- Target = ( Targets ) | Ident { . Ident }, with the dots in `set` alone: the Targets in
+    -- parentheses count 1
+    pub data IsTarget (dotted : Bool) : ℕ → List SpannedTok → List SpannedTok → Expr C → Type 0 where
+      in_parentheses : {d : ℕ} {s r : Span} {ts rest : List SpannedTok} {t : Expr C} → AreTargets dotted d ts ((paren_close, r) ∷ rest) t → IsTarget dotted (suc d) ((paren_open, s) ∷ ts) rest t
+      undotted : {d : ℕ} {x : Text} {s : Span} {rest : List SpannedTok} → is in_word (ident x) ≡ false → is_reserved x ≡ false → dotted ≡ false →
+          IsTarget dotted d ((ident x, s) ∷ rest) rest (variable x)
+      dotted_target : {d : ℕ} {x : Text} {s : Span} {ts rest : List SpannedTok} {t : Expr C} → is in_word (ident x) ≡ false → is_reserved x ≡ false → dotted ≡ true →
+          AreAttributes (variable x) ts rest t → IsTarget dotted d ((ident x, s) ∷ ts) rest t
 
--- Target = ( Targets ) | Ident { . Ident }, in so many parentheses at most
-unfoldable pub target_in : {C : Type 0} → Bool → ℕ → Form (Expr C)
-target_in dotted zero = named_target dotted
-target_in dotted (suc n) = behind paren_open
-    (do
-      t ← targets (target_in dotted n)
-      next paren_close
-      pure t)
-    (named_target dotted)
+    -- Targets = [ Target { , Target } [,] ]: one without a comma is itself, else they are a list
+    pub data AreTargets (dotted : Bool) : ℕ → List SpannedTok → List SpannedTok → Expr C → Type 0 where
+      no_targets : {d : ℕ} {rest : List SpannedTok} → comes ends_targets rest ≡ true → AreTargets dotted d rest rest (list no_more)
+      one_target : {d : ℕ} {ts rest : List SpannedTok} {t : Expr C} → comes ends_targets ts ≡ false → IsTarget dotted d ts rest t → comes (is comma) rest ≡ false → AreTargets dotted d ts rest t
+      list_of_targets : {d : ℕ} {s : Span} {ts us rest : List SpannedTok} {t : Expr C} {es : Exprs C} → comes ends_targets ts ≡ false → IsTarget dotted d ts ((comma, s) ∷ us) t →
+          AreMoreTargets dotted d us rest es → AreTargets dotted d ts rest (list (more t es))
 
--- More parentheses than a source has bytes: they are not counted.
-abbrev pub most_parentheses : ℕ
-most_parentheses = 2 ^ 32
+    -- after a comma: it is the last one only where targets end
+    pub data AreMoreTargets (dotted : Bool) : ℕ → List SpannedTok → List SpannedTok → Exprs C → Type 0 where
+      no_more_targets : {d : ℕ} {rest : List SpannedTok} → comes ends_targets rest ≡ true → AreMoreTargets dotted d rest rest no_more
+      last_target : {d : ℕ} {ts rest : List SpannedTok} {t : Expr C} → comes ends_targets ts ≡ false → IsTarget dotted d ts rest t → comes (is comma) rest ≡ false →
+          AreMoreTargets dotted d ts rest (more t no_more)
+      more_targets : {d : ℕ} {s : Span} {ts us rest : List SpannedTok} {t : Expr C} {es : Exprs C} → comes ends_targets ts ≡ false → IsTarget dotted d ts ((comma, s) ∷ us) t →
+          AreMoreTargets dotted d us rest es → AreMoreTargets dotted d ts rest (more t es)
 
-unfoldable pub any_targets : {C : Type 0} → Bool → Form (Expr C)
-any_targets dotted = targets (target_in dotted most_parentheses)
+  -- the left of a With: ( Targets ) | Ident, where the Targets in parentheses count 1
+  pub data IsBound : ℕ → List SpannedTok → List SpannedTok → Expr C → Type 0 where
+    bound_targets : {d : ℕ} {s r : Span} {ts rest : List SpannedTok} {t : Expr C} → AreTargets false d ts ((paren_close, r) ∷ rest) t → IsBound (suc d) ((paren_open, s) ∷ ts) rest t
+    bound_name : {d : ℕ} {x : Text} {s : Span} {rest : List SpannedTok} → is_reserved x ≡ false → IsBound d ((ident x, s) ∷ rest) rest (variable x)

@@ -1,5 +1,5 @@
 -- Tokens and words, and what they mean to the grammar.
-use Rattle.std.specs.Prelude.{ℕ, Bool, true, false, ◌||◌, not, ◌==◌, if◌then◌else◌, Option, Some, None, is_some, codes}
+use Rattle.std.specs.Prelude.{Bool, true, false, ◌||◌, not, ◌==◌, if◌then◌else◌, Option, Some, None, is_some, codes}
 use Rattle.std.specs.Str.{bytes_eq}
 use Rattle.minijinja_syntax.specs.Texts.{Text}
 use Rattle.minijinja_syntax.specs.Tokens.{Tok, template_data, variable_start, variable_end, block_start, block_end, ident, str, string, int, int128, plus, minus, mul, div, floor_div, pow, rem, dot, comma, colon, tilde, assign, pipe, eq, ne, gt, gte, lt, lte, bracket_open, bracket_close, paren_open, paren_close, brace_open, brace_close}
@@ -66,10 +66,6 @@ is paren_close paren_close = true
 is brace_open brace_open = true
 is brace_close brace_close = true
 is _ _ = false
-
--- an identifier of that text
-abbrev pub word : Text → Tok
-word = ident
 
 abbrev pub if_word : Tok
 if_word = ident (codes "if")
@@ -154,57 +150,17 @@ endmacro_word = ident (codes "endmacro")
 abbrev pub endcall_word : Tok
 endcall_word = ident (codes "endcall")
 
--- ---- the words that begin a statement
-
-pub data Keyword : Type 0 where
-  for_keyword if_keyword with_keyword set_keyword autoescape_keyword filter_keyword block_keyword extends_keyword include_keyword import_keyword from_keyword macro_keyword call_keyword do_keyword break_keyword continue_keyword : Keyword
-
-abbrev pub keyword_of : Text → Option Keyword
-keyword_of x =
-    if bytes_eq x (codes "for") then Some for_keyword
-    else if bytes_eq x (codes "if") then Some if_keyword
-    else if bytes_eq x (codes "with") then Some with_keyword
-    else if bytes_eq x (codes "set") then Some set_keyword
-    else if bytes_eq x (codes "autoescape") then Some autoescape_keyword
-    else if bytes_eq x (codes "filter") then Some filter_keyword
-    else if bytes_eq x (codes "block") then Some block_keyword
-    else if bytes_eq x (codes "extends") then Some extends_keyword
-    else if bytes_eq x (codes "include") then Some include_keyword
-    else if bytes_eq x (codes "import") then Some import_keyword
-    else if bytes_eq x (codes "from") then Some from_keyword
-    else if bytes_eq x (codes "macro") then Some macro_keyword
-    else if bytes_eq x (codes "call") then Some call_keyword
-    else if bytes_eq x (codes "do") then Some do_keyword
-    else if bytes_eq x (codes "break") then Some break_keyword
-    else if bytes_eq x (codes "continue") then Some continue_keyword
-    else None
-
 -- ---- what a token holds
 
 abbrev pub is_identifier : Tok → Bool
 is_identifier (ident x) = true
 is_identifier _ = false
 
--- text outside of tags
-abbrev pub data_of : Tok → Option Text
-data_of (template_data t) = Some t
-data_of _ = None
-
 -- the text of a string
 abbrev pub text_of : Tok → Option Text
 text_of (str t) = Some t
 text_of (string t) = Some t
 text_of _ = None
-
--- an integer under 2 ^ 64
-abbrev pub integer_of : Tok → Option ℕ
-integer_of (int n) = Some n
-integer_of _ = None
-
--- an integer from 2 ^ 64 on
-abbrev pub large_integer_of : Tok → Option ℕ
-large_integer_of (int128 n) = Some n
-large_integer_of _ = None
 
 -- ---- operators
 
@@ -229,10 +185,6 @@ term_op div = Some bin.div
 term_op floor_div = Some bin.floor_div
 term_op rem = Some bin.rem
 term_op _ = None
-
-abbrev pub pow_op : Tok → Option BinOp
-pow_op pow = Some bin.pow
-pow_op _ = None
 
 -- the comparisons of one token
 abbrev pub compare_op : Tok → Option CompareOp

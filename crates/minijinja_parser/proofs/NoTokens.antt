@@ -6,11 +6,12 @@ use Rattle.minijinja_syntax.specs.declared.tokens.Span.{Span}
 use Rattle.minijinja_value.specs.Values.{Functions}
 use Rattle.minijinja_tree.specs.Tree as bare
 use Rattle.minijinja_tree.specs.SpannedTrees.{Expr, Stmt, template, done, bare_stmt}
-use Rattle.minijinja_grammar.specs.Forms.{Place, got, short, reads}
-use Rattle.minijinja_grammar.specs.Grammar.{expr_at, expanded, cond, level, unary_level, operand, postfixed, primary_at, primary, compared_level}
-use Rattle.minijinja_grammar.specs.Derived.{IsWholeOf}
-use Rattle.minijinja_grammar.specs.Statements.{body}
-use Rattle.minijinja_grammar.specs.Templates.{template_at}
+use Rattle.minijinja_grammar.specs.Places.{Place}
+use Rattle.minijinja_grammar.specs.internal.Forms.{got, short, reads}
+use Rattle.minijinja_grammar.specs.internal.ExprForms.{below, expr_at, expanded, cond, level, pow_level, not_level, unary_level, operand, postfixed, primary, compared_level}
+use Rattle.minijinja_grammar.specs.internal.Whole.{IsWholeOf}
+use Rattle.minijinja_grammar.specs.internal.StmtForms.{body}
+use Rattle.minijinja_grammar.specs.internal.TemplateForms.{template_at}
 use Rattle.minijinja_grammar.proofs.Forms.{same_read, sound}
 
 -- a place without tokens
@@ -18,7 +19,7 @@ abbrev spent : Text → Ending → Span → List Text → Place
 spent s n l ns = record { source = s; tokens = []; ending = n; last = l; names = ns }
 
 no_expr_there : {C F : Type 0} (f : Functions C F) (d : ℕ) (s : Text) (n : Ending) (l : Span) (ns : List Text) → reads (expr_at f d) (spent s n l ns) ≡ short (spent s n l ns)
-unfolding reads expr_at cond level unary_level operand postfixed primary_at primary compared_level
+unfolding reads below cond level pow_level not_level unary_level operand postfixed primary compared_level
 no_expr_there f zero s n l ns = refl
 no_expr_there f (suc zero) s n l ns = refl
 no_expr_there f (suc (suc d)) s n l ns = refl

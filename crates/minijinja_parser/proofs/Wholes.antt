@@ -6,8 +6,10 @@ use Rattle.minijinja_syntax.specs.declared.tokens.Span.{Span}
 use Rattle.minijinja_syntax.specs.declared.error.Error.{Error}
 use Rattle.minijinja_syntax.specs.declared.error.ErrorKind.{ErrorKind}
 use Rattle.minijinja_syntax.specs.declared.error.ErrorKind.TheVariants.{OutOfMemory, SyntaxError, BadEscape}
-use Rattle.minijinja_grammar.specs.Forms.{Form, Place, Read, got, short, wrong, one, read_one, reads}
-use Rattle.minijinja_grammar.specs.Derived.{IsWholeOf, FitsSoFar}
+use Rattle.minijinja_grammar.specs.internal.Forms.{Form, Read, got, short, wrong, one, read_one, reads}
+use Rattle.minijinja_grammar.specs.Places.{Place}
+use Rattle.minijinja_grammar.specs.internal.Whole.{IsWholeOf}
+use Rattle.minijinja_grammar.specs.Derived.{FitsSoFar}
 use Rattle.minijinja_grammar.proofs.Forms.{sound, complete, same_read}
 use Rattle.minijinja_grammar.proofs.Staying.{Stays, stays}
 use Rattle.minijinja_grammar.proofs.Trees.{one_whole, fits_to_end}
@@ -91,7 +93,7 @@ of_ending e q kind span i h = go q.ending i h
 
 -- the tokenizer's refusal is returned if all tokens before it fit
 pub answers : {A X : Type 0} (f : Form A) (view : X → A) (p q : Place) (r : Refusal) (e : Error) →
-    ReadsWhole view (reads f p) (Err r) q → IsErrorAt q r e → (kind : ErrorKind) (span : Option Span) → p.ending ≡ refused kind span → FitsSoFar f p →
+    ReadsWhole view (reads f p) (Err r) q → IsErrorAt q r e → (kind : ErrorKind) (span : Option Span) → p.ending ≡ refused kind span → FitsSoFar (IsWholeOf f) p →
     ((kind_of e ≡ kind) × (span_of e ≡ span)) ⊎ (kind_of e ≡ OutOfMemory)
 answers f view p q refusal.OutOfMemory e h i kind span j k = inr i
 answers f view p q (refusal.Ended w) e h i kind span j k =

@@ -9,16 +9,14 @@ use Rattle.minijinja_syntax.specs.declared.error.Error.{Error}
 use Rattle.minijinja_syntax.specs.declared.error.ErrorKind.{ErrorKind}
 use Rattle.minijinja_syntax.specs.declared.error.ErrorKind.TheVariants.{BadEscape, OutOfMemory, SourceTooLong, SyntaxError}
 use Rattle.minijinja_value.specs.Values.{Functions}
-use Rattle.minijinja_tree.specs.Erasure.{stmt_tree}
+use Rattle.minijinja_tree.specs.Erasure.{expr_tree, stmt_tree}
 use Rattle.minijinja_tree.specs.SpannedErasure.{expr_node, stmt_node}
 use Rattle.minijinja_tree.specs.Tree.{done, template}
 use Rattle.minijinja_tree_expr.specs.declared.ast.Expr.{Expr}
 use Rattle.minijinja_tree.specs.declared.ast.Stmt.{Stmt}
 use Rattle.minijinja_grammar.specs.Derived.{IsTemplateTree, IsExprTree}
-use Rattle.minijinja_grammar.specs.Forms.{Place}
-use Rattle.minijinja_grammar.specs.Grammar.{expr_at, max_depth}
+use Rattle.minijinja_grammar.specs.Places.{Place}
 use Rattle.minijinja_grammar.specs.Standing.{Stands, StmtStands}
-use Rattle.minijinja_grammar.specs.Templates.{template_at}
 use Rattle.minijinja_grammar.specs.TokenSpans.{IsOfTokens}
 use Rattle.minijinja_parser.specs.Causes.{IsLimit, IsRefusal}
 use Rattle.minijinja_parser.specs.Derived.{IsDerived, IsExprDerived, expr_place, template_place}
@@ -28,7 +26,7 @@ use Rattle.minijinja_parser.specs.Parsing.{AnswersItsRefusal, HasRefused}
 
 -- the template's tree is derived from them
 abbrev pub IsTemplateAt : {V E C F : Type 0} → Functions C F → (V → C) → Place → Stmt V E → Type 0
-IsTemplateAt f contents p s = IsTemplateTree f p (stmt_node contents s)
+IsTemplateAt f contents p s = IsTemplateTree f p (stmt_tree contents s)
 
 -- where that error is for what is written, no template is derived from them
 abbrev pub IsNoTemplateAt : {C F : Type 0} → Functions C F → Place → Error → Type 0
@@ -37,11 +35,11 @@ IsNoTemplateAt f p e = IsRefusal e → (t : _) → IsTemplateTree f p t → ⊥
 -- the template that is derived from them is returned, unless memory ran out
 abbrev pub AnswersTemplateAt : {V E C F : Type 0} → Functions C F → (V → C) → Place → Result (Stmt V E) Error → Type 0
 AnswersTemplateAt f contents p r =
-    (t : _) → IsTemplateTree f p t → MatchResult r (λ s. stmt_node contents s ≡ t) (λ e. kind_of e ≡ OutOfMemory)
+    (t : _) → IsTemplateTree f p t → MatchResult r (λ s. stmt_tree contents s ≡ t) (λ e. kind_of e ≡ OutOfMemory)
 
 -- the expression's tree is derived from them
 abbrev pub IsExprAt : {V E C F : Type 0} → Functions C F → (V → C) → Place → Expr V E → Type 0
-IsExprAt f contents p x = IsExprTree f p (expr_node contents x)
+IsExprAt f contents p x = IsExprTree f p (expr_tree contents x)
 
 -- where that error is for what is written, no expression is derived from them
 abbrev pub IsNoExprAt : {C F : Type 0} → Functions C F → Place → Error → Type 0
@@ -50,7 +48,7 @@ IsNoExprAt f p e = IsRefusal e → (t : _) → IsExprTree f p t → ⊥
 -- the expression that is derived from them is returned, unless memory ran out
 abbrev pub AnswersExprAt : {V E C F : Type 0} → Functions C F → (V → C) → Place → Result (Expr V E) Error → Type 0
 AnswersExprAt f contents p r =
-    (t : _) → IsExprTree f p t → MatchResult r (λ x. expr_node contents x ≡ t) (λ e. kind_of e ≡ OutOfMemory)
+    (t : _) → IsExprTree f p t → MatchResult r (λ x. expr_tree contents x ≡ t) (λ e. kind_of e ≡ OutOfMemory)
 
 -- where no token is left but a refusal, that is returned
 abbrev pub Repeats : {A : Type 0} → Place → Result A Error → Type 0
@@ -62,17 +60,17 @@ IsUnrefused p = (kind : ErrorKind) (span : Option Span) → HasRefused p kind sp
 
 -- the refusal of the tokenizer that stands after tokens which fit a template is returned
 abbrev pub AnswersTokenizerAt : {A C F : Type 0} → Functions C F → Place → Result A Error → Type 0
-AnswersTokenizerAt f p r = AnswersItsRefusal (template_at f max_depth) p r
+AnswersTokenizerAt f p r = AnswersItsRefusal (IsTemplateTree f) p r
 
 -- the refusal of the tokenizer that stands after tokens which fit an expression is returned
 abbrev pub AnswersExprTokenizerAt : {A C F : Type 0} → Functions C F → Place → Result A Error → Type 0
-AnswersExprTokenizerAt f p r = AnswersItsRefusal (expr_at f max_depth) p r
+AnswersExprTokenizerAt f p r = AnswersItsRefusal (IsExprTree f) p r
 
 -- ---- of a text
 
 -- the template's tree is derived
 abbrev pub IsTemplateOf : {V E C F : Type 0} → Functions C F → (V → C) → Syntax → Text → Stmt V E → Type 0
-IsTemplateOf f contents syntax source s = IsDerived f syntax source (stmt_node contents s)
+IsTemplateOf f contents syntax source s = IsDerived f syntax source (stmt_tree contents s)
 
 -- where that error is for what is written, no template is derived
 abbrev pub IsNoTemplate : {C F : Type 0} → Functions C F → Syntax → Text → Error → Type 0
@@ -81,11 +79,11 @@ IsNoTemplate f syntax source e = IsRefusal e → (t : _) → IsDerived f syntax 
 -- the template that is derived is returned, unless memory ran out or the source is too long
 abbrev pub AnswersTemplate : {V E C F : Type 0} → Functions C F → (V → C) → Syntax → Text → Result (Stmt V E) Error → Type 0
 AnswersTemplate f contents syntax source r =
-    (t : _) → IsDerived f syntax source t → MatchResult r (λ s. stmt_node contents s ≡ t) IsLimit
+    (t : _) → IsDerived f syntax source t → MatchResult r (λ s. stmt_tree contents s ≡ t) IsLimit
 
 -- the expression's tree is derived
 abbrev pub IsExprOf : {V E C F : Type 0} → Functions C F → (V → C) → Syntax → Text → Expr V E → Type 0
-IsExprOf f contents syntax source x = IsExprDerived f syntax source (expr_node contents x)
+IsExprOf f contents syntax source x = IsExprDerived f syntax source (expr_tree contents x)
 
 -- where that error is for what is written, no expression is derived
 abbrev pub IsNoExpr : {C F : Type 0} → Functions C F → Syntax → Text → Error → Type 0
@@ -94,7 +92,7 @@ IsNoExpr f syntax source e = IsRefusal e → (t : _) → IsExprDerived f syntax 
 -- the expression that is derived is returned, unless memory ran out or the source is too long
 abbrev pub AnswersExpr : {V E C F : Type 0} → Functions C F → (V → C) → Syntax → Text → Result (Expr V E) Error → Type 0
 AnswersExpr f contents syntax source r =
-    (t : _) → IsExprDerived f syntax source t → MatchResult r (λ x. expr_node contents x ≡ t) IsLimit
+    (t : _) → IsExprDerived f syntax source t → MatchResult r (λ x. expr_tree contents x ≡ t) IsLimit
 
 -- the refusal of the tokenizer that stands after tokens which fit a template is returned
 abbrev pub AnswersTokenizer : {A C F : Type 0} → Functions C F → Syntax → Text → Result A Error → Type 0

@@ -5,8 +5,8 @@ use Rattle.minijinja_syntax.specs.Texts.{Text}
 use Rattle.minijinja_syntax.specs.Syntax.{Syntax}
 use Rattle.minijinja_value.specs.Values.{Functions}
 use Rattle.minijinja_lexer.specs.TextTokens.{text_of, tokens_of_template, tokens_of_expression}
-use Rattle.minijinja_tree.specs.SpannedTrees.{Expr, Stmt}
-use Rattle.minijinja_grammar.specs.Forms.{Place}
+use Rattle.minijinja_tree.specs.Tree.{Expr, Stmt}
+use Rattle.minijinja_grammar.specs.Places.{Place}
 use Rattle.minijinja_grammar.specs.Derived.{IsTemplateTree, IsExprTree}
 use Rattle.minijinja_parser_tokens.specs.TokenStreams.{first_place}
 
@@ -23,7 +23,7 @@ abbrev pub expr_place : Syntax → Text → Place
 expr_place syntax source = first_place (text_of syntax source) (tokens_of_expression syntax source)
 
 -- the source is a template, and this is its tree
-abbrev pub IsDerived : {C F : Type 0} → Functions C F → Syntax → Text → Stmt C → Type 0
+abbrev pub IsDerived : {C F : Type 0} → Functions C F → Syntax → Text → Stmt C (Unit {0}) → Type 0
 IsDerived f syntax source tree = IsTemplateTree f (template_place syntax source) tree
 
 -- the source is one expression, and this is its tree

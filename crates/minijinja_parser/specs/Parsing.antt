@@ -7,7 +7,7 @@ use Rattle.minijinja_syntax.specs.declared.tokens.Span.{Span}
 use Rattle.minijinja_syntax.specs.declared.error.Error.{Error}
 use Rattle.minijinja_syntax.specs.declared.error.ErrorKind.{ErrorKind}
 use Rattle.minijinja_syntax.specs.declared.error.ErrorKind.TheVariants.{OutOfMemory}
-use Rattle.minijinja_grammar.specs.Forms.{Form, Place}
+use Rattle.minijinja_grammar.specs.Places.{Place}
 use Rattle.minijinja_grammar.specs.Derived.{FitsSoFar}
 use Rattle.minijinja_parser_tokens.specs.TokenStreams.{stream_at}
 
@@ -29,6 +29,6 @@ abbrev pub IsRefusedSo : {A : Type 0} → ErrorKind → Option Span → Result A
 IsRefusedSo kind span (Ok x) = ⊥
 IsRefusedSo kind span (Err e) = ((kind_of e ≡ kind) × (span_of e ≡ span)) ⊎ (kind_of e ≡ OutOfMemory)
 
--- a tokenizer's refusal that stands after tokens which fit the form so far is returned
-abbrev pub AnswersItsRefusal : {A X : Type 0} → Form X → Place → Result A Error → Type 0
-AnswersItsRefusal form p r = (kind : ErrorKind) (span : Option Span) → p.ending ≡ refused kind span → FitsSoFar form p → IsRefusedSo kind span r
+-- a tokenizer's refusal that stands after tokens which are the beginning of what has a tree is returned
+abbrev pub AnswersItsRefusal : {A X : Type 0} → (Place → X → Type 0) → Place → Result A Error → Type 0
+AnswersItsRefusal IsTree p r = (kind : ErrorKind) (span : Option Span) → p.ending ≡ refused kind span → FitsSoFar IsTree p → IsRefusedSo kind span r

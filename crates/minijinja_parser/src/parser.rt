@@ -10,9 +10,10 @@ ghost use Rattle.minijinja_tree.specs.Erasure.{expr_tree, stmt_tree};
 ghost use Rattle.minijinja_tree.specs.SpannedErasure.{expr_node, stmt_node};
 ghost use Rattle.minijinja_tree.specs.Tree.{template};
 ghost use Rattle.minijinja_tree.specs.WellFormed.{IsWellFormed, IsWhole};
-ghost use Rattle.minijinja_grammar.specs.Forms.{reads};
-ghost use Rattle.minijinja_grammar.specs.Grammar.{expr_at, max_depth};
-ghost use Rattle.minijinja_grammar.specs.Templates.{template_at};
+ghost use Rattle.minijinja_grammar.specs.internal.Forms.{reads};
+ghost use Rattle.minijinja_grammar.specs.internal.ExprForms.{expr_at};
+ghost use Rattle.minijinja_grammar.specs.Derived.{max_depth};
+ghost use Rattle.minijinja_grammar.specs.internal.TemplateForms.{template_at};
 ghost use Rattle.minijinja_parser.specs.Answers.{AnswersExpr, AnswersExprAt, AnswersExprTokenizer, AnswersExprTokenizerAt, AnswersTemplate, AnswersTemplateAt, AnswersTokenizer, AnswersTokenizerAt, EscapesIn, ExprStandsAt, IsEmptyTemplate, IsExprAt, IsExprOf, IsNoExpr, IsNoExprAt, IsNoTemplate, IsNoTemplateAt, IsShort, IsTemplateAt, IsTemplateOf, IsTooLong, IsUnrefused, Repeats, StandsAt, WantsExpr};
 ghost use Rattle.minijinja_parser.specs.Causes.{IsCause, IsUnplaced};
 ghost use Rattle.minijinja_parser.specs.Derived.{expr_place, template_place, tokens_of};
@@ -37,7 +38,7 @@ use std::alloc::{AllocError, Global};
 use std::marker::Model;
 
 /// How deep statements and expressions may nest.
-const MAX_DEPTH: usize = 150;
+const MAX_DEPTH: usize = 300;
 
 /// The least length of a source that is too long, in bytes.
 const SOURCE_LIMIT: usize = 1 << 32;

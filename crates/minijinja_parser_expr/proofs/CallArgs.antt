@@ -5,22 +5,29 @@ use Rattle.minijinja_syntax.specs.Tokens.{assign, comma, mul, pow}
 use Rattle.minijinja_tree.specs.SpannedTrees as tree
 use Rattle.minijinja_tree.specs.SpannedTrees.{Expr, Arg, positional, starred, keyword, double_starred}
 use Rattle.minijinja_grammar.specs.Words.{begins_arg}
-use Rattle.minijinja_grammar.specs.Forms.{Place, Form, pure, comes, Read, got, short, wrong, read_then, misfit, reads, ◌>>=◌}
-use Rattle.minijinja_grammar.specs.Grammar as form
-use Rattle.minijinja_grammar.specs.Grammar.{has_named, is_allowed, is_named, name_of_variable, when}
+use Rattle.minijinja_grammar.specs.Places.{Place}
+use Rattle.minijinja_grammar.specs.internal.Forms.{Form, pure, Read, got, short, wrong, read_then, misfit, reads, ◌>>=◌}
+use Rattle.minijinja_grammar.specs.Ahead.{comes}
+use Rattle.minijinja_grammar.specs.internal.ExprForms as form
+use Rattle.minijinja_grammar.specs.internal.ExprForms.{has_named, is_allowed, is_named, name_of_variable, when}
 use Rattle.minijinja_parser_tokens.specs.internal.Reads.{eaten}
 use Rattle.minijinja_parser_tokens.proofs.Turned.{behind_is, items_more, items_done, under}
 
 module _ {C : Type 0} (expr : Form (Expr C)) where
-  -- what follows a variable of that name, or an expression that is none
-  abbrev pub rest_at : Option Text → Expr C → Place → Read (Arg C)
-  rest_at None e p = got (positional e) p
-  rest_at (Some x) e p = read_then (eaten assign p) (λ b q. if b then read_then (reads expr q) (λ v r. got (keyword x v) r) else got (positional e) q)
-
-  pub rest_of_arg_is : (e : Expr C) (p : Place) → reads (form.rest_of_arg expr e) p ≡ rest_at (name_of_variable e) e p
+  pub rest_of_arg_is : (e : Expr C) (p : Place) → reads (form.rest_of_arg expr e) p ≡
+      read_then (eaten assign p) (λ b q. if b then reads (form.named expr (name_of_variable e)) q else got (positional e) q)
   unfolding reads
-  rest_of_arg_is (tree.variable x s) p = behind_is assign (expr >>= (λ v. pure (keyword x v))) (pure (positional (tree.variable x s))) p
-  rest_of_arg_is e p = refl
+  rest_of_arg_is e p = behind_is assign (form.named expr (name_of_variable e)) (pure (positional e)) p
+
+  -- where an `=` comes, and before it stands no variable, or one
+  pub named_none : (e : Expr C) (p q : Place) → eaten assign p ≡ got true q → name_of_variable e ≡ None → reads (form.rest_of_arg expr e) p ≡ misfit q q.tokens
+  unfolding reads
+  named_none e p q h i = rest_of_arg_is e p ∙ rw (h, i) refl
+
+  pub named_some : (e : Expr C) (x : Text) (p q : Place) → eaten assign p ≡ got true q → name_of_variable e ≡ Some x →
+      reads (form.rest_of_arg expr e) p ≡ read_then (reads expr q) (λ v r. got (keyword x v) r)
+  unfolding reads
+  named_some e x p q h i = rest_of_arg_is e p ∙ rw (h, i) refl
 
   pub arg_is : (p : Place) → reads (form.arg expr) p ≡
       read_then (eaten mul p) (λ b q. if b then read_then (reads expr q) (λ e r. got (starred e) r)

@@ -1,23 +1,25 @@
--- Comparisons and negations, one after another.
+-- Comparisons, one after another.
 use Rattle.std.proofs.Common.{◌≡◌, ◌<◌, ◌≤◌, ℕ, length, arith, Bool, true, false, List, [], ◌∷◌, ◌++◌, if◌then◌else◌, Some, refl, sym, ap, ◌∙◌, length-append}
+use Rattle.minijinja_value.specs.Values.{Functions}
 use Rattle.minijinja_syntax.specs.Streams.{SpannedTok}
 use Rattle.minijinja_syntax.specs.declared.tokens.Span.{Span}
 use Rattle.minijinja_tree.specs.CompareOps.{CompareOp}
-use Rattle.minijinja_tree.specs.Tree.{logical_not}
 use Rattle.minijinja_tree.specs.SpannedTrees.{Expr, binary, compare, comparisons_of}
 use Rattle.minijinja_tree.specs.Erasure.{bin_op}
-use Rattle.minijinja_grammar.specs.Words.{not_word, begins_comparison, compare_op}
-use Rattle.minijinja_grammar.specs.Forms.{Place, Form, Turn, go_on, over, pure, one, many, comes, Turns, no_turn, last_turn, turn, Derives, Read, got, short, wrong, read_then, read_turn, reads}
-use Rattle.minijinja_grammar.specs.Grammar.{of_kind, span_of_mark, wrapped, prefixed, compare_operator, comparison, compare_all, compared_level, expanded}
-use Rattle.minijinja_grammar.specs.internal.Climbing.{comparisons, level_of, operation}
+use Rattle.minijinja_grammar.specs.Words.{begins_comparison, compare_op}
+use Rattle.minijinja_grammar.specs.Places.{Place}
+use Rattle.minijinja_grammar.specs.internal.Forms.{Form, Turn, go_on, over, pure, one, many, Turns, no_turn, last_turn, turn, Derives, Read, got, short, wrong, read_then, read_turn, reads}
+use Rattle.minijinja_grammar.specs.Ahead.{comes}
+use Rattle.minijinja_grammar.specs.internal.ExprForms.{of_kind, compare_operator, comparison, compare_all, expanded}
+use Rattle.minijinja_grammar.specs.internal.Climbing.{comparisons, operation}
 use Rattle.minijinja_grammar.proofs.Forms.{left, sound, same_read, takes_shorter, read_then_got}
-use Rattle.minijinja_parser_tokens.specs.internal.Levels.{compare_op_at, comparison_at, infix_of, next_operator, rows, tighter}
+use Rattle.minijinja_parser_tokens.specs.internal.Levels.{compare_op_at, comparison_at, next_operator, tighter}
 use Rattle.minijinja_parser_tokens.specs.declared.operators.Level.{Level}
 use Rattle.minijinja_parser_tokens.specs.declared.operators.Level.TheVariants.{Sum}
 use Rattle.minijinja_parser_tokens.specs.declared.operators.Operator.{Operator}
 use Rattle.minijinja_parser_tokens.specs.declared.operators.Operator.TheVariants.{Binary, Comparison}
-use Rattle.minijinja_parser_tokens.proofs.Turned.{read_no_longer}
-use Rattle.minijinja_parser_tokens.proofs.Turned.{take_shorter}
+use Rattle.minijinja_parser_tokens.proofs.Turned.{read_no_longer, take_shorter}
+use Rattle.minijinja_parser_expr.specs.private.Levels.{level_at, operation_at}
 use Rattle.minijinja_parser_expr.proofs.Repeated.{many_done, many_more}
 use Rattle.minijinja_parser_expr.proofs.Climbed.{comparison_comes}
 
@@ -117,37 +119,6 @@ module _ {C : Type 0} (sum : Form (Expr C)) where
       go (short q) = refl
       go (wrong q) = refl
 
-  -- ---- a negation
-
-  pub negation_is : (p : Place) → reads (prefixed not_word logical_not (compared_level sum)) p ≡
-      read_then (reads (many (span_of_mark not_word) (λ ss s. pure (go_on (s ∷ ss))) []) p) (λ ss q. read_then (reads sum q) (λ x r.
-      if comes begins_comparison r.tokens
-      then read_then (reads (comparisons sum q.last x) r) (λ y s. got (wrapped logical_not s.last ss y) s)
-      else got (wrapped logical_not r.last ss x) r))
-  unfolding reads compared_level
-  negation_is p = go (reads (many (span_of_mark not_word) (λ ss s. pure (go_on (s ∷ ss))) []) p)
-    where
-      whole : List Span → Expr C → Place → Read (Expr C)
-      whole ss y s = got (wrapped logical_not s.last ss y) s
-
-      at : (ss : List Span) (x : Expr C) (before : Span) (r : Place) (b : Bool) → comes begins_comparison r.tokens ≡ b →
-          read_then (reads (comparisons sum before x) r) (whole ss) ≡ (if b then read_then (reads (comparisons sum before x) r) (whole ss) else whole ss x r)
-      at ss x before r true k = refl
-      at ss x before r false k = ap (λ o. read_then (read_then o (λ cs s. got (compare_all x cs (expanded before s.last)) s)) (whole ss)) (chain_done [] r k)
-
-      sides : (ss : List Span) (before : Span) (o : Read (Expr C)) →
-          read_then (read_then o (λ x r. reads (comparisons sum before x) r)) (whole ss) ≡
-          read_then o (λ x r. if comes begins_comparison r.tokens then read_then (reads (comparisons sum before x) r) (whole ss) else whole ss x r)
-      sides ss before (got x r) = at ss x before r (comes begins_comparison r.tokens) refl
-      sides ss before (short r) = refl
-      sides ss before (wrong r) = refl
-
-      go : (o : Read (List Span)) → read_then o (λ ss q. read_then (read_then (reads sum q) (λ x r. reads (comparisons sum q.last x) r)) (whole ss)) ≡
-          read_then o (λ ss q. read_then (reads sum q) (λ x r. if comes begins_comparison r.tokens then read_then (reads (comparisons sum q.last x) r) (whole ss) else whole ss x r))
-      go (got ss q) = sides ss q.last (reads sum q)
-      go (short q) = refl
-      go (wrong q) = refl
-
 -- ---- how many tokens an operation leaves
 
 comparisons_shorter : {C : Type 0} (sum : Form (Expr C)) (before : Span) (x y : Expr C) (p q : Place) → comes begins_comparison p.tokens ≡ true →
@@ -171,13 +142,13 @@ comparisons_shorter {C = C} sum before x y p q e h =
         let j : (m ≡ q) × (compare_all x (c ∷ []) (expanded before m.last) ≡ y) = same_read _ _ _ _ k in
         omega (arith, ap left j.0)
 
-pub operation_shorter : {C : Type 0} (operand : Form (Expr C)) (o : Operator) (l : Level) (from before : Span) (x y : Expr C) (p q : Place) →
-    next_operator l p.tokens ≡ Some o → operation operand (infix_of o) from before x p ≡ got y q → length q.tokens < length p.tokens
+pub operation_shorter : {C F : Type 0} (f : Functions C F) (depth : ℕ) (o : Operator) (l : Level) (from before : Span) (x y : Expr C) (p q : Place) →
+    next_operator l p.tokens ≡ Some o → operation_at f depth o from before x p ≡ got y q → length q.tokens < length p.tokens
 unfolding operation
-operation_shorter {C = C} operand (Binary b k) l from before x y p q e h =
-    let right : Form (Expr C) = level_of operand (rows (tighter k)) in
+operation_shorter {C = C} f depth (Binary b k) l from before x y p q e h =
+    let right : Form (Expr C) = level_at f depth (tighter k) in
     let i : (t : SpannedTok) × (m : Place) × (reads (one Some) p ≡ got t m) × (read_then (reads right m) (λ r s. got (binary (bin_op b) x r (expanded from s.last)) s) ≡ got y q) = read_then_got _ _ _ _ h in
     let j : (r : Expr C) × (s : Place) × (reads right i.1 ≡ got r s) × (got (binary (bin_op b) x r (expanded from s.last)) s ≡ got y q) = read_then_got _ _ _ _ i.3 in
     let u : (j.1 ≡ q) × (binary (bin_op b) x j.0 (expanded from j.1.last) ≡ y) = same_read _ _ _ _ j.3 in
     omega (arith, take_shorter p i.1 i.0 i.2, read_no_longer right i.1 j.1 j.0 j.2, ap left u.0)
-operation_shorter operand Comparison l from before x y p q e h = comparisons_shorter (level_of operand (rows Sum)) before x y p q (comparison_comes l p.tokens e) h
+operation_shorter f depth Comparison l from before x y p q e h = comparisons_shorter (level_at f depth Sum) before x y p q (comparison_comes l p.tokens e) h

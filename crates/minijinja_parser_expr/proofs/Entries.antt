@@ -4,9 +4,11 @@ use Rattle.minijinja_syntax.specs.Tokens.{Tok, colon, comma}
 use Rattle.minijinja_syntax.specs.declared.tokens.Span.{Span}
 use Rattle.minijinja_tree.specs.SpannedTrees.{Expr}
 use Rattle.minijinja_grammar.specs.Words.{begins_expr}
-use Rattle.minijinja_grammar.specs.Forms.{Place, Form, comes, Read, got, short, wrong, read_then, reads}
-use Rattle.minijinja_grammar.specs.Grammar as form
-use Rattle.minijinja_grammar.specs.Grammar.{next}
+use Rattle.minijinja_grammar.specs.Places.{Place}
+use Rattle.minijinja_grammar.specs.internal.Forms.{Form, Read, got, short, wrong, read_then, reads}
+use Rattle.minijinja_grammar.specs.Ahead.{comes}
+use Rattle.minijinja_grammar.specs.internal.ExprForms as form
+use Rattle.minijinja_grammar.specs.internal.ExprForms.{next}
 use Rattle.minijinja_parser_tokens.specs.internal.Reads.{eaten}
 use Rattle.minijinja_parser_tokens.proofs.Turned.{items_more, items_done, read_no_longer, eaten_shorter}
 use Rattle.minijinja_parser_expr.proofs.Steps.{exprs_more}

@@ -5,9 +5,11 @@ use Rattle.minijinja_syntax.specs.Streams.{SpannedTok}
 use Rattle.minijinja_syntax.specs.declared.tokens.Span.{Span}
 use Rattle.minijinja_tree.specs.SpannedTrees.{Expr}
 use Rattle.minijinja_grammar.specs.Words.{is}
-use Rattle.minijinja_grammar.specs.Forms.{Form, Place, Read, Turn, go_on, got, short, wrong, comes, many, pure, read_then, read_turn, read_any, read_one, held_or_wrong, if_held, after, reads, ◌>>=◌}
-use Rattle.minijinja_grammar.specs.Grammar.{span_of_mark}
-use Rattle.minijinja_grammar.specs.Statements.{chain, chained}
+use Rattle.minijinja_grammar.specs.internal.Forms.{Form, Read, Turn, go_on, got, short, wrong, many, pure, read_then, read_turn, read_any, read_one, held_or_wrong, if_held, after, reads, ◌>>=◌}
+use Rattle.minijinja_grammar.specs.Places.{Place}
+use Rattle.minijinja_grammar.specs.Ahead.{comes}
+use Rattle.minijinja_grammar.specs.internal.ExprForms.{span_of_mark}
+use Rattle.minijinja_grammar.specs.internal.StmtForms.{chain, chained}
 use Rattle.minijinja_grammar.proofs.Unrolled.{many_is}
 use Rattle.minijinja_parser_tokens.specs.internal.Reads.{eaten}
 

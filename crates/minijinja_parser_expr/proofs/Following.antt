@@ -7,9 +7,11 @@ use Rattle.minijinja_tree.specs.Tree.{logical_not}
 use Rattle.minijinja_tree.specs.SpannedTrees as tree
 use Rattle.minijinja_tree.specs.SpannedTrees.{Expr, positional, present, args_of, exprs_of, optional_of}
 use Rattle.minijinja_grammar.specs.Words.{begins_bare, is, not_word}
-use Rattle.minijinja_grammar.specs.Forms.{Place, Form, pure, nothing, start, either, comes, start_at, got, read_then, reads, ◌>>=◌, ◌>>◌}
-use Rattle.minijinja_grammar.specs.Grammar as form
-use Rattle.minijinja_grammar.specs.Grammar.{next, behind, expanded}
+use Rattle.minijinja_grammar.specs.Places.{Place}
+use Rattle.minijinja_grammar.specs.internal.Forms.{Form, pure, nothing, start, either, start_at, got, read_then, reads, ◌>>=◌, ◌>>◌}
+use Rattle.minijinja_grammar.specs.Ahead.{comes}
+use Rattle.minijinja_grammar.specs.internal.ExprForms as form
+use Rattle.minijinja_grammar.specs.internal.ExprForms.{Below, next, behind, expanded}
 use Rattle.minijinja_parser_tokens.specs.declared.refusal.Refusal.{Refusal}
 use Rattle.minijinja_parser_tokens.specs.internal.Reads.{Reads, eaten}
 use Rattle.minijinja_parser_expr.proofs.Refused.{refused}
@@ -98,28 +100,28 @@ module _ {C : Type 0} (expr : Form (Expr C)) where
     postfix_call bracket_open e from p h i = cc
     postfix_call _ e from p h i = refl
 
-module _ {C F : Type 0} (f : Functions C F) (expr prim : Form (Expr C)) where
-  pub filter_is : (e : Expr C) (p : Place) → reads (form.filtered f expr prim e) p ≡
-      read_then (reads form.name p) (λ x q. read_then (reads (form.maybe_args expr) q) (λ xs r. got (tree.filter (present e) x (args_of xs) (expanded (start_at p) r.last)) r))
+module _ {C F : Type 0} (f : Functions C F) (b : Below C) where
+  pub filter_is : (e : Expr C) (p : Place) → reads (form.filtered f b e) p ≡
+      read_then (reads form.name p) (λ x q. read_then (reads (form.maybe_args b.expr) q) (λ xs r. got (tree.filter (present e) x (args_of xs) (expanded (start_at p) r.last)) r))
   unfolding reads form.filtered
   filter_is e p = refl
 
-  pub named_test_is : (e : Expr C) (p : Place) → reads (form.named_test f expr prim e) p ≡
-      read_then (reads form.name p) (λ x q. read_then (reads (form.test_args f expr prim) q) (λ xs r. got (tree.test e x (args_of xs) (expanded (start_at p) r.last)) r))
+  pub named_test_is : (e : Expr C) (p : Place) → reads (form.named_test f b e) p ≡
+      read_then (reads form.name p) (λ x q. read_then (reads (form.test_args f b) q) (λ xs r. got (tree.test e x (args_of xs) (expanded (start_at p) r.last)) r))
   unfolding reads form.named_test
   named_test_is e p = refl
 
-  pub any_test_is : (e : Expr C) (p : Place) → reads (form.any_test f expr prim e) p ≡ read_then (eaten not_word p) (λ b q.
-      if b then read_then (reads (form.named_test f expr prim e) q) (λ t r. got (tree.unary logical_not t (expanded (start_at q) r.last)) r)
-      else reads (form.named_test f expr prim e) q)
+  pub any_test_is : (e : Expr C) (p : Place) → reads (form.any_test f b e) p ≡ read_then (eaten not_word p) (λ c q.
+      if c then read_then (reads (form.named_test f b e) q) (λ t r. got (tree.unary logical_not t (expanded (start_at q) r.last)) r)
+      else reads (form.named_test f b e) q)
   unfolding reads form.any_test
   any_test_is e p =
-      behind_is not_word (start >>= (λ from. form.named_test f expr prim e >>= (λ t. form.spanned from (tree.unary logical_not t)))) (form.named_test f expr prim e) p
+      behind_is not_word (start >>= (λ from. form.named_test f b e >>= (λ t. form.spanned from (tree.unary logical_not t)))) (form.named_test f b e) p
 
-  pub test_args_is : (p : Place) → reads (form.test_args f expr prim) p ≡ read_then (eaten paren_open p) (λ b q.
-      if b then reads (form.args expr) q
-      else if comes begins_bare q.tokens then read_then (reads (form.operand f expr prim) q) (λ e r. got (positional e ∷ []) r)
+  pub test_args_is : (p : Place) → reads (form.test_args f b) p ≡ read_then (eaten paren_open p) (λ c q.
+      if c then reads (form.args b.expr) q
+      else if comes begins_bare q.tokens then read_then (reads (form.operand f b) q) (λ e r. got (positional e ∷ []) r)
       else got [] q)
   unfolding reads form.test_args
   test_args_is p =
-      behind_is paren_open (form.args expr) (either begins_bare (form.operand f expr prim >>= (λ e. pure (positional e ∷ []))) (pure [])) p
+      behind_is paren_open (form.args b.expr) (either begins_bare (form.operand f b >>= (λ e. pure (positional e ∷ []))) (pure [])) p

@@ -5,11 +5,11 @@ pub mod CallArgs
 pub mod Refused
 pub mod Following
 pub mod Operands
-pub mod Wrapping
 pub mod Repeated
 pub mod Climbed
 pub mod Compared
 pub mod Ifs
+pub mod Nested
 pub mod FilterChains
 pub mod Calls
 pub mod Members

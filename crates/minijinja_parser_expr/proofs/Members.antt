@@ -8,8 +8,9 @@ use Rattle.minijinja_syntax.specs.declared.tokens.Token.{Token}
 use Rattle.minijinja_syntax.specs.declared.tokens.Token.TheVariants as token
 use Rattle.minijinja_value.specs.Values.{Functions}
 use Rattle.minijinja_tree.specs.SpannedTrees.{Expr, attribute, item, constant}
-use Rattle.minijinja_grammar.specs.Forms.{Place, nothing, one, Read, got, short, wrong, read_then, held_or_wrong, reads}
-use Rattle.minijinja_grammar.specs.Grammar.{expanded, of_kind, begins_member, member_of, member}
+use Rattle.minijinja_grammar.specs.Places.{Place}
+use Rattle.minijinja_grammar.specs.internal.Forms.{nothing, one, Read, got, short, wrong, read_then, held_or_wrong, reads}
+use Rattle.minijinja_grammar.specs.internal.ExprForms.{expanded, of_kind, begins_member, member_of, member}
 use Rattle.minijinja_grammar.proofs.Climbing.{after_after}
 use Rattle.minijinja_parser_tokens.proofs.Taking.{one_is}
 

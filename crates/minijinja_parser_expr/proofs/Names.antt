@@ -7,8 +7,10 @@ use Rattle.minijinja_syntax.specs.Streams.{SpannedTok}
 use Rattle.minijinja_syntax.specs.declared.tokens.Span.{Span}
 use Rattle.minijinja_lexer.specs.Slices.{IsBetweenChars}
 use Rattle.minijinja_grammar.specs.Words.{is}
-use Rattle.minijinja_grammar.specs.Forms.{Place, go_on, Form, one, comes, Read, got, short, wrong, read_then, after, held_or_wrong, read_one, read_turn, if_held, read_any, reads}
-use Rattle.minijinja_grammar.specs.Grammar.{ident_and_span, name, name_part, name_parts, next, span_of_mark}
+use Rattle.minijinja_grammar.specs.Places.{Place}
+use Rattle.minijinja_grammar.specs.internal.Forms.{go_on, Form, one, Read, got, short, wrong, read_then, after, held_or_wrong, read_one, read_turn, if_held, read_any, reads}
+use Rattle.minijinja_grammar.specs.Ahead.{comes}
+use Rattle.minijinja_grammar.specs.internal.ExprForms.{ident_and_span, name, name_part, name_parts, next, span_of_mark}
 use Rattle.minijinja_grammar.proofs.Forms.{same_read}
 use Rattle.minijinja_grammar.proofs.Staying.{Stays, stays}
 use Rattle.minijinja_grammar.proofs.Unrolled.{many_is}

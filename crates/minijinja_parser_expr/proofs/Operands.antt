@@ -1,23 +1,21 @@
--- Operands with their postfixes and suffixes, a turn at a time, and with the operators before them.
+-- Operands with their postfixes and suffixes, a turn at a time, and the operators that nest them.
 use Rattle.std.proofs.Common.{◌≡◌, ◌∙◌, ◌<◌, ◌≤◌, arith, length, Bool, true, false, List, [], ◌∷◌, if◌then◌else◌, Some, None, refl, ap}
 use Rattle.minijinja_value.specs.Values.{Functions}
-use Rattle.minijinja_syntax.specs.Tokens.{Tok, minus}
+use Rattle.minijinja_syntax.specs.Tokens.{Tok, minus, pow}
 use Rattle.minijinja_syntax.specs.declared.tokens.Span.{Span}
 use Rattle.minijinja_syntax.specs.Streams.{SpannedTok}
+use Rattle.minijinja_tree.specs.BinOps as bin
 use Rattle.minijinja_tree.specs.Tree.{UnaryOp, negation}
-use Rattle.minijinja_tree.specs.SpannedTrees.{Expr}
+use Rattle.minijinja_tree.specs.SpannedTrees.{Expr, binary, unary}
 use Rattle.minijinja_grammar.specs.Words.{is, begins_postfix, begins_suffix}
-use Rattle.minijinja_grammar.specs.Forms.{Place, Turn, go_on, Form, pure, one, many, comes, start_at, Read, got, short, wrong, read_then, after, read_one, read_turn, if_held, read_any, reads, ◌>>=◌}
-use Rattle.minijinja_grammar.specs.Grammar as form
-use Rattle.minijinja_grammar.specs.Grammar.{next, of_kind, wrapped}
+use Rattle.minijinja_grammar.specs.Places.{Place}
+use Rattle.minijinja_grammar.specs.internal.Forms.{Turn, go_on, Form, pure, one, many, start_at, Read, got, short, wrong, read_then, after, read_one, read_turn, if_held, read_any, reads, ◌>>=◌}
+use Rattle.minijinja_grammar.specs.Ahead.{comes}
+use Rattle.minijinja_grammar.specs.internal.ExprForms as form
+use Rattle.minijinja_grammar.specs.internal.ExprForms.{Below, expanded, next, of_kind}
 use Rattle.minijinja_grammar.proofs.Unrolled.{many_is}
-use Rattle.minijinja_parser_tokens.proofs.Turned.{read_no_longer, take_shorter}
-use Rattle.minijinja_parser_expr.proofs.Repeated.{spans_done}
-
-as_it_is : {A : Type 0} (o : Read A) → read_then o (λ x q. got x q) ≡ o
-as_it_is (got x q) = refl
-as_it_is (short q) = refl
-as_it_is (wrong q) = refl
+use Rattle.minijinja_parser_tokens.specs.internal.Reads.{eaten}
+use Rattle.minijinja_parser_tokens.proofs.Turned.{behind_is, read_no_longer, take_shorter, under}
 
 -- ---- turns that a kind of token begins, each a part
 
@@ -63,9 +61,9 @@ module _ {A X : Type 0} (begins : Tok → Bool) (part : A → SpannedTok → For
 
 -- ---- postfixes: attributes, items, slices and calls
 
-module _ {C F : Type 0} (f : Functions C F) (expr prim : Form (Expr C)) where
+module _ {C F : Type 0} (f : Functions C F) (b : Below C) where
   abbrev postfix_part : Expr C × Span → SpannedTok → Form (Expr C)
-  postfix_part e t = form.postfix expr f e.0 e.1 t.0
+  postfix_part e t = form.postfix b.expr f e.0 e.1 t.0
 
   abbrev postfix_added : Expr C × Span → SpannedTok → Expr C → Expr C × Span
   postfix_added e t x = (x, t.1)
@@ -74,7 +72,7 @@ module _ {C F : Type 0} (f : Functions C F) (expr prim : Form (Expr C)) where
   pub postfixes : Expr C → Span → Place → Read (Expr C)
   postfixes e from p = read_then (reads (turns begins_postfix postfix_part postfix_added (e, from)) p) (λ x q. got x.0 q)
 
-  pub postfixed_is : (p : Place) → reads (form.postfixed f expr prim) p ≡ read_then (reads prim p) (λ e q. postfixes e (start_at p) q)
+  pub postfixed_is : (p : Place) → reads (form.postfixed f b) p ≡ read_then (reads b.primary p) (λ e q. postfixes e (start_at p) q)
   unfolding reads form.postfixed postfixes
   postfixed_is p = refl
 
@@ -83,7 +81,7 @@ module _ {C F : Type 0} (f : Functions C F) (expr prim : Form (Expr C)) where
   postfixed_done e from p h = ap (λ o. read_then o (λ x q. got x.0 q)) (turns_done begins_postfix postfix_part postfix_added (e, from) p h)
 
   pub postfixed_more : (e : Expr C) (from : Span) (p : Place) → comes begins_postfix p.tokens ≡ true →
-      postfixes e from p ≡ read_then (reads (one Some) p) (λ t q. read_then (reads (form.postfix expr f e from t.0) q) (λ x r. postfixes x t.1 r))
+      postfixes e from p ≡ read_then (reads (one Some) p) (λ t q. read_then (reads (form.postfix b.expr f e from t.0) q) (λ x r. postfixes x t.1 r))
   unfolding postfixes
   postfixed_more e from p h =
       ap (λ o. read_then o (λ x q. got x.0 q)) (turns_more begins_postfix postfix_part postfix_added (e, from) p h) ∙ go (reads (one Some) p)
@@ -95,9 +93,9 @@ module _ {C F : Type 0} (f : Functions C F) (expr prim : Form (Expr C)) where
       inner t (wrong q) = refl
 
       go : (o : Read SpannedTok) →
-          read_then (read_then o (λ t q. read_then (reads (form.postfix expr f e from t.0) q) (λ y r. reads (turns begins_postfix postfix_part postfix_added (y, t.1)) r))) (λ x q. got x.0 q) ≡
-          read_then o (λ t q. read_then (reads (form.postfix expr f e from t.0) q) (λ x r. postfixes x t.1 r))
-      go (got t q) = inner t (reads (form.postfix expr f e from t.0) q)
+          read_then (read_then o (λ t q. read_then (reads (form.postfix b.expr f e from t.0) q) (λ y r. reads (turns begins_postfix postfix_part postfix_added (y, t.1)) r))) (λ x q. got x.0 q) ≡
+          read_then o (λ t q. read_then (reads (form.postfix b.expr f e from t.0) q) (λ x r. postfixes x t.1 r))
+      go (got t q) = inner t (reads (form.postfix b.expr f e from t.0) q)
       go (short q) = refl
       go (wrong q) = refl
 
@@ -105,39 +103,36 @@ module _ {C F : Type 0} (f : Functions C F) (expr prim : Form (Expr C)) where
 
   -- the suffixes that follow, after those so far
   abbrev pub suffixes : Expr C → Form (Expr C)
-  suffixes = many (of_kind begins_suffix) (form.suffix_turn f expr prim)
+  suffixes = many (of_kind begins_suffix) (form.suffix_turn f b)
 
-  pub suffixed_is : (p : Place) → reads (form.unary_level f expr prim) p ≡ read_then (reads (form.operand f expr prim) p) (λ e q. reads (suffixes e) q)
+  pub suffixed_is : (p : Place) → reads (form.unary_level f b) p ≡ read_then (reads (form.operand f b) p) (λ e q. reads (suffixes e) q)
   unfolding reads form.unary_level
   suffixed_is p = refl
 
   pub suffixed_done : (e : Expr C) (p : Place) → comes begins_suffix p.tokens ≡ false → reads (suffixes e) p ≡ got e p
-  suffixed_done e p h = turns_done begins_suffix (λ x t. form.suffix f expr prim x t.0) (λ x t y. y) e p h
+  suffixed_done e p h = turns_done begins_suffix (λ x t. form.suffix f b x t.0) (λ x t y. y) e p h
 
   pub suffixed_more : (e : Expr C) (p : Place) → comes begins_suffix p.tokens ≡ true →
-      reads (suffixes e) p ≡ read_then (reads (one Some) p) (λ t q. read_then (reads (form.suffix f expr prim e t.0) q) (λ x r. reads (suffixes x) r))
-  suffixed_more e p h = turns_more begins_suffix (λ x t. form.suffix f expr prim x t.0) (λ x t y. y) e p h
+      reads (suffixes e) p ≡ read_then (reads (one Some) p) (λ t q. read_then (reads (form.suffix f b e t.0) q) (λ x r. reads (suffixes x) r))
+  suffixed_more e p h = turns_more begins_suffix (λ x t. form.suffix f b x t.0) (λ x t y. y) e p h
 
--- ---- operators before an operand
+-- ---- operators that nest their operand
 
-module _ {C : Type 0} (m : Tok) (o : UnaryOp) (f : Form (Expr C)) where
-  pub prefixed_is : (p : Place) → reads (form.prefixed m o f) p ≡ read_then (reads (form.marks m) p) (λ ss q. read_then (reads f q) (λ e r. got (wrapped o r.last ss e) r))
-  unfolding reads
-  prefixed_is p = refl
+pub prefixed_is : {C : Type 0} (m : Tok) (o : UnaryOp) (f : Form (Expr C)) (p : Place) →
+    reads (form.prefixed m o f) p ≡ read_then (reads (next m) p) (λ s q. read_then (reads f q) (λ e r. got (unary o e (expanded s r.last)) r))
+unfolding reads
+prefixed_is m o f p = refl
 
-  -- where none comes, the operand stands alone
-  pub prefixed_none : (p : Place) → comes (is m) p.tokens ≡ false → reads (form.prefixed m o f) p ≡ reads f p
-  prefixed_none p e = prefixed_is p ∙ ap (λ r. read_then r (λ ss q. read_then (reads f q) (λ e r. got (wrapped o r.last ss e) r))) (spans_done m [] p e) ∙ as_it_is (reads f p)
+module _ {C F : Type 0} (f : Functions C F) (b : Below C) where
+  pub operand_is : (p : Place) → reads (form.operand f b) p ≡
+      (if comes (is minus) p.tokens then reads (form.prefixed minus negation b.negated) p else reads (form.postfixed f b) p)
+  unfolding reads form.operand
+  operand_is p = refl
 
-module _ {C F : Type 0} (f : Functions C F) (expr prim : Form (Expr C)) where
-  pub negated_is : (p : Place) → reads (form.operand f expr prim) p ≡
-      read_then (reads (form.marks minus) p) (λ ss q. read_then (reads (form.postfixed f expr prim) q) (λ e r. got (wrapped negation r.last ss e) r))
-  unfolding form.operand
-  negated_is p = prefixed_is minus negation (form.postfixed f expr prim) p
-
-  pub operand_is : (p : Place) → comes (is minus) p.tokens ≡ false → reads (form.operand f expr prim) p ≡ reads (form.postfixed f expr prim) p
-  unfolding form.operand
-  operand_is p e = prefixed_none minus negation (form.postfixed f expr prim) p e
+  pub power_is : (p : Place) → reads (form.pow_level f b) p ≡ read_then (reads (form.unary_level f b) p) (λ l q. read_then (eaten pow q) (λ c s.
+      if c then read_then (reads b.power s) (λ r u. got (binary bin.pow l r (expanded (start_at p) u.last)) u) else got l s))
+  unfolding reads form.pow_level
+  power_is p = under (reads (form.unary_level f b) p) _ _ (λ l q. behind_is pow (b.power >>= (λ r. form.spanned (start_at p) (binary bin.pow l r))) (pure l) q)
 
 -- ---- how many tokens are left
 

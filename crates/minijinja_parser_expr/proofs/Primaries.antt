@@ -5,18 +5,19 @@ use Rattle.minijinja_syntax.specs.Streams.{SpannedTok}
 use Rattle.minijinja_syntax.specs.Tokens.{Tok, paren_open, bracket_open, brace_open}
 use Rattle.minijinja_syntax.specs.declared.tokens.Span.{Span}
 use Rattle.minijinja_grammar.specs.Words.{begins_primary, is}
-use Rattle.minijinja_grammar.specs.Forms.{Place, one, Read, got, short, wrong, read_then, held_or_wrong, misfit, reads}
-use Rattle.minijinja_grammar.specs.Grammar.{of_kind, begun, expr_at, primary, primary_at}
-use Rattle.minijinja_parser_expr.specs.private.Primaries.{atom_at, begun_at}
+use Rattle.minijinja_grammar.specs.Places.{Place}
+use Rattle.minijinja_grammar.specs.internal.Forms.{one, Read, got, short, wrong, read_then, held_or_wrong, misfit, reads}
+use Rattle.minijinja_grammar.specs.internal.ExprForms.{of_kind, begun, below, expr_at, primary}
+use Rattle.minijinja_parser_expr.specs.private.Primaries.{atom_at, begun_at, primary_at}
 use Rattle.minijinja_parser_tokens.proofs.Taking.{one_is}
 
 module _ {C F : Type 0} (f : Functions C F) where
   pub too_deep : (d : ℕ) (p : Place) → d ≡ 0 → reads (primary_at f d) p ≡ misfit p p.tokens
-  unfolding reads primary_at
+  unfolding reads below
   too_deep d p e = rw e refl
 
   begins : (d : ℕ) (p : Place) → reads (primary_at f (suc d)) p ≡ read_then (reads (one Some) p) (λ t q. begun_at f d t q)
-  unfolding reads primary_at primary
+  unfolding reads below primary
   begins d p = ap (λ o. read_then o (λ u q. reads (begun (expr_at f d) f u) q)) (one_is (of_kind begins_primary) p) ∙ turned (reads (one Some) p)
     where
       turned : (o : Read SpannedTok) → read_then (read_then o (λ t q. held_or_wrong (of_kind begins_primary t) q)) (λ u q. reads (begun (expr_at f d) f u) q) ≡

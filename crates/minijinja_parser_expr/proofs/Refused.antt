@@ -1,7 +1,8 @@
 -- Refusals, and what reading comes to there.
 use Rattle.std.proofs.Common.{◌≡◌, ◌∙◌, Result, Ok, Err, sym, ap, subst}
 use Rattle.std.specs.Result.{IsErrAnd}
-use Rattle.minijinja_grammar.specs.Forms.{Place, Read, read_then, misfit}
+use Rattle.minijinja_grammar.specs.Places.{Place}
+use Rattle.minijinja_grammar.specs.internal.Forms.{Read, read_then, misfit}
 use Rattle.minijinja_parser_tokens.specs.internal.Reads.{Misfits, Reads}
 use Rattle.minijinja_parser_tokens.specs.declared.refusal.Refusal.{Refusal}
 use Rattle.minijinja_parser_tokens.specs.declared.refusal.Refusal.TheVariants.{OutOfMemory, Ended, Wrong}

@@ -3,8 +3,10 @@ use Rattle.std.proofs.Common.{◌≡◌, ◌∙◌, true, false, List, [], ◌�
 use Rattle.minijinja_syntax.specs.Tokens.{comma}
 use Rattle.minijinja_tree.specs.SpannedTrees.{Expr}
 use Rattle.minijinja_grammar.specs.Words.{begins_expr}
-use Rattle.minijinja_grammar.specs.Forms.{Place, Form, comes, Read, got, short, wrong, read_then, reads}
-use Rattle.minijinja_grammar.specs.Grammar as form
+use Rattle.minijinja_grammar.specs.Places.{Place}
+use Rattle.minijinja_grammar.specs.internal.Forms.{Form, Read, got, short, wrong, read_then, reads}
+use Rattle.minijinja_grammar.specs.Ahead.{comes}
+use Rattle.minijinja_grammar.specs.internal.ExprForms as form
 use Rattle.minijinja_parser_tokens.specs.internal.Reads.{eaten}
 use Rattle.minijinja_parser_tokens.proofs.Turned.{items_more, items_done}
 

@@ -7,8 +7,10 @@ use Rattle.minijinja_syntax.specs.declared.tokens.Span.{Span}
 use Rattle.minijinja_value.specs.Values.{Functions}
 use Rattle.minijinja_tree.specs.SpannedTrees.{Expr, constant}
 use Rattle.minijinja_grammar.specs.Words.{text_of}
-use Rattle.minijinja_grammar.specs.Forms.{Place, Turn, go_on, Form, pure, one, many, comes, Read, got, read_then, after, read_one, read_turn, if_held, read_any, reads}
-use Rattle.minijinja_grammar.specs.Grammar.{expanded, held, texts}
+use Rattle.minijinja_grammar.specs.Places.{Place}
+use Rattle.minijinja_grammar.specs.internal.Forms.{Turn, go_on, Form, pure, one, many, Read, got, read_then, after, read_one, read_turn, if_held, read_any, reads}
+use Rattle.minijinja_grammar.specs.Ahead.{comes, held}
+use Rattle.minijinja_grammar.specs.internal.ExprForms.{expanded, texts}
 use Rattle.minijinja_grammar.proofs.Unrolled.{many_is}
 use Rattle.minijinja_parser_expr.specs.private.Texts.{added}
 

@@ -2,9 +2,10 @@
 use Rattle.std.proofs.Common.{◌≡◌, ℕ, Bool, true, false, if◌then◌else◌, refl}
 use Rattle.std.specs.Prelude.{is_some}
 use Rattle.minijinja_value.specs.Values.{Functions}
-use Rattle.minijinja_grammar.specs.Forms.{Place, Read, got, misfit, pure, read_then, reads, short, wrong}
-use Rattle.minijinja_grammar.specs.Grammar.{expr_at, when}
-use Rattle.minijinja_grammar.specs.Statements.{call_of, chain, is_storable, or_at, value}
+use Rattle.minijinja_grammar.specs.Places.{Place}
+use Rattle.minijinja_grammar.specs.internal.Forms.{Read, got, misfit, pure, read_then, reads, short, wrong}
+use Rattle.minijinja_grammar.specs.internal.ExprForms.{expr_at, when}
+use Rattle.minijinja_grammar.specs.internal.StmtForms.{call_of, chain, is_storable, or_at, value}
 use Rattle.minijinja_parser_tokens.specs.declared.forms.ExprForm.{ExprForm}
 use Rattle.minijinja_parser_tokens.specs.declared.forms.ExprForm.TheVariants as form
 use Rattle.minijinja_parser_tokens.specs.internal.Forms.{expr_of, fits, plain_of}

@@ -1,7 +1,6 @@
 -- What the crate says of its own private functions.
 pub mod Made
 pub mod Nests
+pub mod Levels
 pub mod Primaries
-pub mod Conditions
-pub mod Storables
 pub mod Texts

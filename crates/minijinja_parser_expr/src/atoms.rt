@@ -4,8 +4,8 @@ ghost use Rattle.std.specs.String.{string_bytes};
 ghost use Rattle.minijinja_syntax.specs.Positions.{slice};
 ghost use Rattle.minijinja_syntax.specs.Tokens.{tok_of};
 ghost use Rattle.minijinja_lexer.specs.Slices.{IsBetweenChars};
-ghost use Rattle.minijinja_grammar.specs.Forms.{reads};
-ghost use Rattle.minijinja_grammar.specs.Grammar as form;
+ghost use Rattle.minijinja_grammar.specs.internal.Forms.{reads};
+ghost use Rattle.minijinja_grammar.specs.internal.ExprForms as form;
 ghost use Rattle.minijinja_parser_tokens.specs.internal.Reads.{Reads};
 ghost use Rattle.minijinja_parser_expr.specs.private.Texts.{Joins};
 ghost use Rattle.minijinja_tree.specs.SpannedErasure.{expr_node};
@@ -24,7 +24,7 @@ use minijinja_value::value::TemplateValue;
 use std::alloc::{AllocError, Global};
 
 /// Makes the constant or the variable that a word stands for.
-#[tactic(auto, unfolding(minijinja_grammar::specs::Grammar::word))]
+#[tactic(auto, unfolding(minijinja_grammar::specs::internal::ExprForms::word))]
 pub fn word<'s, V: TemplateValue>(
     alloc: Global,
     word: &'s str,

@@ -1,7 +1,7 @@
 //! Reads expressions of the forms that statements want.
 ghost use Rattle.std.specs.Prelude.{◌≡◌};
 ghost use Rattle.minijinja_tree.specs.SpannedErasure.{expr_node};
-ghost use Rattle.minijinja_grammar.specs.Forms.{reads};
+ghost use Rattle.minijinja_grammar.specs.internal.Forms.{reads};
 ghost use Rattle.minijinja_parser_tokens.specs.internal.Forms.{expr_of};
 ghost use Rattle.minijinja_parser_tokens.specs.internal.Forms as forms;
 ghost use Rattle.minijinja_parser_tokens.specs.internal.Reads.{Reads};
@@ -40,7 +40,7 @@ fn wanted(form: ExprForm) -> Wanted {
     }
 }
 
-/// Reads an expression of the form, in which expressions and primaries nest `depth` deep at most.
+/// Reads an expression of the form, in which parts nest `depth` deep at most.
 #[tactic(auto, using(crate::proofs::WantedForms::expression_is))]
 pub fn expression<'s, 'c, V: TemplateValue>(
     nodes: TreeExprs<'s, 'c, V>,

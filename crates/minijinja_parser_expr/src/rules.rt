@@ -1,9 +1,9 @@
 //! The rules of expressions, one function each, generic over the tokens and the tree. They take the
-//! parser of nested expressions as a parameter, so that each is proved by itself.
-ghost use Rattle.minijinja_grammar.specs.Forms.{got};
-ghost use Rattle.minijinja_grammar.specs.Grammar.{expanded, expr_at};
+//! parser of what nests as a parameter, so that each is proved by itself.
+ghost use Rattle.minijinja_grammar.specs.internal.Forms.{got};
+ghost use Rattle.minijinja_grammar.specs.internal.ExprForms.{below, expanded, expr_at};
 ghost use Rattle.minijinja_parser_expr.specs.private.Made.{node_tree};
-ghost use Rattle.minijinja_parser_expr.specs.private.Nests.{Nests, Parses};
+ghost use Rattle.minijinja_parser_expr.specs.private.Nests.{Nests, Parses, nested_in};
 ghost use Rattle.minijinja_parser_tokens.specs.internal.Reads.{Reads};
 
 use crate::builder::{ExprBuilder, Node};
@@ -13,40 +13,69 @@ use minijinja_syntax::tokens::Span;
 use std::marker::PhantomData;
 
 mod arguments;
-pub mod if_exprs;
+mod comparing;
+mod if_exprs;
 pub mod in_statements;
 mod literals;
+pub mod nested;
 mod operands;
 mod operators;
 mod postfixes;
 mod suffixes;
-mod wrapping;
 
-/// The rules, with the parser of nested expressions, in which expressions and primaries nest
-/// `depth` deep at most.
+/// What nests in an expression.
+#[derive(Clone, Copy)]
+pub enum Nest {
+    /// An expression, in brackets or after an `else`.
+    Expr,
+    /// The operand of a `not`.
+    Opposite,
+    /// The right operand of a `**`.
+    Power,
+    /// The operand of a `-`.
+    Negated,
+}
+
+/// The rules, with the parser of what nests, in which parts nest `depth` deep at most.
 #[derive(Clone, Copy)]
 pub struct ExprRules<N, F> {
     /// Makes the nodes.
     pub builder: N,
-    /// How deep expressions may nest.
+    /// How deep parts may nest.
     pub depth: usize,
-    /// The parser of an expression of at most a depth.
-    pub expr: F,
+    /// The parser of what nests, to a depth.
+    pub parser: F,
 }
 
 impl<
     N: ExprBuilder,
     F: Copy
-        + for<'x> Fn(N, &'x mut N::Input, PhantomData<N::Expr>, usize) -> Result<N::Expr, Refusal>,
+        + for<'x> Fn(
+            N,
+            &'x mut N::Input,
+            PhantomData<N::Expr>,
+            Nest,
+            usize,
+        ) -> Result<N::Expr, Refusal>,
 > ExprRules<N, F> {
+    /// Reads what nests there.
+    fn inner(&self, tokens: &mut N::Input, nest: Nest) -> Result<N::Expr, Refusal>
+        requires { Nests N.Input.place N.tree N.functions self.now.depth F.pre F.post
+            self.now.parser }
+        ensures { Parses N.Input.place N.tree (nested_in nest (below N.functions self.now.depth))
+            tokens.old result tokens.new }
+    {
+        (self.parser)(self.builder, tokens, PhantomData, nest, self.depth)
+    }
+
     /// Reads a nested expression.
     fn nested(&self, tokens: &mut N::Input) -> Result<N::Expr, Refusal>
         requires { Nests N.Input.place N.tree N.functions self.now.depth F.pre F.post
-            self.now.expr }
+            self.now.parser }
         ensures { Parses N.Input.place N.tree (expr_at N.functions self.now.depth) tokens.old result
             tokens.new }
     {
-        (self.expr)(self.builder, tokens, PhantomData, self.depth)
+        self.inner(tokens, Nest::Expr)
     }
 
     /// Makes a node, from there to the end of the token taken last.

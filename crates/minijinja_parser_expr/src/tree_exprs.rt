@@ -4,9 +4,9 @@ ghost use Rattle.std.specs.Option.{option_map};
 ghost use Rattle.minijinja_syntax.specs.Tokens.{tok_of};
 ghost use Rattle.minijinja_tree.specs.Erasure.{compare_op};
 ghost use Rattle.minijinja_tree.specs.SpannedErasure.{arg_view, compared, expr_node};
-ghost use Rattle.minijinja_grammar.specs.Forms.{nothing, reads};
-ghost use Rattle.minijinja_grammar.specs.Grammar as form;
-ghost use Rattle.minijinja_grammar.specs.Grammar.{name_of_variable};
+ghost use Rattle.minijinja_grammar.specs.internal.Forms.{nothing, reads};
+ghost use Rattle.minijinja_grammar.specs.internal.ExprForms as form;
+ghost use Rattle.minijinja_grammar.specs.internal.ExprForms.{name_of_variable};
 ghost use Rattle.minijinja_parser_expr.specs.private.Made.{argument_of, node_tree};
 ghost use Rattle.minijinja_parser_expr.specs.private.Primaries.{atom_at};
 ghost use Rattle.minijinja_parser_tokens.specs.internal.Reads.{Reads};
@@ -81,7 +81,7 @@ impl<'s, 'c, V: TemplateValue> ExprBuilder for TreeExprs<'s, 'c, V> {
         self.alloc
     }
 
-    #[tactic(auto, unfolding(minijinja_grammar::specs::Forms::reads, crate::specs::private::Primaries::atom_at))]
+    #[tactic(auto, unfolding(minijinja_grammar::specs::internal::Forms::reads, crate::specs::private::Primaries::atom_at))]
     fn atom(
         &self,
         tokens: &mut TokenStream<'s, 'c>,

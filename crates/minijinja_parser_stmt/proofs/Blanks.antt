@@ -4,11 +4,15 @@ use Rattle.minijinja_syntax.specs.Tokens.{Tok, template_data, variable_start, bl
 use Rattle.minijinja_syntax.specs.Streams.{SpannedTok}
 use Rattle.minijinja_syntax.specs.declared.tokens.Span.{Span}
 use Rattle.minijinja_tree.specs.SpannedTrees.{Stmt, data_text}
-use Rattle.minijinja_grammar.specs.Forms.{Place, Turn, go_on, one, pure, comes, Read, got, short, wrong, misfit, read_then, after, held_or_wrong, read_one, read_turn, if_held, read_any, reads}
-use Rattle.minijinja_grammar.specs.Grammar.{of_kind, when}
-use Rattle.minijinja_grammar.specs.Statements.{begins_part, blank_body, blank_part, is_blank}
+use Rattle.minijinja_grammar.specs.Places.{Place}
+use Rattle.minijinja_grammar.specs.internal.Forms.{Turn, go_on, one, pure, Read, got, short, wrong, misfit, read_then, after, held_or_wrong, read_one, read_turn, if_held, read_any, reads}
+use Rattle.minijinja_grammar.specs.Ahead.{comes}
+use Rattle.minijinja_grammar.specs.internal.ExprForms.{when}
+use Rattle.minijinja_grammar.specs.internal.StmtForms.{any_token, blank_body, blank_part}
+use Rattle.minijinja_grammar.specs.Statements.{is_blank}
+use Rattle.minijinja_parser_tokens.specs.internal.Marks.{is_any}
 use Rattle.minijinja_grammar.proofs.Unrolled.{many_is}
-use Rattle.minijinja_parser_stmt.specs.private.Blanks.{blank_at, blank_further, blank_piece, rest_of_blank}
+use Rattle.minijinja_parser_stmt.specs.private.Blanks.{blank_further, blank_piece, rest_of_blank}
 use Rattle.minijinja_parser_stmt.specs.private.Bodies.{with_part}
 use Rattle.minijinja_parser_stmt.specs.internal.Made.{opening_of}
 
@@ -39,37 +43,26 @@ module _ {C : Type 0} where
   turned ss (short q) = refl
   turned ss (wrong q) = refl
 
-  pub blank_done : (ss : List (Stmt C)) (p : Place) → comes begins_part p.tokens ≡ false → reads (rest_of_blank ss) p ≡ got ss p
-  blank_done ss p e = many_is (of_kind begins_part) blank_part ss p ∙ go p.tokens e
+  pub blank_done : (ss : List (Stmt C)) (p : Place) → comes is_any p.tokens ≡ false → reads (rest_of_blank ss) p ≡ got ss p
+  blank_done ss p e = many_is any_token blank_part ss p ∙ go p.tokens e
     where
-      ended : (t : SpannedTok) (ts : List SpannedTok) (b : Bool) → b ≡ false →
-          if_held (if b then Some t else None) (λ h. read_turn (reads (blank_part ss h) (after p t ts)) (λ y s. reads (rest_of_blank y) s)) (got ss p) ≡ got ss p
-      ended t ts true k = cc
-      ended t ts false k = refl
-
-      go : (ts : List SpannedTok) → comes begins_part ts ≡ false → read_any (of_kind begins_part) (λ h q. read_turn (reads (blank_part ss h) q) (λ y s. reads (rest_of_blank y) s)) ss p ts ≡ got ss p
+      go : (ts : List SpannedTok) → comes is_any ts ≡ false → read_any any_token (λ h q. read_turn (reads (blank_part ss h) q) (λ y s. reads (rest_of_blank y) s)) ss p ts ≡ got ss p
       go [] k = refl
-      go (t ∷ ts) k = ended t ts (begins_part t.0) k
+      go (t ∷ ts) k = cc
 
-  pub blank_more : (ss : List (Stmt C)) (p : Place) → comes begins_part p.tokens ≡ true → reads (rest_of_blank ss) p ≡
-      read_then (reads (one Some) p) (λ t q. read_then (blank_at t q) (blank_further ss))
+  pub blank_more : (ss : List (Stmt C)) (p : Place) → comes is_any p.tokens ≡ true → reads (rest_of_blank ss) p ≡
+      read_then (reads (one Some) p) (λ t q. read_then (blank_piece t q) (blank_further ss))
   unfolding reads
-  blank_more ss p e = many_is (of_kind begins_part) blank_part ss p ∙ go p.tokens e
+  blank_more ss p e = many_is any_token blank_part ss p ∙ go p.tokens e
     where
-      at_token : (t : SpannedTok) (ts : List SpannedTok) (b : Bool) → b ≡ true →
-          if_held (if b then Some t else None) (λ h. read_turn (reads (blank_part ss h) (after p t ts)) (λ y s. reads (rest_of_blank y) s)) (got ss p) ≡
-          read_then (read_then (held_or_wrong (if b then Some t else None) (after p t ts)) (λ u q. blank_piece u q)) (blank_further ss)
-      at_token t ts true k = ap (λ o. read_turn o (λ y s. reads (rest_of_blank y) s)) (turn_is ss t (after p t ts)) ∙ turned ss (blank_piece t (after p t ts))
-      at_token t ts false k = cc
-
-      go : (ts : List SpannedTok) → comes begins_part ts ≡ true →
-          read_any (of_kind begins_part) (λ h q. read_turn (reads (blank_part ss h) q) (λ y s. reads (rest_of_blank y) s)) ss p ts ≡
-          read_then (read_one Some p ts) (λ t q. read_then (blank_at t q) (blank_further ss))
+      go : (ts : List SpannedTok) → comes is_any ts ≡ true →
+          read_any any_token (λ h q. read_turn (reads (blank_part ss h) q) (λ y s. reads (rest_of_blank y) s)) ss p ts ≡
+          read_then (read_one Some p ts) (λ t q. read_then (blank_piece t q) (blank_further ss))
       go [] k = cc
-      go (t ∷ ts) k = at_token t ts (begins_part t.0) k
+      go (t ∷ ts) k = ap (λ o. read_turn o (λ y s. reads (rest_of_blank y) s)) (turn_is ss t (after p t ts)) ∙ turned ss (blank_piece t (after p t ts))
 
   -- no part begins with another token
-  pub no_blank : (t : Tok) (s : Span) (p : Place) → None ≡ opening_of t → blank_at {C = C} (t, s) p ≡ wrong p
+  pub no_blank : (t : Tok) (s : Span) (p : Place) → None ≡ opening_of t → blank_piece {C = C} (t, s) p ≡ misfit p p.tokens
   no_blank (template_data x) s p h = cc
   no_blank variable_start s p h = cc
   no_blank block_start s p h = cc

@@ -7,9 +7,11 @@ use Rattle.minijinja_syntax.specs.Streams.{SpannedTok}
 use Rattle.minijinja_syntax.specs.declared.tokens.Span.{Span}
 use Rattle.minijinja_tree.specs.SpannedTrees.{Stmt, named_block, stmts_of}
 use Rattle.minijinja_grammar.specs.Words.{endblock_word, is_identifier, required_word, scoped_word}
-use Rattle.minijinja_grammar.specs.Forms.{Place, Read, after, comes, giving, got, held_or_wrong, is_given, misfit, new_name, one, pure, read_one, read_then, reads, short, wrong, ◌>>◌}
-use Rattle.minijinja_grammar.specs.Grammar.{behind, expanded, ident_and_span, next, span_of_mark}
-use Rattle.minijinja_grammar.specs.Statements.{Parts, block_body, block_name, block_stmt, end_name, scoped_if_any}
+use Rattle.minijinja_grammar.specs.Places.{Place}
+use Rattle.minijinja_grammar.specs.internal.Forms.{Read, after, giving, got, held_or_wrong, is_given, misfit, new_name, one, pure, read_one, read_then, reads, short, wrong, ◌>>◌}
+use Rattle.minijinja_grammar.specs.Ahead.{comes}
+use Rattle.minijinja_grammar.specs.internal.ExprForms.{behind, expanded, ident_and_span, next, span_of_mark}
+use Rattle.minijinja_grammar.specs.internal.StmtForms.{Parts, block_body, block_name, block_stmt, end_name, scoped_if_any}
 use Rattle.minijinja_grammar.proofs.Climbing.{after_after}
 use Rattle.minijinja_parser_tokens.specs.internal.Forms.{new_ident_and_span}
 use Rattle.minijinja_parser_tokens.specs.internal.Reads.{eaten}

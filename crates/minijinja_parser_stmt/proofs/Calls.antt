@@ -5,9 +5,11 @@ use Rattle.minijinja_syntax.specs.Streams.{SpannedTok}
 use Rattle.minijinja_syntax.specs.declared.tokens.Span.{Span}
 use Rattle.minijinja_tree.specs.SpannedTrees.{macro_of, Args, Expr, Stmt}
 use Rattle.minijinja_grammar.specs.Words.{endcall_word}
-use Rattle.minijinja_grammar.specs.Forms.{Form, Place, Read, got, short, wrong, misfit, pure, read_then, reads, ◌>>=◌}
-use Rattle.minijinja_grammar.specs.Grammar.{expanded, when}
-use Rattle.minijinja_grammar.specs.Statements.{Parts, at_endcall, call_in, call_of, call_stmt, called, do_stmt, done, macro_body}
+use Rattle.minijinja_grammar.specs.internal.Forms.{Form, Read, got, short, wrong, misfit, pure, read_then, reads, ◌>>=◌}
+use Rattle.minijinja_grammar.specs.Places.{Place}
+use Rattle.minijinja_grammar.specs.internal.ExprForms.{expanded, when}
+use Rattle.minijinja_grammar.specs.internal.StmtForms.{Parts, call_in, call_of, call_stmt, called, do_stmt, done, macro_body}
+use Rattle.minijinja_grammar.specs.Statements.{at_endcall}
 use Rattle.minijinja_grammar.proofs.Climbing.{after_after}
 use Rattle.minijinja_parser_tokens.proofs.Turned.{under}
 use Rattle.minijinja_parser_stmt.specs.private.Macros.{params_if_any}

@@ -5,9 +5,12 @@ use Rattle.minijinja_syntax.specs.Streams.{SpannedTok}
 use Rattle.minijinja_syntax.specs.declared.tokens.Span.{Span}
 use Rattle.minijinja_tree.specs.SpannedTrees.{Expr, Optional, Stmt, import_all}
 use Rattle.minijinja_grammar.specs.Words.{as_word, is}
-use Rattle.minijinja_grammar.specs.Forms.{Form, Place, Read, go_on, over, got, short, wrong, misfit, pure, comes, many, read_then, read_turn, read_any, read_one, held_or_wrong, if_held, after, reads, ◌>>=◌, ◌>>◌}
-use Rattle.minijinja_grammar.specs.Grammar.{expanded, next, span_of_mark, spanned, when}
-use Rattle.minijinja_grammar.specs.Statements.{context_if_any, ends_names, import_stmt, imported, imports, is_storable, next_imported}
+use Rattle.minijinja_grammar.specs.internal.Forms.{Form, Read, go_on, over, got, short, wrong, misfit, pure, many, read_then, read_turn, read_any, read_one, held_or_wrong, if_held, after, reads, ◌>>=◌, ◌>>◌}
+use Rattle.minijinja_grammar.specs.Places.{Place}
+use Rattle.minijinja_grammar.specs.Ahead.{comes}
+use Rattle.minijinja_grammar.specs.internal.ExprForms.{expanded, next, span_of_mark, spanned, when}
+use Rattle.minijinja_grammar.specs.internal.StmtForms.{context_if_any, import_stmt, imported, imports, is_storable, next_imported}
+use Rattle.minijinja_grammar.specs.Statements.{ends_names}
 use Rattle.minijinja_grammar.proofs.Climbing.{after_after}
 use Rattle.minijinja_grammar.proofs.Unrolled.{many_is}
 use Rattle.minijinja_parser_tokens.specs.internal.Reads.{eaten}

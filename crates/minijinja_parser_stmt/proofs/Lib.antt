@@ -1,7 +1,6 @@
-pub mod OpenTargets
+pub mod Targets
 pub mod Names
 pub mod Bodies
-pub mod Branches
 pub mod Calls
 pub mod Bindings
 pub mod Blanks

@@ -8,10 +8,12 @@ use Rattle.minijinja_syntax.specs.Streams.{SpannedTok}
 use Rattle.minijinja_syntax.specs.declared.tokens.Span.{Span}
 use Rattle.minijinja_tree.specs.SpannedTrees.{Expr, attribute}
 use Rattle.minijinja_grammar.specs.Words.{is, is_reserved}
-use Rattle.minijinja_grammar.specs.Forms.{Place, Read, go_on, got, short, wrong, one, comes, read_then, read_turn, read_any, read_one, held_or_wrong, if_held, after, reads}
-use Rattle.minijinja_grammar.specs.Grammar.{ident_and_span, span_of_mark}
-use Rattle.minijinja_grammar.specs.Targets.{attributes, name_word, target_part, target_word, word_but}
-use Rattle.minijinja_grammar.specs.Statements.{public_word}
+use Rattle.minijinja_grammar.specs.Places.{Place}
+use Rattle.minijinja_grammar.specs.internal.Forms.{Read, go_on, got, short, wrong, one, read_then, read_turn, read_any, read_one, held_or_wrong, if_held, after, reads}
+use Rattle.minijinja_grammar.specs.Ahead.{comes}
+use Rattle.minijinja_grammar.specs.internal.ExprForms.{ident_and_span, span_of_mark}
+use Rattle.minijinja_grammar.specs.internal.TargetForms.{attributes, name_word, target_part, target_word, word_but}
+use Rattle.minijinja_grammar.specs.internal.StmtForms.{public_word}
 use Rattle.minijinja_grammar.proofs.Unrolled.{many_is}
 use Rattle.minijinja_parser_tokens.specs.internal.Reads.{eaten}
 use Rattle.minijinja_parser_stmt.specs.private.Targets.{is_no_target}

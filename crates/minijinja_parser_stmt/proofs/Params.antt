@@ -4,9 +4,11 @@ use Rattle.std.specs.Prelude.{◌||◌, is_some}
 use Rattle.minijinja_syntax.specs.Tokens.{comma}
 use Rattle.minijinja_tree.specs.SpannedTrees.{Expr}
 use Rattle.minijinja_grammar.specs.Words.{is_identifier}
-use Rattle.minijinja_grammar.specs.Forms.{Form, Place, Read, got, comes, read_then, reads}
-use Rattle.minijinja_grammar.specs.Statements.{default_of, have_default, param}
-use Rattle.minijinja_grammar.specs.Targets.{stored_name}
+use Rattle.minijinja_grammar.specs.internal.Forms.{Form, Read, got, read_then, reads}
+use Rattle.minijinja_grammar.specs.Places.{Place}
+use Rattle.minijinja_grammar.specs.Ahead.{comes}
+use Rattle.minijinja_grammar.specs.internal.StmtForms.{default_of, have_default, param}
+use Rattle.minijinja_grammar.specs.internal.TargetForms.{stored_name}
 use Rattle.minijinja_grammar.proofs.Climbing.{after_after}
 use Rattle.minijinja_parser_tokens.specs.internal.Reads.{eaten}
 use Rattle.minijinja_parser_tokens.proofs.Turned.{items_done, items_more, under}

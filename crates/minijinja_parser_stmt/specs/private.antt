@@ -2,7 +2,6 @@
 pub mod Parses
 pub mod Targets
 pub mod Bodies
-pub mod Branches
 pub mod Blanks
 pub mod Blocks
 pub mod Macros

@@ -1,7 +1,7 @@
 //! The rules of templates, a function each.
 //!
 //! They take the parser of nested statements as a parameter, so that each is proved by itself.
-ghost use Rattle.minijinja_grammar.specs.Statements.{stmt_at};
+ghost use Rattle.minijinja_grammar.specs.internal.StmtForms.{stmt_at, within};
 ghost use Rattle.minijinja_parser_stmt.specs.private.Parses.{Nests, Parses, context_of};
 
 use crate::builder::StmtBuilder;
@@ -30,6 +30,15 @@ pub struct Context {
     pub open: Option<OpenStatement>,
 }
 
+/// What nests in a statement.
+#[derive(Clone, Copy)]
+pub enum Nested {
+    /// A statement, from its first word on.
+    Statement,
+    /// The `if` of an `elif`, after that word.
+    ElseIf,
+}
+
 /// The rules of a statement in which statements and expressions nest `depth` deep at most.
 #[derive(Clone, Copy)]
 pub struct StmtRules<S, F> {
@@ -39,8 +48,8 @@ pub struct StmtRules<S, F> {
     pub context: Context,
     /// How deep statements and expressions may nest.
     pub depth: usize,
-    /// The parser of a nested statement.
-    pub stmt: F,
+    /// The parser of what nests in the statement.
+    pub nested: F,
 }
 
 impl<
@@ -51,17 +60,43 @@ impl<
             &'x mut S::Input,
             PhantomData<S::Stmt>,
             Context,
+            Nested,
             usize,
         ) -> Result<S::Stmt, Refusal>,
 > StmtRules<S, F> {
     /// A nested statement.
-    fn nested(&self, tokens: &mut S::Input) -> Result<S::Stmt, Refusal>
+    fn stmt(&self, tokens: &mut S::Input) -> Result<S::Stmt, Refusal>
         requires { Nests S.Input.place S.stmt S.functions self.now.depth F.pre F.post
-            self.now.stmt }
+            self.now.nested }
         ensures { Parses S.Input.place S.stmt
             (stmt_at S.functions (context_of self.now.context) self.now.depth) tokens.old result
             tokens.new }
     {
-        (self.stmt)(self.builder, tokens, PhantomData, self.context, self.depth)
+        (self.nested)(
+            self.builder,
+            tokens,
+            PhantomData,
+            self.context,
+            Nested::Statement,
+            self.depth,
+        )
+    }
+
+    /// The `if` of an `elif`, after that word.
+    fn else_if(&self, tokens: &mut S::Input) -> Result<S::Stmt, Refusal>
+        requires { Nests S.Input.place S.stmt S.functions self.now.depth F.pre F.post
+            self.now.nested }
+        ensures { Parses S.Input.place S.stmt ((within S.functions self.now.depth).if_
+            (context_of self.now.context) (S.Input.place tokens.old).last) tokens.old result
+            tokens.new }
+    {
+        (self.nested)(
+            self.builder,
+            tokens,
+            PhantomData,
+            self.context,
+            Nested::ElseIf,
+            self.depth,
+        )
     }
 }

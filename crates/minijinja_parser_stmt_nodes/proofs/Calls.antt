@@ -9,7 +9,7 @@ use Rattle.minijinja_syntax.specs.declared.tokens.Span.{Span}
 use Rattle.minijinja_tree.specs.Nodes.{node_of, span_of}
 use Rattle.minijinja_tree.specs.SpannedErasure.{args_of, expr_node}
 use Rattle.minijinja_tree.specs.SpannedTrees as tree
-use Rattle.minijinja_grammar.specs.Statements.{call_of}
+use Rattle.minijinja_grammar.specs.internal.StmtForms.{call_of}
 use Rattle.minijinja_parser_stmt.specs.internal.Made.{call_block_tree, call_tree, is_call}
 use Rattle.minijinja_parser_expr.proofs.Calls.{no_call, some_call}
 

@@ -5,8 +5,10 @@ use Rattle.minijinja_syntax.specs.Streams.{SpannedTok}
 use Rattle.minijinja_tree.specs.CompareOps as cmp
 use Rattle.minijinja_tree.specs.CompareOps.{CompareOp}
 use Rattle.minijinja_grammar.specs.Words.{is, not_word, in_word, begins_comparison, compare_op}
-use Rattle.minijinja_grammar.specs.Forms.{Place, comes, after, Read, got, wrong, read_then, read_one, held_or_wrong, reads}
-use Rattle.minijinja_grammar.specs.Grammar.{of_kind, next, compare_operator}
+use Rattle.minijinja_grammar.specs.Places.{Place}
+use Rattle.minijinja_grammar.specs.Ahead.{comes}
+use Rattle.minijinja_grammar.specs.internal.Forms.{after, Read, got, wrong, read_then, read_one, held_or_wrong, reads}
+use Rattle.minijinja_grammar.specs.internal.ExprForms.{of_kind, next, compare_operator}
 use Rattle.minijinja_parser_tokens.specs.internal.Levels.{compare_op_at, next_compare}
 use Rattle.minijinja_parser_tokens.specs.internal.Reads.{skipped}
 

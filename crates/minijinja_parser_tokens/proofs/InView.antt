@@ -3,7 +3,7 @@ use Rattle.std.proofs.Common.{◌≡◌, ◌∷◌, Option, Some, Ok, refl, sym,
 use Rattle.minijinja_syntax.specs.Streams.{spanned_tok}
 use Rattle.minijinja_syntax.specs.declared.tokens.Token.{Token}
 use Rattle.minijinja_syntax.specs.declared.tokens.Span.{Span}
-use Rattle.minijinja_grammar.specs.Forms.{Place}
+use Rattle.minijinja_grammar.specs.Places.{Place}
 use Rattle.minijinja_parser_tokens.specs.private.AtTokenStream.{place_of}
 use Rattle.minijinja_parser_tokens.specs.declared.token_stream.TokenStream.TheInside.{Inside}
 

@@ -11,8 +11,9 @@ use Rattle.std.specs.Str.{bytes_eq}
 use Rattle.minijinja_syntax.specs.Texts.{Text}
 use Rattle.minijinja_syntax.specs.Streams.{SpannedTok}
 use Rattle.minijinja_syntax.specs.declared.tokens.Span.{Span}
-use Rattle.minijinja_grammar.specs.Forms.{Place, Read, giving, got, is_given, misfit, new_name, one, pure, read_then, reads, short, wrong, ◌>>◌}
-use Rattle.minijinja_grammar.specs.Grammar.{ident_and_span}
+use Rattle.minijinja_grammar.specs.Places.{Place}
+use Rattle.minijinja_grammar.specs.internal.Forms.{Read, giving, got, is_given, misfit, new_name, one, pure, read_then, reads, short, wrong, ◌>>◌}
+use Rattle.minijinja_grammar.specs.internal.ExprForms.{ident_and_span}
 use Rattle.minijinja_parser_tokens.specs.internal.Forms.{new_ident_and_span}
 use Rattle.minijinja_parser_tokens.specs.internal.Reads.{Misfits, Reads}
 use Rattle.minijinja_parser_tokens.specs.declared.refusal.Refusal.{Refusal}

@@ -4,12 +4,15 @@ use Rattle.std.specs.Option.{option_map}
 use Rattle.minijinja_syntax.specs.Texts.{Text}
 use Rattle.minijinja_syntax.specs.Tokens.{Tok, ident}
 use Rattle.minijinja_syntax.specs.declared.tokens.Span.{Span}
-use Rattle.minijinja_grammar.specs.Words.{is, keyword_of}
+use Rattle.minijinja_grammar.specs.Words.{is}
+use Rattle.minijinja_grammar.specs.internal.Keywords.{keyword_of}
 use Rattle.minijinja_syntax.specs.Streams.{SpannedTok}
-use Rattle.minijinja_grammar.specs.Forms.{Place, one, comes, after, Read, got, short, wrong, read_then, held_or_wrong, read_one, reads}
-use Rattle.minijinja_grammar.specs.Grammar.{next, ident_and_span, span_of_mark}
+use Rattle.minijinja_grammar.specs.Places.{Place}
+use Rattle.minijinja_grammar.specs.internal.Forms.{one, after, Read, got, short, wrong, read_then, held_or_wrong, read_one, reads}
+use Rattle.minijinja_grammar.specs.Ahead.{comes}
+use Rattle.minijinja_grammar.specs.internal.ExprForms.{next, ident_and_span, span_of_mark}
 use Rattle.minijinja_parser_tokens.specs.internal.Reads.{eaten, next_ident, skipped}
-use Rattle.minijinja_grammar.specs.Statements.{keyword_and_span}
+use Rattle.minijinja_grammar.specs.internal.StmtForms.{keyword_and_span}
 
 pub one_is : {A : Type 0} (held : SpannedTok → Option A) (p : Place) → reads (one held) p ≡ read_then (reads (one Some) p) (λ t q. held_or_wrong (held t) q)
 unfolding reads

@@ -4,8 +4,10 @@ use Rattle.minijinja_syntax.specs.Tokens.{Tok, comma}
 use Rattle.minijinja_syntax.specs.declared.tokens.Span.{Span}
 use Rattle.minijinja_grammar.specs.Words.{is}
 use Rattle.minijinja_syntax.specs.Streams.{SpannedTok}
-use Rattle.minijinja_grammar.specs.Forms.{Place, Turn, go_on, over, Form, pure, one, either, many, comes, Read, got, short, wrong, read_then, after, held_or_wrong, read_one, read_turn, if_held, read_any, reads, ◌>>=◌}
-use Rattle.minijinja_grammar.specs.Grammar.{next, items, behind, span_of_mark}
+use Rattle.minijinja_grammar.specs.Places.{Place}
+use Rattle.minijinja_grammar.specs.internal.Forms.{Turn, go_on, over, Form, pure, one, either, many, Read, got, short, wrong, read_then, after, held_or_wrong, read_one, read_turn, if_held, read_any, reads, ◌>>=◌}
+use Rattle.minijinja_grammar.specs.Ahead.{comes}
+use Rattle.minijinja_grammar.specs.internal.ExprForms.{next, items, behind, span_of_mark}
 use Rattle.minijinja_parser_tokens.specs.internal.Reads.{eaten, skipped}
 use Rattle.minijinja_grammar.proofs.Unrolled.{many_is}
 use Rattle.minijinja_grammar.proofs.Forms.{left, sound, no_longer, takes_shorter, same_read}

@@ -10,7 +10,7 @@ use Rattle.minijinja_syntax.specs.declared.tokens.Span.{Span}
 use Rattle.minijinja_syntax.specs.declared.error.Error.{Error}
 use Rattle.minijinja_lexer.specs.Slices.{IsBetweenChars}
 use Rattle.minijinja_lexer.specs.Stream.{Refuses, NeedsMemory, out_of_memory}
-use Rattle.minijinja_grammar.specs.Forms.{Place}
+use Rattle.minijinja_grammar.specs.Places.{Place}
 
 -- the span of zeros
 abbrev pub no_place : Span

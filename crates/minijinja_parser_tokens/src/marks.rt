@@ -4,9 +4,11 @@ ghost use Rattle.std.specs.Option.{option_map};
 ghost use Rattle.minijinja_syntax.specs.Tokens.{tok_of};
 ghost use Rattle.minijinja_tree.specs.Erasure.{compare_op};
 ghost use Rattle.minijinja_parser_tokens.specs.internal.Marks.{begins, ends_view, mark_tok};
+ghost use Rattle.minijinja_grammar.specs.internal.StmtForms as stmt_forms;
 ghost use Rattle.minijinja_grammar.specs.Statements as statements;
 ghost use Rattle.minijinja_grammar.specs.Targets as targets;
 ghost use Rattle.minijinja_grammar.specs.Words as words;
+ghost use Rattle.minijinja_grammar.specs.internal.Keywords as keywords;
 ghost use Rattle.minijinja_parser_tokens.specs.declared.marks.Part.TheVariants.{Text as TextPart};
 
 use minijinja_syntax::error::Expected;
@@ -74,8 +76,8 @@ pub enum Part {
     Bare,
     /// A string.
     Text,
-    /// Data, an output or a tag.
-    Template,
+    /// Any token.
+    Any,
     /// An identifier.
     Name,
     /// `with` or `without`, before `context`.
@@ -110,7 +112,7 @@ pub enum Ends {
 
 /// Whether the token is that word.
 pub fn is_word(token: &Token<'_>, word: &str) -> bool
-    ensures { result ≡ words.is (words.word word.now) (tok_of token.now) }
+    ensures { result ≡ words.is (keywords.word word.now) (tok_of token.now) }
 {
     matches!(token, Token::Ident(name) if *name == word)
 }
@@ -299,15 +301,6 @@ fn is_text(token: &Token<'_>) -> bool
     matches!(token, Token::Str(_) | Token::String(_))
 }
 
-fn begins_template_part(token: &Token<'_>) -> bool
-    ensures { result ≡ statements.begins_part (tok_of token.now) }
-{
-    matches!(
-        token,
-        Token::TemplateData(_) | Token::VariableStart | Token::BlockStart
-    )
-}
-
 fn is_name(token: &Token<'_>) -> bool
     ensures { result ≡ words.is_identifier (tok_of token.now) }
 {
@@ -327,7 +320,7 @@ fn ends_names(token: &Token<'_>) -> bool
 }
 
 fn begins_set_block(token: &Token<'_>) -> bool
-    ensures { result ≡ statements.begins_set_block (tok_of token.now) }
+    ensures { result ≡ stmt_forms.begins_set_block (tok_of token.now) }
 {
     is_mark(token, Mark::BlockEnd) || is_mark(token, Mark::Pipe)
 }
@@ -372,7 +365,7 @@ pub fn begins_part(token: &Token<'_>, part: Part) -> bool
         Part::Comparison => begins_comparison(token),
         Part::Bare => begins_bare(token),
         Part::Text => is_text(token),
-        Part::Template => begins_template_part(token),
+        Part::Any => true,
         Part::Name => is_name(token),
         Part::Context => begins_context(token),
         Part::NamesEnd => ends_names(token),

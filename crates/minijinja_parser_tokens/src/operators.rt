@@ -1,4 +1,4 @@
-//! Operators of two sides, and how tightly they bind.
+//! Operators of two sides that group to the left, and how tightly they bind.
 ghost use Rattle.std.specs.Prelude.{◌≡◌};
 ghost use Rattle.minijinja_syntax.specs.Tokens.{tok_of};
 ghost use Rattle.minijinja_parser_tokens.specs.internal.Levels as spec;
@@ -24,9 +24,7 @@ pub enum Level {
     Cat,
     /// `*`, `/`, `//` and `%`
     Term,
-    /// `**`
-    Pow,
-    /// no operator
+    /// none of these: `**` and what binds tighter
     Operand,
 }
 
@@ -51,8 +49,7 @@ impl Level {
             Level::Sum => 3,
             Level::Cat => 4,
             Level::Term => 5,
-            Level::Pow => 6,
-            Level::Operand => 7,
+            Level::Operand => 6,
         }
     }
 
@@ -73,8 +70,7 @@ impl Level {
             Level::Not => Level::Sum,
             Level::Sum => Level::Cat,
             Level::Cat => Level::Term,
-            Level::Term => Level::Pow,
-            Level::Pow | Level::Operand => Level::Operand,
+            Level::Term | Level::Operand => Level::Operand,
         }
     }
 }
@@ -119,7 +115,6 @@ pub fn operator_of(token: &Token<'_>) -> Option<Operator>
         Token::Div => (BinOpKind::Div, Level::Term),
         Token::FloorDiv => (BinOpKind::FloorDiv, Level::Term),
         Token::Mod => (BinOpKind::Rem, Level::Term),
-        Token::Pow => (BinOpKind::Pow, Level::Pow),
         _ => return word_operator(token),
     };
     Some(Operator::Binary(op, level))

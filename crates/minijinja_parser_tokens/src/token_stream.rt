@@ -5,9 +5,9 @@ ghost use Rattle.minijinja_lexer.specs.Stream.{IsTokenizerKind};
 ghost use Rattle.minijinja_lexer.specs.TextTokens.{text_of, tokens_of_template, tokens_of_expression};
 ghost use Rattle.minijinja_syntax.specs.Streams.{refused};
 ghost use Rattle.minijinja_syntax.specs.declared.error.ErrorKind.TheVariants.{OutOfMemory};
-ghost use Rattle.minijinja_grammar.specs.Forms.{start_at};
+ghost use Rattle.minijinja_grammar.specs.internal.Forms.{start_at};
 ghost use Rattle.minijinja_parser_tokens.specs.private.Refused.{Refused, ended_at};
-ghost use Rattle.minijinja_grammar.specs.Grammar.{expanded};
+ghost use Rattle.minijinja_grammar.specs.internal.ExprForms.{expanded};
 ghost use Rattle.minijinja_parser_tokens.specs.TokenStreams.{AnswersAhead, Comes, Shows, StandsBetweenChars, last_after, no_place, stream_at};
 
 use minijinja_lexer::lexer::Tokenizer;
@@ -32,7 +32,7 @@ pub struct TokenStream<'s, 'c> {
 }
 
 impl<'s, 'c> Model for TokenStream<'s, 'c> {
-    ghost use Rattle.minijinja_grammar.specs.Forms.{Place};
+    ghost use Rattle.minijinja_grammar.specs.Places.{Place};
 
     ghost Value = { Place };
 

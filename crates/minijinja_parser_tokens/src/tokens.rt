@@ -10,15 +10,17 @@ ghost use Rattle.minijinja_syntax.specs.Tokens.{Tok, tok_of};
 ghost use Rattle.minijinja_lexer.specs.Slices.{IsBetweenChars};
 ghost use Rattle.minijinja_lexer.specs.Stream.{out_of_memory};
 ghost use Rattle.minijinja_tree.specs.Erasure.{compare_op};
-ghost use Rattle.minijinja_grammar.specs.Forms.{Place, comes, one, reads, start_at};
-ghost use Rattle.minijinja_grammar.specs.Grammar.{expanded, ident_and_span, next};
+ghost use Rattle.minijinja_grammar.specs.Places.{Place};
+ghost use Rattle.minijinja_grammar.specs.Ahead.{comes};
+ghost use Rattle.minijinja_grammar.specs.internal.Forms.{one, reads, start_at};
+ghost use Rattle.minijinja_grammar.specs.internal.ExprForms.{expanded, ident_and_span, next};
 ghost use Rattle.minijinja_grammar.specs.Words.{is};
 ghost use Rattle.minijinja_parser_tokens.specs.internal.Forms.{new_ident_and_span};
 ghost use Rattle.minijinja_parser_tokens.specs.internal.Levels.{compare_op_at, next_compare, next_operator};
 ghost use Rattle.minijinja_parser_tokens.specs.internal.Marks.{begins, keyword_view, mark_tok};
 ghost use Rattle.minijinja_parser_tokens.specs.internal.Reads.{Misfits, Reads, eaten, next_ident, skipped};
 ghost use Rattle.minijinja_parser_tokens.specs.TokenStreams.{stream_at};
-ghost use Rattle.minijinja_grammar.specs.Statements.{keyword_and_span};
+ghost use Rattle.minijinja_grammar.specs.internal.StmtForms.{keyword_and_span};
 
 use crate::marks::{Mark, Part, begins_part, compare_operator, is_mark};
 use crate::operators::{Level, Operator, operator_of};
@@ -183,7 +185,7 @@ impl<'s, 'c> Tokens for TokenStream<'s, 'c> {
         Some(operator)
     }
 
-    #[tactic(auto, unfolding(minijinja_grammar::specs::Forms::reads))]
+    #[tactic(auto, unfolding(minijinja_grammar::specs::internal::Forms::reads))]
     fn misfit(&self, wanted: Wanted) -> Refusal {
         match &self.current {
             Ok(Some(_)) => Refusal::Wrong(wanted),
@@ -192,7 +194,7 @@ impl<'s, 'c> Tokens for TokenStream<'s, 'c> {
     }
 
     /// Fails at once if memory is refused for the token after the one that is taken.
-    #[tactic(auto, unfolding(minijinja_grammar::specs::Forms::reads))]
+    #[tactic(auto, unfolding(minijinja_grammar::specs::internal::Forms::reads))]
     #[inline(always)]
     fn take(&mut self, wanted: Wanted) -> Result<(Token<'s>, Span), Refusal>
         ensures read { Reads spanned_tok (reads (one Some) self.old) result self.new }
@@ -214,7 +216,7 @@ impl<'s, 'c> Tokens for TokenStream<'s, 'c> {
 
     /// Fails at once if memory is refused for the token after the one that is taken, as `take`
     /// does.
-    #[tactic(auto, unfolding(minijinja_grammar::specs::Forms::reads))]
+    #[tactic(auto, unfolding(minijinja_grammar::specs::internal::Forms::reads))]
     #[inline(always)]
     fn skip(&mut self, wanted: Wanted) -> Result<Span, Refusal>
         ensures read { Reads (λ s. s) (skipped self.old) result self.new }

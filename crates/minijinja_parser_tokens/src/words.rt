@@ -2,6 +2,7 @@
 ghost use Rattle.std.specs.Prelude.{◌≡◌};
 ghost use Rattle.std.specs.Option.{option_map};
 ghost use Rattle.minijinja_grammar.specs.Words as words;
+ghost use Rattle.minijinja_grammar.specs.internal.Keywords as keywords;
 ghost use Rattle.minijinja_parser_tokens.specs.internal.Marks.{keyword_view};
 
 use minijinja_syntax::error::{BodyStatement, OpenStatement};
@@ -29,7 +30,7 @@ pub enum Keyword {
 
 /// The first word of a statement that this word is.
 pub fn keyword_of(word: &str) -> Option<Keyword>
-    ensures { option_map keyword_view result ≡ words.keyword_of word.now }
+    ensures { option_map keyword_view result ≡ keywords.keyword_of word.now }
 {
     match word {
         "for" => Some(Keyword::For),

@@ -306,7 +306,7 @@ pub enum Detail<'s> {
     ReservedName(&'s str),
     /// An expression that is neither a variable, an attribute nor a list of such.
     NotATarget,
-    /// Expressions and statements nest deeper than 150.
+    /// Expressions and statements nest deeper than 300.
     TooDeep,
     /// A call has more than 2000 arguments.
     TooManyArguments,

@@ -90,14 +90,14 @@ fn rows_of_operators_are_compiled(rt: HostRuntime) -> Result<(), Fail> {
     let rows = r#"
 {{␠a | 100000 * +a | ␠}} => 200002
 {{␠a | 100000 * ~a | ␠}} => 200002
-{{␠a | 100000 * **a | ␠}} => 200002
 {{␠a | 100000 * //a | ␠}} => 200002
 {{␠a | 100000 * ␠and␠a | ␠}} => 200002
 {{␠a | 100000 * ␠or␠a | ␠}} => 200002
 {{␠a | 100000 * <a | ␠}} => 300004
 {{␠a | 100000 * ␠in␠a | ␠}} => 300004
-{{␠ | 100000 * not␠ | a␠}} => 100002
-{{␠ | 100000 * - | a␠}} => 100002
+{{␠a | 100000 * **a | ␠}} => refused
+{{␠ | 100000 * not␠ | a␠}} => refused
+{{␠ | 100000 * - | a␠}} => refused
 "#;
     hold::<Rows>(&rt, rt.alloc(), rows)
 }
@@ -113,8 +113,8 @@ fn rows_of_postfixes_are_compiled(rt: HostRuntime) -> Result<(), Fail> {
 {{␠a | 100000 * |f | ␠}} => 100002
 {{␠a | 100000 * |f(b) | ␠}} => 200002
 {{␠a | 100000 * ␠is␠t | ␠}} => 100002
-{{␠a | 100000 * ␠if␠b␠else␠c | ␠}} => 400002
 {{␠a | 100000 * ␠if␠b | ␠}} => 400002
+{{␠a | 100000 * ␠if␠b␠else␠c | ␠}} => refused
 "#;
     hold::<Rows>(&rt, rt.alloc(), rows)
 }
@@ -126,8 +126,8 @@ fn rows_of_operators_on_constants_are_folded(rt: HostRuntime) -> Result<(), Fail
 {{␠1 | 100000 * ␠and␠1 | ␠}} => 2
 {{␠1 | 100000 * ==1 | ␠}} => 2
 {{␠'a' | 1000 * ~'' | ␠}} => 2
-{{␠ | 100000 * not␠ | 1␠}} => 2
-{{␠ | 100000 * - | 1␠}} => 2
+{{␠ | 298 * not␠ | 1␠}} => 2
+{{␠ | 298 * - | 1␠}} => 2
 "#;
     hold::<Rows>(&rt, rt.alloc(), rows)
 }
@@ -143,21 +143,17 @@ fn many_statements_are_compiled(rt: HostRuntime) -> Result<(), Fail> {
     hold::<Rows>(&rt, rt.alloc(), rows)
 }
 
-/// Rows of parts that the rule of depth does not count.
+/// Rows of parts: those that nest are refused.
 #[test]
 fn rows_of_parts_of_statements_are_compiled(rt: HostRuntime) -> Result<(), Fail> {
     let rows = r#"
-{%if a%} | 50000 * {%elif a%} | {%endif%} => 150002
-{%if a%} | 50000 * x{%elif a%} | {%else%}y{%endif%} => 200004
-{%set␠ | 50000 * ( | a | 50000 * ) | =b%} => 2
-{%set␠ | 50000 * ( | a | 50000 * ,) | =b%} => 50002
-{%set␠ | 50000 * ( | a | 50000 * ,(b,)) | =b%} => 150002
-{%for␠ | 50000 * ( | a | 50000 * ,) | ␠in b%}{%endfor%} => 50006
 {%set a | 50000 * ,a | =b%} => 50003
 {%set a | 50000 * .b | =c%} => 50002
 {%set a | 50000 * |f | %}x{%endset%} => 50004
 {%filter f | 50000 * |f | %}x{%endfilter%} => 50005
 {%with a=b | 50000 * ,a=b | %}{%endwith%} => 100004
+{%if a%} | 50000 * {%elif a%} | {%endif%} => refused
+{%set␠ | 50000 * ( | a | 50000 * ) | =b%} => refused
 "#;
     hold::<Rows>(&rt, rt.alloc(), rows)
 }
@@ -171,9 +167,6 @@ fn rows_of_parts_in_macros_are_compiled(rt: HostRuntime) -> Result<(), Fail> {
 {%macro f(a=b | 50000 * ,a=b | )%}{%endmacro%} => 300013
 {%macro f()%}{{␠a | 50000 * +a | ␠}}{%endmacro%} => 100009
 {%macro f()%}{{␠a | 50000 * .b | ␠}}{%endmacro%} => 50009
-{%macro f()%}{{␠a | 50000 * ␠if␠b␠else␠c | ␠}}{%endmacro%} => 200011
-{%macro f()%}{%if a%} | 50000 * {%elif a%} | {%endif%}{%endmacro%} => 150009
-{%macro f()%}{%set␠ | 50000 * ( | a | 50000 * ,) | =b%}{%endmacro%} => 50009
 {%call f(a | 50000 * .b | )%}{%endcall%} => 50010
 {%from a import b | 50000 * ,b | %} => 100009
 10000 * {%macro f()%}{{a}}{%endmacro%} => 90000
@@ -183,16 +176,59 @@ fn rows_of_parts_in_macros_are_compiled(rt: HostRuntime) -> Result<(), Fail> {
     hold::<Rows>(&rt, rt.alloc(), rows)
 }
 
-/// The upstream program stops at the same depths.
+/// Each of these nests as deep as it may, and then one deeper.
 #[test]
-fn macros_nest_up_to_150_deep(rt: HostRuntime) -> Result<(), Fail> {
+fn expressions_nest_up_to_300_deep(rt: HostRuntime) -> Result<(), Fail> {
     let rows = r#"
-150 * {%macro f()%} | x | 150 * {%endmacro%} => 901
-151 * {%macro f()%} | x | 151 * {%endmacro%} => refused
-148 * {%macro f(a=b)%} | x | 148 * {%endmacro%} => 1925
-149 * {%macro f(a=b)%} | x | 149 * {%endmacro%} => refused
-148 * {%call f()%} | x | 148 * {%endcall%} => 1480
-149 * {%call f()%} | x | 149 * {%endcall%} => refused
+{{␠a | 298 * **a | ␠}} => 598
+{{␠a | 299 * **a | ␠}} => refused
+{{␠ | 298 * not␠ | a␠}} => 300
+{{␠ | 299 * not␠ | a␠}} => refused
+{{␠ | 298 * - | a␠}} => 300
+{{␠ | 299 * - | a␠}} => refused
+{{␠a | 298 * ␠if␠b␠else␠c | ␠}} => 1194
+{{␠a | 299 * ␠if␠b␠else␠c | ␠}} => refused
+{%macro f()%}{{␠a | 297 * ␠if␠b␠else␠c | ␠}}{%endmacro%} => 1199
+{%macro f()%}{{␠a | 298 * ␠if␠b␠else␠c | ␠}}{%endmacro%} => refused
+"#;
+    hold::<Rows>(&rt, rt.alloc(), rows)
+}
+
+#[test]
+fn statements_nest_up_to_300_deep(rt: HostRuntime) -> Result<(), Fail> {
+    let rows = r#"
+299 * {%if a%} | x | 299 * {%endif%} => 599
+300 * {%if a%} | x | 300 * {%endif%} => refused
+{%if a%} | 298 * {%elif a%} | {%endif%} => 896
+{%if a%} | 299 * {%elif a%} | {%endif%} => refused
+{%if a%} | 298 * x{%elif a%} | {%else%}y{%endif%} => 1196
+{%if a%} | 299 * x{%elif a%} | {%else%}y{%endif%} => refused
+{%macro f()%}{%if a%} | 297 * {%elif a%} | {%endif%}{%endmacro%} => 900
+{%macro f()%}{%if a%} | 298 * {%elif a%} | {%endif%}{%endmacro%} => refused
+300 * {%macro f()%} | x | 300 * {%endmacro%} => 1801
+301 * {%macro f()%} | x | 301 * {%endmacro%} => refused
+298 * {%macro f(a=b)%} | x | 298 * {%endmacro%} => 3875
+299 * {%macro f(a=b)%} | x | 299 * {%endmacro%} => refused
+298 * {%call f()%} | x | 298 * {%endcall%} => 2980
+299 * {%call f()%} | x | 299 * {%endcall%} => refused
+"#;
+    hold::<Rows>(&rt, rt.alloc(), rows)
+}
+
+#[test]
+fn targets_nest_up_to_300_deep(rt: HostRuntime) -> Result<(), Fail> {
+    let rows = r#"
+{%set␠ | 299 * ( | a | 299 * ) | =b%} => 2
+{%set␠ | 300 * ( | a | 300 * ) | =b%} => refused
+{%set␠ | 299 * ( | a | 299 * ,) | =b%} => 301
+{%set␠ | 298 * ( | a | 298 * ,(b,)) | =b%} => 896
+{%set␠ | 299 * ( | a | 299 * ,(b,)) | =b%} => refused
+{%for␠ | 299 * ( | a | 299 * ,) | ␠in b%}{%endfor%} => 305
+{%for␠ | 300 * ( | a | 300 * ,) | ␠in b%}{%endfor%} => refused
+{%with␠ | 299 * ( | a | 299 * ) | =b%}{%endwith%} => 4
+{%with␠ | 300 * ( | a | 300 * ) | =b%}{%endwith%} => refused
+{%macro f()%}{%set␠ | 298 * ( | a | 298 * ,) | =b%}{%endmacro%} => 307
+{%macro f()%}{%set␠ | 299 * ( | a | 299 * ,) | =b%}{%endmacro%} => refused
 "#;
     hold::<Rows>(&rt, rt.alloc(), rows)
 }

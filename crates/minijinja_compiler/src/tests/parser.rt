@@ -151,14 +151,22 @@ impl Subject for LongExpressions {
 }
 
 #[test]
-fn nests_up_to_150_deep(rt: HostRuntime) -> Result<(), Fail> {
+fn nests_up_to_300_deep(rt: HostRuntime) -> Result<(), Fail> {
     let rows = r#"
-74 * ( | x | 74 * )
-75 * ( | x | 75 * ) => SyntaxError
-148 * x[ | x | 148 * ]
-149 * x[ | x | 149 * ] => SyntaxError
-200 * not␠ | x
-200 * - | x
+149 * ( | x | 149 * )
+150 * ( | x | 150 * ) => SyntaxError
+298 * x[ | x | 298 * ]
+299 * x[ | x | 299 * ] => SyntaxError
+298 * not␠ | x
+299 * not␠ | x => SyntaxError
+298 * - | x
+299 * - | x => SyntaxError
+x | 298 * **x
+x | 299 * **x => SyntaxError
+x | 298 * ␠if␠x␠else␠x
+x | 299 * ␠if␠x␠else␠x => SyntaxError
+x | 400 * ␠if␠x
+x | 400 * +x
 "#;
     hold::<LongExpressions>(&rt, rt.alloc(), rows)
 }

@@ -40,6 +40,7 @@ fn what_was_found_is_named_in_expressions(rt: HostRuntime) -> Result<(), Fail> {
 {{ {a} }} => unexpected `}`, expected `:`, 1:5
 {{ {a: 1 b} }} => unexpected `b`, expected `}`, 1:9
 {{ f(a b) }} => unexpected `b`, expected `)`, 1:7
+{{ f(a.b=1) }} => unexpected `=`, expected `)`, 1:8
 {{ f(a=1, b) }} => non-keyword arg after keyword arg, 1:10
 {{ a. }} => unexpected end of variable block, expected identifier, 1:6
 {{ a.) }} => unexpected `)`, expected identifier, 1:5

@@ -1,24 +1,30 @@
 -- Levels of operators as rows, the loosest first, and what follows an operand by the operators of
 -- some of them.
-use Rattle.std.specs.Prelude.{◌≡◌, List, [], ◌∷◌, Bool, true, false, if◌then◌else◌, Option, Some, None, is_some}
+use Rattle.std.specs.Prelude.{◌≡◌, List, [], ◌∷◌, Bool, false, if◌then◌else◌, Option, Some, None, is_some}
 use Rattle.std.specs.Option.{option_map}
 use Rattle.minijinja_syntax.specs.declared.tokens.Span.{Span}
 use Rattle.minijinja_syntax.specs.Tokens.{Tok}
 use Rattle.minijinja_tree.specs.BinOps.{BinOp}
 use Rattle.minijinja_tree.specs.Tree.{logical_not}
 use Rattle.minijinja_tree.specs.SpannedTrees.{Expr, binary}
-use Rattle.minijinja_grammar.specs.Words.{is, not_word, or_op, and_op, sum_op, cat_op, term_op, pow_op, begins_comparison}
+use Rattle.minijinja_grammar.specs.Words.{is, not_word, or_op, and_op, sum_op, cat_op, term_op, begins_comparison}
 use Rattle.minijinja_syntax.specs.Streams.{SpannedTok}
-use Rattle.minijinja_grammar.specs.Forms.{Place, Read, got, read_then, reads, Form, Turn, go_on, over, pure, one, last, many, and_then, comes, ◌>>=◌, ◌>>◌}
-use Rattle.minijinja_grammar.specs.Grammar.{held, of_kind, expanded, spanned, level, comparison, compare_all, compared_level, prefixed}
+use Rattle.minijinja_grammar.specs.Places.{Place}
+use Rattle.minijinja_grammar.specs.internal.Forms.{Read, got, read_then, reads, Form, go_on, pure, one, either, many, ◌>>=◌}
+use Rattle.minijinja_grammar.specs.Ahead.{comes, held}
+use Rattle.minijinja_grammar.specs.internal.ExprForms.{Below, of_kind, expanded, spanned, prefixed, level, comparison, compare_all, compared_level}
 
 pub data Row : Type 0 where
   binaries : (Tok → Option BinOp) → Row
   comparing : Row
 
+-- from comparisons on
+abbrev pub not_rows : List Row
+not_rows = comparing ∷ binaries sum_op ∷ binaries cat_op ∷ binaries term_op ∷ []
+
 -- from `or` on
 abbrev pub all_rows : List Row
-all_rows = binaries or_op ∷ binaries and_op ∷ comparing ∷ binaries sum_op ∷ binaries cat_op ∷ binaries term_op ∷ binaries pow_op ∷ []
+all_rows = binaries or_op ∷ binaries and_op ∷ not_rows
 
 -- whether the token begins an operator of the row
 abbrev pub begins_row : Row → Tok → Bool
@@ -38,12 +44,16 @@ operators op f from l = many (held op) (λ l o. f >>= (λ r. spanned from (λ s.
 abbrev pub comparisons : {C : Type 0} → Form (Expr C) → Span → Expr C → Form (Expr C)
 comparisons sum from e = many (of_kind begins_comparison) (comparison sum) [] >>= (λ cs. spanned from (compare_all e cs))
 
-module _ {C : Type 0} (operand : Form (Expr C)) where
+-- what begins with `not`, over what nests
+abbrev pub negation_in : {C : Type 0} → Below C → Form (Expr C)
+negation_in b = prefixed not_word logical_not b.opposite
+
+module _ {C : Type 0} (negation operand : Form (Expr C)) where
   -- the level of the first row
   abbrev pub level_of : List Row → Form (Expr C)
   level_of [] = operand
   level_of (binaries op ∷ rows) = level op (level_of rows)
-  level_of (comparing ∷ rows) = prefixed not_word logical_not (compared_level (level_of rows))
+  level_of (comparing ∷ rows) = either (is not_word) negation (compared_level (level_of rows))
 
   -- what follows an operand, at the level of the first row; `from` is where the operand begins, and
   -- `before` the token before it
@@ -73,15 +83,15 @@ abbrev pub next_infix : List Row → List SpannedTok → Option Infix
 next_infix rows [] = None
 next_infix rows (t ∷ ts) = infix_in rows t.0
 
-module _ {C : Type 0} (operand : Form (Expr C)) where
+module _ {C : Type 0} (negation operand : Form (Expr C)) where
   -- an operator and its right side, after a left side, or all comparisons that come
   unfoldable pub operation : Infix → (from before : Span) → Expr C → Place → Read (Expr C)
   operation (binary_of o rows) from before x p = read_then (reads (one Some) p) (λ t q.
-      read_then (reads (level_of operand rows) q) (λ r s. got (binary o x r (expanded from s.last)) s))
-  operation (comparing_of rows) from before x p = reads (comparisons (level_of operand rows) before x) p
+      read_then (reads (level_of negation operand rows) q) (λ r s. got (binary o x r (expanded from s.last)) s))
+  operation (comparing_of rows) from before x p = reads (comparisons (level_of negation operand rows) before x) p
 
-  -- the first operand of a level: all of a negation, where `not` comes in a level that has it
+  -- the first operand of a level: a negation, where `not` comes in a level that has it
   abbrev pub first_of : List Row → Place → Read (Expr C)
   first_of [] p = reads operand p
   first_of (binaries op ∷ rows) p = first_of rows p
-  first_of (comparing ∷ rows) p = if comes (is not_word) p.tokens then reads (level_of operand (comparing ∷ rows)) p else first_of rows p
+  first_of (comparing ∷ rows) p = if comes (is not_word) p.tokens then reads negation p else first_of rows p

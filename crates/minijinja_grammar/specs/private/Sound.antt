@@ -1,9 +1,7 @@
 -- Where the nodes of a tree stand, and that it is whole, in one.
-use Rattle.std.specs.Prelude.{◌≡◌, ◌≤◌, List, [], ◌∷◌, Option, Some, None}
-use Rattle.minijinja_syntax.specs.Texts.{Text}
-use Rattle.minijinja_syntax.specs.Tokens.{Tok, ident}
+use Rattle.std.specs.Prelude.{◌≡◌, ◌≤◌}
+use Rattle.minijinja_syntax.specs.Tokens.{ident}
 use Rattle.minijinja_syntax.specs.declared.tokens.Span.{Span}
-use Rattle.minijinja_tree.specs.CompareOps.{CompareOp}
 use Rattle.minijinja_syntax.specs.Streams.{SpannedTok}
 use Rattle.minijinja_tree.specs.SpannedTrees.{Expr, variable, constant, slice, unary, binary, compare, if_expr, filter, test, attribute, item, call, list, tuple, map, Optional, absent, present, Exprs, no_more, more, Comparisons, compared, against, Args, no_args, pos, pos_splat, kwarg, kwarg_splat, bare_exprs, bare_comparisons, bare_args}
 use Rattle.minijinja_tree.specs.WellFormed.{IsChain, arg_count, expr_count, most_arguments}

@@ -4,7 +4,8 @@ use Rattle.minijinja_syntax.specs.Errors.{kind_of, span_of}
 use Rattle.minijinja_syntax.specs.Streams.{Ending, finished, refused}
 use Rattle.minijinja_syntax.specs.declared.error.Error.{Error}
 use Rattle.minijinja_syntax.specs.declared.error.ErrorKind.TheVariants.{OutOfMemory, SyntaxError}
-use Rattle.minijinja_grammar.specs.Forms.{Place, Read, got, short, wrong}
+use Rattle.minijinja_grammar.specs.Places.{Place}
+use Rattle.minijinja_grammar.specs.internal.Forms.{Read, got, short, wrong}
 use Rattle.minijinja_parser_tokens.specs.declared.refusal.Refusal.{Refusal}
 use Rattle.minijinja_parser_tokens.specs.declared.refusal.Refusal.TheVariants as refusal
 

@@ -1,14 +1,14 @@
 //! The arguments of calls, filters and tests.
 ghost use Rattle.std.specs.Prelude.{◌≡◌, ◌&&◌, List, [], length, map, IfSome, is_none, if◌then◌else◌};
-ghost use Rattle.minijinja_grammar.specs.Forms.{reads};
-ghost use Rattle.minijinja_grammar.specs.Grammar as form;
-ghost use Rattle.minijinja_grammar.specs.Grammar.{expr_at, has_named, is_allowed};
+ghost use Rattle.minijinja_grammar.specs.internal.Forms.{reads};
+ghost use Rattle.minijinja_grammar.specs.internal.ExprForms as form;
+ghost use Rattle.minijinja_grammar.specs.internal.ExprForms.{expr_at, has_named, is_allowed};
 ghost use Rattle.minijinja_parser_expr.specs.private.Made.{argument_of};
 ghost use Rattle.minijinja_parser_expr.specs.private.Nests.{Nests, Parses};
 ghost use Rattle.minijinja_tree.specs.SpannedTrees.{Arg};
 
 use crate::builder::{Argument, ExprBuilder};
-use crate::rules::ExprRules;
+use crate::rules::{ExprRules, Nest};
 use minijinja_parser_tokens::marks::{Mark, Part};
 use minijinja_parser_tokens::refusal::{Refusal, Wanted};
 use minijinja_parser_tokens::tokens::Tokens;
@@ -52,13 +52,19 @@ fn fault<N: ExprBuilder>(
 impl<
     N: ExprBuilder,
     F: Copy
-        + for<'x> Fn(N, &'x mut N::Input, PhantomData<N::Expr>, usize) -> Result<N::Expr, Refusal>,
+        + for<'x> Fn(
+            N,
+            &'x mut N::Input,
+            PhantomData<N::Expr>,
+            Nest,
+            usize,
+        ) -> Result<N::Expr, Refusal>,
 > ExprRules<N, F> {
     /// Reads the arguments in parentheses, after the opening one.
-    #[tactic(auto, unfolding(minijinja_grammar::specs::Forms::reads, minijinja_grammar::specs::Grammar::args))]
+    #[tactic(auto, unfolding(minijinja_grammar::specs::internal::Forms::reads, minijinja_grammar::specs::internal::ExprForms::args))]
     pub(crate) fn args(&self, tokens: &mut N::Input) -> Result<Vec<N::Arg>, Refusal>
         requires { Nests N.Input.place N.tree N.functions self.now.depth F.pre F.post
-            self.now.expr }
+            self.now.parser }
         ensures { Parses N.Input.place (λ v. map N.arg v.items) (form.args (expr_at N.functions
             self.now.depth)) tokens.old result tokens.new }
     {
@@ -71,7 +77,7 @@ impl<
     #[tactic(auto, using(crate::proofs::CallArgs::arg_items_more, crate::proofs::CallArgs::arg_items_done))]
     fn arg_items(&self, tokens: &mut N::Input) -> Result<Vec<N::Arg>, Refusal>
         requires { Nests N.Input.place N.tree N.functions self.now.depth F.pre F.post
-            self.now.expr }
+            self.now.parser }
         ensures { Parses N.Input.place (λ v. map N.arg v.items) (form.arg_items (expr_at N.functions
             self.now.depth) []) tokens.old result tokens.new }
     {
@@ -94,7 +100,7 @@ impl<
     /// Reads an argument.
     fn arg(&self, tokens: &mut N::Input) -> Result<Argument<N::Name, N::Expr>, Refusal>
         requires { Nests N.Input.place N.tree N.functions self.now.depth F.pre F.post
-            self.now.expr }
+            self.now.parser }
         ensures { Parses N.Input.place (argument_of N.text N.tree) (form.arg (expr_at N.functions
             self.now.depth)) tokens.old result tokens.new }
     {
@@ -115,16 +121,16 @@ impl<
         expr: N::Expr,
     ) -> Result<Argument<N::Name, N::Expr>, Refusal>
         requires { Nests N.Input.place N.tree N.functions self.now.depth F.pre F.post
-            self.now.expr }
+            self.now.parser }
         ensures { Parses N.Input.place (argument_of N.text N.tree) (form.rest_of_arg (expr_at
             N.functions self.now.depth) (N.tree expr)) tokens.old result tokens.new }
     {
-        let Some(name) = N::variable_name(&expr) else {
-            return Ok(Argument::Positional(expr));
-        };
         if !tokens.eat(Mark::Assign)? {
             return Ok(Argument::Positional(expr));
         }
+        let Some(name) = N::variable_name(&expr) else {
+            return Err(tokens.misfit(Wanted::Mark(Mark::ParenClose)));
+        };
         Ok(Argument::Keyword(name, self.nested(tokens)?))
     }
 
@@ -132,7 +138,7 @@ impl<
     #[tactic(auto, using(crate::proofs::Following::maybe_args_is))]
     pub(crate) fn maybe_args(&self, tokens: &mut N::Input) -> Result<Vec<N::Arg>, Refusal>
         requires { Nests N.Input.place N.tree N.functions self.now.depth F.pre F.post
-            self.now.expr }
+            self.now.parser }
         ensures { Parses N.Input.place (λ v. map N.arg v.items) (form.maybe_args (expr_at
             N.functions self.now.depth)) tokens.old result tokens.new }
     {

@@ -1,13 +1,13 @@
 //! Expressions in statements: with a tuple, without an `if` part, and chains of filters.
 ghost use Rattle.std.specs.Option.{option_map};
-ghost use Rattle.minijinja_grammar.specs.Grammar.{expr_at};
-ghost use Rattle.minijinja_grammar.specs.Statements as form;
+ghost use Rattle.minijinja_grammar.specs.internal.ExprForms.{expr_at};
+ghost use Rattle.minijinja_grammar.specs.internal.StmtForms as form;
 ghost use Rattle.minijinja_parser_expr.specs.private.Nests.{Nests, Parses};
 ghost use Rattle.minijinja_parser_tokens.specs.internal.Forms.{plain_of};
 
 use crate::builder::{ExprBuilder, Node};
-use crate::rules::ExprRules;
-use crate::rules::if_exprs::expr;
+use crate::rules::nested::nested;
+use crate::rules::{ExprRules, Nest};
 use minijinja_parser_tokens::forms::ExprForm;
 use minijinja_parser_tokens::marks::Mark;
 use minijinja_parser_tokens::operators::Level;
@@ -16,7 +16,7 @@ use minijinja_parser_tokens::tokens::Tokens;
 use minijinja_syntax::tokens::Span;
 use std::marker::PhantomData;
 
-/// Reads an expression of the form, in which expressions and primaries nest `depth` deep at most.
+/// Reads an expression of the form, in which parts nest `depth` deep at most.
 /// Where a call or an expression to store to is wanted, it reads any expression.
 pub fn expression<N: ExprBuilder>(
     builder: N,
@@ -29,7 +29,7 @@ pub fn expression<N: ExprBuilder>(
 {
     match form {
         ExprForm::Full | ExprForm::Call | ExprForm::Storable => {
-            expr(builder, tokens, PhantomData, depth)
+            nested(builder, tokens, PhantomData, Nest::Expr, depth)
         }
         ExprForm::Or => or(builder, tokens, depth),
         ExprForm::Value => value(builder, tokens, depth),
@@ -37,8 +37,8 @@ pub fn expression<N: ExprBuilder>(
     }
 }
 
-/// Reads an expression without an `if` part at its end, in which expressions and primaries nest
-/// `depth` deep at most.
+/// Reads an expression without an `if` part at its end, in which parts nest `depth` deep at most.
+#[tactic(auto, using(crate::proofs::Ifs::or_is))]
 fn or<N: ExprBuilder>(builder: N, tokens: &mut N::Input, depth: usize) -> Result<N::Expr, Refusal>
     ensures { Parses N.Input.place N.tree (form.or_at N.functions depth) tokens.old result
         tokens.new }
@@ -46,14 +46,14 @@ fn or<N: ExprBuilder>(builder: N, tokens: &mut N::Input, depth: usize) -> Result
     let rules = ExprRules {
         builder,
         depth,
-        expr: expr::<N>,
+        parser: nested::<N>,
     };
     rules.level(tokens, Level::Or)
 }
 
-/// Reads an expression, or a tuple where a comma follows it, in which expressions and primaries
-/// nest `depth` deep at most.
-#[tactic(auto, using(minijinja_parser_tokens::proofs::Turned::behind_is), unfolding(minijinja_grammar::specs::Forms::reads, minijinja_grammar::specs::Statements::value))]
+/// Reads an expression, or a tuple where a comma follows it, in which parts nest `depth` deep at
+/// most.
+#[tactic(auto, using(minijinja_parser_tokens::proofs::Turned::behind_is), unfolding(minijinja_grammar::specs::internal::Forms::reads, minijinja_grammar::specs::internal::StmtForms::value))]
 fn value<N: ExprBuilder>(
     builder: N,
     tokens: &mut N::Input,
@@ -62,7 +62,7 @@ fn value<N: ExprBuilder>(
     ensures { Parses N.Input.place N.tree (form.value (expr_at N.functions depth)) tokens.old result
         tokens.new }
 {
-    let first = expr(builder, tokens, PhantomData, depth)?;
+    let first = nested(builder, tokens, PhantomData, Nest::Expr, depth)?;
     if !tokens.eat(Mark::Comma)? {
         return Ok(first);
     }
@@ -70,7 +70,7 @@ fn value<N: ExprBuilder>(
     let rules = ExprRules {
         builder,
         depth,
-        expr: expr::<N>,
+        parser: nested::<N>,
     };
     let mut items = Vec::new(builder.alloc());
     items.push(first)?;
@@ -79,8 +79,8 @@ fn value<N: ExprBuilder>(
     Ok(builder.node(Node::Tuple(items), span)?)
 }
 
-/// Reads a chain of filters, the innermost of which has no operand, in which expressions and
-/// primaries nest `depth` deep at most.
+/// Reads a chain of filters, the innermost of which has no operand, in which parts nest `depth` deep
+/// at most.
 #[tactic(auto, using(crate::proofs::FilterChains::chain_is, crate::proofs::FilterChains::links_is))]
 fn chain<N: ExprBuilder>(
     builder: N,
@@ -93,7 +93,7 @@ fn chain<N: ExprBuilder>(
     let rules = ExprRules {
         builder,
         depth,
-        expr: expr::<N>,
+        parser: nested::<N>,
     };
     let mut chain = rules.link(tokens, None)?;
     while tokens.eat(Mark::Pipe)? {
@@ -105,13 +105,19 @@ fn chain<N: ExprBuilder>(
 impl<
     N: ExprBuilder,
     F: Copy
-        + for<'x> Fn(N, &'x mut N::Input, PhantomData<N::Expr>, usize) -> Result<N::Expr, Refusal>,
+        + for<'x> Fn(
+            N,
+            &'x mut N::Input,
+            PhantomData<N::Expr>,
+            Nest,
+            usize,
+        ) -> Result<N::Expr, Refusal>,
 > ExprRules<N, F> {
     /// Reads a filter of a chain, whose operand is the filter before it.
-    #[tactic(auto, unfolding(minijinja_grammar::specs::Forms::reads, minijinja_grammar::specs::Statements::chained))]
+    #[tactic(auto, unfolding(minijinja_grammar::specs::internal::Forms::reads, minijinja_grammar::specs::internal::StmtForms::chained))]
     fn link(&self, tokens: &mut N::Input, operand: Option<N::Expr>) -> Result<N::Expr, Refusal>
         requires { Nests N.Input.place N.tree N.functions self.now.depth F.pre F.post
-            self.now.expr }
+            self.now.parser }
         ensures { Parses N.Input.place N.tree (form.chained (expr_at N.functions self.now.depth)
             (option_map N.tree operand)) tokens.old result tokens.new }
     {

@@ -1,14 +1,14 @@
 //! Primaries: variables, constants, and expressions in brackets, braces or parentheses.
 ghost use Rattle.std.specs.Prelude.{[], map};
-ghost use Rattle.minijinja_grammar.specs.Forms.{reads};
-ghost use Rattle.minijinja_grammar.specs.Grammar as form;
-ghost use Rattle.minijinja_grammar.specs.Grammar.{expr_at, primary_at};
+ghost use Rattle.minijinja_grammar.specs.internal.Forms.{reads};
+ghost use Rattle.minijinja_grammar.specs.internal.ExprForms as form;
+ghost use Rattle.minijinja_grammar.specs.internal.ExprForms.{expr_at};
 ghost use Rattle.minijinja_parser_expr.specs.private.Nests.{Nests, Parses};
 ghost use Rattle.minijinja_parser_tokens.specs.internal.Reads.{Reads};
-ghost use Rattle.minijinja_parser_expr.specs.private.Primaries.{begun_at};
+ghost use Rattle.minijinja_parser_expr.specs.private.Primaries.{begun_at, primary_at};
 
 use crate::builder::{ExprBuilder, Node};
-use crate::rules::ExprRules;
+use crate::rules::{ExprRules, Nest};
 use minijinja_parser_tokens::marks::{Mark, Part};
 use minijinja_parser_tokens::refusal::{Refusal, Wanted};
 use minijinja_parser_tokens::tokens::Tokens;
@@ -19,14 +19,20 @@ use std::marker::PhantomData;
 impl<
     N: ExprBuilder,
     F: Copy
-        + for<'x> Fn(N, &'x mut N::Input, PhantomData<N::Expr>, usize) -> Result<N::Expr, Refusal>,
+        + for<'x> Fn(
+            N,
+            &'x mut N::Input,
+            PhantomData<N::Expr>,
+            Nest,
+            usize,
+        ) -> Result<N::Expr, Refusal>,
 > ExprRules<N, F> {
     /// Reads a primary: a variable, a constant, a list, a map, or an expression or a tuple in
     /// parentheses.
     #[tactic(auto, using(crate::proofs::Primaries::primary_is, crate::proofs::Primaries::too_deep))]
     pub(crate) fn primary(&self, tokens: &mut N::Input) -> Result<N::Expr, Refusal>
         requires { Nests N.Input.place N.tree N.functions self.now.depth F.pre F.post
-            self.now.expr }
+            self.now.parser }
         ensures { Parses N.Input.place N.tree (primary_at N.functions self.now.depth) tokens.old
             result tokens.new }
     {
@@ -37,13 +43,13 @@ impl<
         let inner = ExprRules {
             builder: self.builder,
             depth: self.depth - 1,
-            expr: self.expr,
+            parser: self.parser,
         };
         inner.begun(tokens, token, from)
     }
 
     /// Reads the rest of a primary that begins with the token.
-    #[tactic(auto, unfolding(minijinja_grammar::specs::Forms::reads))]
+    #[tactic(auto, unfolding(minijinja_grammar::specs::internal::Forms::reads))]
     fn begun(
         &self,
         tokens: &mut N::Input,
@@ -51,7 +57,7 @@ impl<
         from: Span,
     ) -> Result<N::Expr, Refusal>
         requires { Nests N.Input.place N.tree N.functions self.now.depth F.pre F.post
-            self.now.expr }
+            self.now.parser }
         ensures { Reads N.tree (begun_at N.functions self.now.depth (N.Input.tok token, from)
             (N.Input.place tokens.old)) result (N.Input.place tokens.new) }
     {
@@ -71,7 +77,7 @@ impl<
     #[tactic(auto, using(crate::proofs::Following::group_is))]
     fn group(&self, tokens: &mut N::Input, from: Span) -> Result<N::Expr, Refusal>
         requires { Nests N.Input.place N.tree N.functions self.now.depth F.pre F.post
-            self.now.expr }
+            self.now.parser }
         ensures { Parses N.Input.place N.tree (form.group (expr_at N.functions self.now.depth) from)
             tokens.old result tokens.new }
     {
@@ -93,7 +99,7 @@ impl<
         expr: N::Expr,
     ) -> Result<N::Expr, Refusal>
         requires { Nests N.Input.place N.tree N.functions self.now.depth F.pre F.post
-            self.now.expr }
+            self.now.parser }
         ensures { Parses N.Input.place N.tree (form.rest_of_group (expr_at N.functions
             self.now.depth) from (N.tree expr)) tokens.old result tokens.new }
     {
@@ -113,7 +119,7 @@ impl<
         first: N::Expr,
     ) -> Result<N::Expr, Refusal>
         requires { Nests N.Input.place N.tree N.functions self.now.depth F.pre F.post
-            self.now.expr }
+            self.now.parser }
         ensures { Parses N.Input.place N.tree (form.rest_of_tuple (expr_at N.functions
             self.now.depth) from (N.tree first)) tokens.old result tokens.new }
     {
@@ -128,7 +134,7 @@ impl<
     #[tactic(auto, using(crate::proofs::Following::in_brackets_is))]
     fn list(&self, tokens: &mut N::Input, from: Span) -> Result<N::Expr, Refusal>
         requires { Nests N.Input.place N.tree N.functions self.now.depth F.pre F.post
-            self.now.expr }
+            self.now.parser }
         ensures { Parses N.Input.place N.tree (form.in_brackets (expr_at N.functions self.now.depth)
             from) tokens.old result tokens.new }
     {
@@ -145,7 +151,7 @@ impl<
         items: Vec<N::Expr>,
     ) -> Result<Vec<N::Expr>, Refusal>
         requires { Nests N.Input.place N.tree N.functions self.now.depth F.pre F.post
-            self.now.expr }
+            self.now.parser }
         ensures { Parses N.Input.place (λ v. map N.tree v.items) (form.exprs (expr_at N.functions
             self.now.depth) (map N.tree items.items)) tokens.old result tokens.new }
     {
@@ -163,7 +169,7 @@ impl<
     #[tactic(auto, using(crate::proofs::Following::in_braces_is))]
     fn map(&self, tokens: &mut N::Input, from: Span) -> Result<N::Expr, Refusal>
         requires { Nests N.Input.place N.tree N.functions self.now.depth F.pre F.post
-            self.now.expr }
+            self.now.parser }
         ensures { Parses N.Input.place N.tree (form.in_braces (expr_at N.functions self.now.depth)
             from) tokens.old result tokens.new }
     {
@@ -176,7 +182,7 @@ impl<
     #[tactic(auto, using(crate::proofs::Entries::entries_more, crate::proofs::Entries::entries_done))]
     fn entries(&self, tokens: &mut N::Input) -> Result<(Vec<N::Expr>, Vec<N::Expr>), Refusal>
         requires { Nests N.Input.place N.tree N.functions self.now.depth F.pre F.post
-            self.now.expr }
+            self.now.parser }
         ensures { Parses N.Input.place (λ kvs. (map N.tree kvs.0.items, map N.tree kvs.1.items))
             (form.entries (expr_at N.functions self.now.depth) ([], [])) tokens.old result
             tokens.new }

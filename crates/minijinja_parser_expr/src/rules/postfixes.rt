@@ -1,12 +1,12 @@
 //! Postfixes: attributes, items, slices and calls, after a primary.
 ghost use Rattle.std.specs.Option.{option_map};
-ghost use Rattle.minijinja_grammar.specs.Forms.{reads};
-ghost use Rattle.minijinja_grammar.specs.Grammar as form;
-ghost use Rattle.minijinja_grammar.specs.Grammar.{expr_at, primary_at};
+ghost use Rattle.minijinja_grammar.specs.internal.Forms.{reads};
+ghost use Rattle.minijinja_grammar.specs.internal.ExprForms as form;
+ghost use Rattle.minijinja_grammar.specs.internal.ExprForms.{below, expr_at};
 ghost use Rattle.minijinja_parser_expr.specs.private.Nests.{Nests, Parses};
 
 use crate::builder::{ExprBuilder, Node};
-use crate::rules::ExprRules;
+use crate::rules::{ExprRules, Nest};
 use minijinja_parser_tokens::marks::{Mark, Part};
 use minijinja_parser_tokens::refusal::{Refusal, Wanted};
 use minijinja_parser_tokens::tokens::Tokens;
@@ -17,15 +17,20 @@ use std::marker::PhantomData;
 impl<
     N: ExprBuilder,
     F: Copy
-        + for<'x> Fn(N, &'x mut N::Input, PhantomData<N::Expr>, usize) -> Result<N::Expr, Refusal>,
+        + for<'x> Fn(
+            N,
+            &'x mut N::Input,
+            PhantomData<N::Expr>,
+            Nest,
+            usize,
+        ) -> Result<N::Expr, Refusal>,
 > ExprRules<N, F> {
     /// Reads a primary and its postfixes.
     #[tactic(auto, using(crate::proofs::Operands::postfixed_is, crate::proofs::Operands::postfixed_more, crate::proofs::Operands::postfixed_done, crate::proofs::Operands::taken_shorter))]
     pub(crate) fn postfixed(&self, tokens: &mut N::Input) -> Result<N::Expr, Refusal>
         requires { Nests N.Input.place N.tree N.functions self.now.depth F.pre F.post
-            self.now.expr }
-        ensures { Parses N.Input.place N.tree (form.postfixed N.functions (expr_at N.functions
-            self.now.depth) (primary_at N.functions self.now.depth)) tokens.old result tokens.new }
+            self.now.parser }
+        ensures { Parses N.Input.place N.tree (form.postfixed N.functions (below N.functions self.now.depth)) tokens.old result tokens.new }
     {
         let mut from = tokens.current_span();
         let mut expr = self.primary(tokens)?;
@@ -47,7 +52,7 @@ impl<
         token: &<N::Input as Tokens>::Token,
     ) -> Result<N::Expr, Refusal>
         requires { Nests N.Input.place N.tree N.functions self.now.depth F.pre F.post
-            self.now.expr }
+            self.now.parser }
         ensures { Parses N.Input.place N.tree (form.postfix (expr_at N.functions self.now.depth)
             N.functions (N.tree expr) from (N.Input.tok token.now)) tokens.old result tokens.new }
     {
@@ -70,7 +75,7 @@ impl<
         from: Span,
     ) -> Result<N::Expr, Refusal>
         requires { Nests N.Input.place N.tree N.functions self.now.depth F.pre F.post
-            self.now.expr }
+            self.now.parser }
         ensures { Parses N.Input.place N.tree (form.subscript (expr_at N.functions self.now.depth)
             (N.tree expr) from) tokens.old result tokens.new }
     {
@@ -91,7 +96,7 @@ impl<
         index: N::Expr,
     ) -> Result<N::Expr, Refusal>
         requires { Nests N.Input.place N.tree N.functions self.now.depth F.pre F.post
-            self.now.expr }
+            self.now.parser }
         ensures { Parses N.Input.place N.tree (form.rest_of_subscript (expr_at N.functions
             self.now.depth) (N.tree expr) from (N.tree index)) tokens.old result tokens.new }
     {
@@ -112,7 +117,7 @@ impl<
         start: Option<N::Expr>,
     ) -> Result<N::Expr, Refusal>
         requires { Nests N.Input.place N.tree N.functions self.now.depth F.pre F.post
-            self.now.expr }
+            self.now.parser }
         ensures { Parses N.Input.place N.tree (form.range (expr_at N.functions self.now.depth)
             (N.tree expr) from (option_map N.tree start)) tokens.old result tokens.new }
     {
@@ -126,7 +131,7 @@ impl<
     #[tactic(auto, using(crate::proofs::Following::step_is))]
     fn step(&self, tokens: &mut N::Input) -> Result<Option<N::Expr>, Refusal>
         requires { Nests N.Input.place N.tree N.functions self.now.depth F.pre F.post
-            self.now.expr }
+            self.now.parser }
         ensures { Parses N.Input.place (option_map N.tree) (form.step (expr_at N.functions
             self.now.depth)) tokens.old result tokens.new }
     {
@@ -137,10 +142,10 @@ impl<
     }
 
     /// Reads an expression, if one begins.
-    #[tactic(auto, unfolding(minijinja_grammar::specs::Forms::reads))]
+    #[tactic(auto, unfolding(minijinja_grammar::specs::internal::Forms::reads))]
     fn maybe_expr(&self, tokens: &mut N::Input) -> Result<Option<N::Expr>, Refusal>
         requires { Nests N.Input.place N.tree N.functions self.now.depth F.pre F.post
-            self.now.expr }
+            self.now.parser }
         ensures { Parses N.Input.place (option_map N.tree) (form.maybe_expr (expr_at N.functions
             self.now.depth)) tokens.old result tokens.new }
     {

@@ -1,11 +1,11 @@
 //! Suffixes: filters and tests, after an operand.
 ghost use Rattle.std.specs.Prelude.{map};
-ghost use Rattle.minijinja_grammar.specs.Grammar as form;
-ghost use Rattle.minijinja_grammar.specs.Grammar.{expr_at, primary_at};
+ghost use Rattle.minijinja_grammar.specs.internal.ExprForms as form;
+ghost use Rattle.minijinja_grammar.specs.internal.ExprForms.{below};
 ghost use Rattle.minijinja_parser_expr.specs.private.Nests.{Nests, Parses};
 
 use crate::builder::{Argument, ExprBuilder, Node};
-use crate::rules::ExprRules;
+use crate::rules::{ExprRules, Nest};
 use minijinja_parser_tokens::marks::{Mark, Part};
 use minijinja_parser_tokens::refusal::{Refusal, Wanted};
 use minijinja_parser_tokens::tokens::Tokens;
@@ -16,15 +16,20 @@ use std::marker::PhantomData;
 impl<
     N: ExprBuilder,
     F: Copy
-        + for<'x> Fn(N, &'x mut N::Input, PhantomData<N::Expr>, usize) -> Result<N::Expr, Refusal>,
+        + for<'x> Fn(
+            N,
+            &'x mut N::Input,
+            PhantomData<N::Expr>,
+            Nest,
+            usize,
+        ) -> Result<N::Expr, Refusal>,
 > ExprRules<N, F> {
     /// Reads an operand and its suffixes.
     #[tactic(auto, using(crate::proofs::Operands::suffixed_is, crate::proofs::Operands::suffixed_more, crate::proofs::Operands::suffixed_done, crate::proofs::Operands::taken_shorter))]
     pub(crate) fn suffixed(&self, tokens: &mut N::Input) -> Result<N::Expr, Refusal>
         requires { Nests N.Input.place N.tree N.functions self.now.depth F.pre F.post
-            self.now.expr }
-        ensures { Parses N.Input.place N.tree (form.unary_level N.functions (expr_at N.functions
-            self.now.depth) (primary_at N.functions self.now.depth)) tokens.old result tokens.new }
+            self.now.parser }
+        ensures { Parses N.Input.place N.tree (form.unary_level N.functions (below N.functions self.now.depth)) tokens.old result tokens.new }
     {
         let mut expr = self.operand(tokens)?;
         while tokens.begins(Part::Suffix) {
@@ -42,9 +47,8 @@ impl<
         token: &<N::Input as Tokens>::Token,
     ) -> Result<N::Expr, Refusal>
         requires { Nests N.Input.place N.tree N.functions self.now.depth F.pre F.post
-            self.now.expr }
-        ensures { Parses N.Input.place N.tree (form.suffix N.functions (expr_at N.functions
-            self.now.depth) (primary_at N.functions self.now.depth) (N.tree expr) (N.Input.tok
+            self.now.parser }
+        ensures { Parses N.Input.place N.tree (form.suffix N.functions (below N.functions self.now.depth) (N.tree expr) (N.Input.tok
             token.now)) tokens.old result tokens.new }
     {
         if <N::Input as Tokens>::is(token, Mark::Pipe) {
@@ -56,9 +60,8 @@ impl<
     /// Reads a filter, after its `|`.
     fn filter(&self, tokens: &mut N::Input, expr: N::Expr) -> Result<N::Expr, Refusal>
         requires { Nests N.Input.place N.tree N.functions self.now.depth F.pre F.post
-            self.now.expr }
-        ensures { Parses N.Input.place N.tree (form.filtered N.functions (expr_at N.functions
-            self.now.depth) (primary_at N.functions self.now.depth) (N.tree expr)) tokens.old result
+            self.now.parser }
+        ensures { Parses N.Input.place N.tree (form.filtered N.functions (below N.functions self.now.depth) (N.tree expr)) tokens.old result
             tokens.new }
     {
         let from = tokens.current_span();
@@ -71,9 +74,8 @@ impl<
     #[tactic(auto, using(crate::proofs::Following::any_test_is))]
     fn any_test(&self, tokens: &mut N::Input, expr: N::Expr) -> Result<N::Expr, Refusal>
         requires { Nests N.Input.place N.tree N.functions self.now.depth F.pre F.post
-            self.now.expr }
-        ensures { Parses N.Input.place N.tree (form.any_test N.functions (expr_at N.functions
-            self.now.depth) (primary_at N.functions self.now.depth) (N.tree expr)) tokens.old result
+            self.now.parser }
+        ensures { Parses N.Input.place N.tree (form.any_test N.functions (below N.functions self.now.depth) (N.tree expr)) tokens.old result
             tokens.new }
     {
         if !tokens.eat(Mark::Not)? {
@@ -87,9 +89,8 @@ impl<
     /// Reads the name of a test and its arguments.
     fn named_test(&self, tokens: &mut N::Input, expr: N::Expr) -> Result<N::Expr, Refusal>
         requires { Nests N.Input.place N.tree N.functions self.now.depth F.pre F.post
-            self.now.expr }
-        ensures { Parses N.Input.place N.tree (form.named_test N.functions (expr_at N.functions
-            self.now.depth) (primary_at N.functions self.now.depth) (N.tree expr)) tokens.old result
+            self.now.parser }
+        ensures { Parses N.Input.place N.tree (form.named_test N.functions (below N.functions self.now.depth) (N.tree expr)) tokens.old result
             tokens.new }
     {
         let from = tokens.current_span();
@@ -102,9 +103,8 @@ impl<
     #[tactic(auto, using(crate::proofs::Following::test_args_is))]
     fn test_args(&self, tokens: &mut N::Input) -> Result<Vec<N::Arg>, Refusal>
         requires { Nests N.Input.place N.tree N.functions self.now.depth F.pre F.post
-            self.now.expr }
-        ensures { Parses N.Input.place (λ v. map N.arg v.items) (form.test_args N.functions (expr_at
-            N.functions self.now.depth) (primary_at N.functions self.now.depth)) tokens.old result
+            self.now.parser }
+        ensures { Parses N.Input.place (λ v. map N.arg v.items) (form.test_args N.functions (below N.functions self.now.depth)) tokens.old result
             tokens.new }
     {
         if tokens.eat(Mark::ParenOpen)? {

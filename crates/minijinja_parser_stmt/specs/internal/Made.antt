@@ -6,7 +6,7 @@ use Rattle.minijinja_syntax.specs.Tokens.{Tok, template_data, variable_start, bl
 use Rattle.minijinja_syntax.specs.declared.tokens.Span.{Span}
 use Rattle.minijinja_tree.specs.SpannedTrees as tree
 use Rattle.minijinja_tree.specs.SpannedTrees.{Args, Expr, Macro, Optional, Stmt, exprs_of, macro_of, optional_of, stmts_of}
-use Rattle.minijinja_grammar.specs.Statements.{begins_part, call_of}
+use Rattle.minijinja_grammar.specs.internal.StmtForms.{call_of}
 use Rattle.minijinja_parser_stmt.specs.declared.builder.Kind.{Kind}
 use Rattle.minijinja_parser_stmt.specs.declared.builder.Kind.TheVariants as kind
 use Rattle.minijinja_parser_stmt.specs.declared.builder.StatementParts.{StatementParts}
@@ -14,6 +14,13 @@ use Rattle.minijinja_parser_stmt.specs.declared.builder.Opening.{Opening}
 use Rattle.minijinja_parser_stmt.specs.declared.builder.Opening.TheVariants as opening
 use Rattle.minijinja_parser_stmt.specs.declared.builder.Target.{Target}
 use Rattle.minijinja_parser_stmt.specs.declared.builder.Target.TheVariants as target
+
+-- whether a part of a template begins with the token
+abbrev pub begins_part : Tok → Bool
+begins_part (template_data t) = true
+begins_part variable_start = true
+begins_part block_start = true
+begins_part _ = false
 
 -- the token, if it begins a part of a template
 abbrev pub opening_of : Tok → Option Tok

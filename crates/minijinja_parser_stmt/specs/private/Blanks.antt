@@ -3,9 +3,10 @@ use Rattle.std.specs.Prelude.{List, ◌∷◌, ◌++◌, [], Option, Some, None,
 use Rattle.minijinja_syntax.specs.Tokens.{template_data, block_start}
 use Rattle.minijinja_syntax.specs.Streams.{SpannedTok}
 use Rattle.minijinja_tree.specs.SpannedTrees.{Stmt, data_text}
-use Rattle.minijinja_grammar.specs.Forms.{Form, Place, Read, got, held_or_wrong, many, misfit, read_then, reads}
-use Rattle.minijinja_grammar.specs.Grammar.{of_kind}
-use Rattle.minijinja_grammar.specs.Statements.{begins_part, blank_part, is_blank}
+use Rattle.minijinja_grammar.specs.internal.Forms.{Form, Read, got, many, misfit, read_then, reads}
+use Rattle.minijinja_grammar.specs.Places.{Place}
+use Rattle.minijinja_grammar.specs.internal.StmtForms.{any_token, blank_part}
+use Rattle.minijinja_grammar.specs.Statements.{is_blank}
 
 -- a part, after its first token; none where that begins a tag
 abbrev pub blank_piece : {C : Type 0} → SpannedTok → Place → Read (Option (Stmt C))
@@ -13,13 +14,9 @@ blank_piece (template_data t, s) p = if is_blank t then got (Some (data_text t s
 blank_piece (block_start, s) p = got None p
 blank_piece _ p = misfit p p.tokens
 
--- a part, which begins with the token, or none
-abbrev pub blank_at : {C : Type 0} → SpannedTok → Place → Read (Option (Stmt C))
-blank_at t p = read_then (held_or_wrong (of_kind begins_part t) p) (λ u q. blank_piece u q)
-
 -- the rest of a body, after these parts
 abbrev pub rest_of_blank : {C : Type 0} → List (Stmt C) → Form (List (Stmt C))
-rest_of_blank = many (of_kind begins_part) blank_part
+rest_of_blank = many any_token blank_part
 
 -- after a part the rest of the body comes, and after the last one nothing
 abbrev pub blank_further : {C : Type 0} → List (Stmt C) → Option (Stmt C) → Place → Read (List (Stmt C))

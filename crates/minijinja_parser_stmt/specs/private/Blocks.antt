@@ -2,9 +2,9 @@
 use Rattle.std.specs.Prelude.{Bool, true, false}
 use Rattle.minijinja_syntax.specs.Texts.{Text}
 use Rattle.minijinja_grammar.specs.Words.{endblock_word, required_word}
-use Rattle.minijinja_grammar.specs.Forms.{Form, pure, ◌>>=◌, ◌>>◌}
-use Rattle.minijinja_grammar.specs.Grammar.{behind, next}
-use Rattle.minijinja_grammar.specs.Statements.{block_name, end_name, scoped_if_any}
+use Rattle.minijinja_grammar.specs.internal.Forms.{Form, pure, ◌>>=◌, ◌>>◌}
+use Rattle.minijinja_grammar.specs.internal.ExprForms.{behind, next}
+use Rattle.minijinja_grammar.specs.internal.StmtForms.{block_name, end_name, scoped_if_any}
 
 -- Ident ["scoped"] ["required"]: the name, and whether it is required
 abbrev pub block_head : Form (Text × Bool)

@@ -4,9 +4,12 @@ use Rattle.minijinja_syntax.specs.Tokens.{template_data, variable_start, block_s
 use Rattle.minijinja_syntax.specs.Streams.{SpannedTok}
 use Rattle.minijinja_value.specs.Values.{Functions}
 use Rattle.minijinja_tree.specs.SpannedTrees.{Stmt, data_text}
-use Rattle.minijinja_grammar.specs.Forms.{Form, Place, Read, Turn, go_on, over, got, comes, held_or_wrong, many, misfit, read_then, reads}
-use Rattle.minijinja_grammar.specs.Grammar.{of_kind, expr_at}
-use Rattle.minijinja_grammar.specs.Statements.{Context, Ends, begins_part, ends_body, part, shown, stmt_at, tag}
+use Rattle.minijinja_grammar.specs.internal.Forms.{Form, Read, Turn, go_on, over, got, many, misfit, read_then, reads}
+use Rattle.minijinja_grammar.specs.Places.{Place}
+use Rattle.minijinja_grammar.specs.Ahead.{comes}
+use Rattle.minijinja_grammar.specs.internal.ExprForms.{expr_at}
+use Rattle.minijinja_grammar.specs.Statements.{Context, Ends, ends_body}
+use Rattle.minijinja_grammar.specs.internal.StmtForms.{any_token, part, shown, stmt_at, tag}
 
 -- what was read, as a part
 abbrev pub some_of : {C : Type 0} → Read (Stmt C) → Read (Option (Stmt C))
@@ -19,13 +22,9 @@ piece f c d ends (variable_start, s) p = some_of (reads (shown (expr_at f d) s) 
 piece f c d ends (block_start, s) p = if comes (ends_body ends) p.tokens then got None p else some_of (reads (tag (stmt_at f c d)) p)
 piece f c d ends _ p = misfit p p.tokens
 
--- a part, which begins with the token, or none
-abbrev pub part_at : {C F : Type 0} → Functions C F → Context → ℕ → Ends → SpannedTok → Place → Read (Option (Stmt C))
-part_at f c d ends t p = read_then (held_or_wrong (of_kind begins_part t) p) (λ u q. piece f c d ends u q)
-
 -- the rest of a body, after these parts
 abbrev pub rest_of_body : {C F : Type 0} → Functions C F → Context → ℕ → Ends → List (Stmt C) → Form (List (Stmt C))
-rest_of_body f c d ends = many (of_kind begins_part) (part (expr_at f d) (stmt_at f c d) ends)
+rest_of_body f c d ends = many any_token (part (expr_at f d) (stmt_at f c d) ends)
 
 -- what a part makes of those before it
 abbrev pub with_part : {C : Type 0} → List (Stmt C) → Option (Stmt C) → Turn (List (Stmt C))

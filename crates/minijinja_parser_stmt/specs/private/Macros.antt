@@ -3,10 +3,10 @@ use Rattle.std.specs.Prelude.{Bool, List, [], Option}
 use Rattle.minijinja_syntax.specs.Tokens.{paren_open}
 use Rattle.minijinja_tree.specs.SpannedTrees.{Expr}
 use Rattle.minijinja_grammar.specs.Words.{is_identifier}
-use Rattle.minijinja_grammar.specs.Forms.{Form, pure, ◌>>=◌}
-use Rattle.minijinja_grammar.specs.Grammar.{behind, items}
-use Rattle.minijinja_grammar.specs.Statements.{default_of, param, params}
-use Rattle.minijinja_grammar.specs.Targets.{stored_name}
+use Rattle.minijinja_grammar.specs.internal.Forms.{Form, pure, ◌>>=◌}
+use Rattle.minijinja_grammar.specs.internal.ExprForms.{behind, items}
+use Rattle.minijinja_grammar.specs.internal.StmtForms.{default_of, param, params}
+use Rattle.minijinja_grammar.specs.internal.TargetForms.{stored_name}
 
 -- an argument and its default, which it may have to have
 abbrev pub param_at : {C : Type 0} → Form (Expr C) → Bool → Form (Expr C × Option (Expr C))

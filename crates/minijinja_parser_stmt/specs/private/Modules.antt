@@ -1,9 +1,9 @@
 -- Parts of the statements on other templates.
 use Rattle.std.specs.Prelude.{Bool, true, false}
 use Rattle.minijinja_grammar.specs.Words.{ignore_word, missing_word}
-use Rattle.minijinja_grammar.specs.Forms.{Form, pure, ◌>>◌}
-use Rattle.minijinja_grammar.specs.Grammar.{behind, next}
-use Rattle.minijinja_grammar.specs.Statements.{context_unless}
+use Rattle.minijinja_grammar.specs.internal.Forms.{Form, pure, ◌>>◌}
+use Rattle.minijinja_grammar.specs.internal.ExprForms.{behind, next}
+use Rattle.minijinja_grammar.specs.internal.StmtForms.{context_unless}
 
 -- "ignore" "missing", and a context after it, unless one stood before
 abbrev pub ignored_if_any : Bool → Form Bool

@@ -1,16 +1,17 @@
 //! The rules of `block`.
 ghost use Rattle.std.specs.Prelude.{◌≡◌, not, map};
 ghost use Rattle.std.specs.Option.{option_map};
-ghost use Rattle.minijinja_grammar.specs.Grammar.{when};
-ghost use Rattle.minijinja_grammar.specs.Statements as form;
-ghost use Rattle.minijinja_grammar.specs.Statements.{parts_at};
+ghost use Rattle.minijinja_grammar.specs.internal.ExprForms.{when};
+ghost use Rattle.minijinja_grammar.specs.internal.StmtForms as form;
+ghost use Rattle.minijinja_grammar.specs.Statements as statements;
+ghost use Rattle.minijinja_grammar.specs.internal.StmtForms.{parts_at};
 ghost use Rattle.minijinja_parser_tokens.specs.internal.Reads.{Reads};
-ghost use Rattle.minijinja_parser_stmt.specs.private.Blanks.{blank_at};
+ghost use Rattle.minijinja_parser_stmt.specs.private.Blanks.{blank_piece};
 ghost use Rattle.minijinja_parser_stmt.specs.private.Blocks.{block_end, block_head};
 ghost use Rattle.minijinja_parser_stmt.specs.private.Parses.{Nests, Parses, context_of};
 
 use crate::builder::{Kind, Opening, StmtBuilder, of_kind};
-use crate::rules::{Context, StmtRules};
+use crate::rules::{Context, Nested, StmtRules};
 use minijinja_parser_tokens::forms::IdentForm;
 use minijinja_parser_tokens::marks::{Ends, Mark, Part};
 use minijinja_parser_tokens::refusal::{Refusal, Wanted};
@@ -21,7 +22,7 @@ use std::marker::PhantomData;
 
 /// Whether the text is whitespace alone.
 fn is_blank(text: &str) -> bool
-    ensures { result ≡ form.is_blank text.now }
+    ensures { result ≡ statements.is_blank text.now }
 {
     text.trim().is_empty()
 }
@@ -33,7 +34,7 @@ fn blank_part<S: StmtBuilder>(
     token: &<S::Input as Tokens>::Token,
     span: Span,
 ) -> Result<Option<S::Stmt>, Refusal>
-    ensures { Reads (option_map S.stmt) (blank_at (S.Input.tok token.now, span)
+    ensures { Reads (option_map S.stmt) (blank_piece (S.Input.tok token.now, span)
         (S.Input.place tokens.now)) result (S.Input.place tokens.now) }
 {
     match S::opening(token) {
@@ -45,7 +46,7 @@ fn blank_part<S: StmtBuilder>(
         }
         Some(Opening::Output) => Err(tokens.misfit(Wanted::Blank)),
         Some(Opening::Statement) => Ok(None),
-        None => Err(Refusal::Wrong(Wanted::Blank)),
+        None => Err(tokens.misfit(Wanted::Blank)),
     }
 }
 
@@ -56,7 +57,7 @@ fn blank_body<S: StmtBuilder>(builder: S, tokens: &mut S::Input) -> Result<Vec<S
         tokens.new }
 {
     let mut parts = Vec::new(builder.alloc());
-    while tokens.begins(Part::Template) {
+    while tokens.begins(Part::Any) {
         let (token, span) = tokens.take(Wanted::Blank)?;
         match blank_part(builder, tokens, &token, span)? {
             Some(part) => parts.push(part)?,
@@ -97,7 +98,7 @@ fn end_name<S: StmtBuilder>(builder: S, tokens: &mut S::Input, name: S::Name) ->
 }
 
 /// The word that ends a block, and the name after it, if a name is there.
-#[tactic(auto, unfolding(minijinja_grammar::specs::Forms::reads))]
+#[tactic(auto, unfolding(minijinja_grammar::specs::internal::Forms::reads))]
 fn end_of_block<S: StmtBuilder>(
     builder: S,
     tokens: &mut S::Input,
@@ -119,14 +120,15 @@ impl<
             &'x mut S::Input,
             PhantomData<S::Stmt>,
             Context,
+            Nested,
             usize,
         ) -> Result<S::Stmt, Refusal>,
 > StmtRules<S, F> {
     /// The end of a tag, and the body of a block, which is blank if the block is required.
-    #[tactic(auto, unfolding(minijinja_grammar::specs::Forms::reads, minijinja_grammar::specs::Statements::block_body))]
+    #[tactic(auto, unfolding(minijinja_grammar::specs::internal::Forms::reads, minijinja_grammar::specs::internal::StmtForms::block_body))]
     fn block_body(&self, tokens: &mut S::Input, required: bool) -> Result<Vec<S::Stmt>, Refusal>
         requires { Nests S.Input.place S.stmt S.functions self.now.depth F.pre F.post
-            self.now.stmt }
+            self.now.nested }
         ensures { Parses S.Input.place (λ v. map S.stmt v.items) (form.block_body
             (parts_at S.functions (context_of self.now.context) self.now.depth) required) tokens.old
             result tokens.new }
@@ -142,7 +144,7 @@ impl<
                 ..self.context
             },
             depth: self.depth,
-            stmt: self.stmt,
+            nested: self.nested,
         };
         inner.body(tokens, Ends::EndBlock)
     }
@@ -151,7 +153,7 @@ impl<
     #[tactic(auto, using(crate::proofs::Blocks::block_is), unfolding(crate::specs::internal::Made::HasParts, crate::specs::internal::Made::statement_tree))]
     fn named_block(&self, tokens: &mut S::Input, from: Span) -> Result<S::Stmt, Refusal>
         requires { Nests S.Input.place S.stmt S.functions self.now.depth F.pre F.post
-            self.now.stmt }
+            self.now.nested }
         ensures { Parses S.Input.place S.stmt (form.block_stmt (parts_at S.functions
             (context_of self.now.context) self.now.depth) from) tokens.old result tokens.new }
     {
@@ -167,10 +169,10 @@ impl<
     }
 
     /// `block`, after its word.
-    #[tactic(auto, unfolding(minijinja_grammar::specs::Forms::reads))]
+    #[tactic(auto, unfolding(minijinja_grammar::specs::internal::Forms::reads))]
     pub(super) fn block_stmt(&self, tokens: &mut S::Input, from: Span) -> Result<S::Stmt, Refusal>
         requires { Nests S.Input.place S.stmt S.functions self.now.depth F.pre F.post
-            self.now.stmt }
+            self.now.nested }
         ensures { Parses S.Input.place S.stmt (when (not self.now.context.in_macro)
             (form.block_stmt (parts_at S.functions (context_of self.now.context) self.now.depth)
             from)) tokens.old result tokens.new }

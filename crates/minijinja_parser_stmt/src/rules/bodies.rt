@@ -1,16 +1,16 @@
 //! The rules of bodies, which are read a part at a time.
 ghost use Rattle.std.specs.Prelude.{map};
 ghost use Rattle.std.specs.Option.{option_map};
-ghost use Rattle.minijinja_grammar.specs.Grammar.{expr_at};
-ghost use Rattle.minijinja_grammar.specs.Statements as form;
-ghost use Rattle.minijinja_grammar.specs.Statements.{parts_at, stmt_at};
+ghost use Rattle.minijinja_grammar.specs.internal.ExprForms.{expr_at};
+ghost use Rattle.minijinja_grammar.specs.internal.StmtForms as form;
+ghost use Rattle.minijinja_grammar.specs.internal.StmtForms.{parts_at, stmt_at};
 ghost use Rattle.minijinja_parser_tokens.specs.internal.Marks.{ends_view, mark_tok};
 ghost use Rattle.minijinja_parser_tokens.specs.internal.Reads.{Reads};
-ghost use Rattle.minijinja_parser_stmt.specs.private.Bodies.{part_at};
+ghost use Rattle.minijinja_parser_stmt.specs.private.Bodies.{piece};
 ghost use Rattle.minijinja_parser_stmt.specs.private.Parses.{Nests, Parses, context_of};
 
 use crate::builder::{Opening, StmtBuilder};
-use crate::rules::{Context, StmtRules};
+use crate::rules::{Context, Nested, StmtRules};
 use minijinja_parser_tokens::forms::ExprForm;
 use minijinja_parser_tokens::marks::{Ends, Mark, Part};
 use minijinja_parser_tokens::refusal::{Refusal, Wanted};
@@ -23,7 +23,7 @@ use std::marker::PhantomData;
 const ROOM_AT_FIRST: usize = 8;
 
 /// An output, after its start.
-#[tactic(auto, unfolding(minijinja_grammar::specs::Forms::reads, minijinja_grammar::specs::Statements::shown))]
+#[tactic(auto, unfolding(minijinja_grammar::specs::internal::Forms::reads, minijinja_grammar::specs::internal::StmtForms::shown))]
 fn output<S: StmtBuilder>(
     builder: S,
     tokens: &mut S::Input,
@@ -47,19 +47,20 @@ impl<
             &'x mut S::Input,
             PhantomData<S::Stmt>,
             Context,
+            Nested,
             usize,
         ) -> Result<S::Stmt, Refusal>,
 > StmtRules<S, F> {
     /// A statement and the end of its tag, after the start of it.
-    #[tactic(auto, unfolding(minijinja_grammar::specs::Forms::reads, minijinja_grammar::specs::Statements::tag))]
+    #[tactic(auto, unfolding(minijinja_grammar::specs::internal::Forms::reads, minijinja_grammar::specs::internal::StmtForms::tag))]
     fn tag(&self, tokens: &mut S::Input) -> Result<S::Stmt, Refusal>
         requires { Nests S.Input.place S.stmt S.functions self.now.depth F.pre F.post
-            self.now.stmt }
+            self.now.nested }
         ensures { Parses S.Input.place S.stmt
             (form.tag (stmt_at S.functions (context_of self.now.context) self.now.depth)) tokens.old
             result tokens.new }
     {
-        let stmt = self.nested(tokens)?;
+        let stmt = self.stmt(tokens)?;
         tokens.expect(Mark::BlockEnd)?;
         Ok(stmt)
     }
@@ -73,8 +74,8 @@ impl<
         ends: Ends,
     ) -> Result<Option<S::Stmt>, Refusal>
         requires { Nests S.Input.place S.stmt S.functions self.now.depth F.pre F.post
-            self.now.stmt }
-        ensures { Reads (option_map S.stmt) (part_at S.functions (context_of self.now.context)
+            self.now.nested }
+        ensures { Reads (option_map S.stmt) (piece S.functions (context_of self.now.context)
             self.now.depth (ends_view ends) (S.Input.tok token.now, span)
             (S.Input.place tokens.old)) result (S.Input.place tokens.new) }
     {
@@ -87,7 +88,7 @@ impl<
                 }
                 Ok(Some(self.tag(tokens)?))
             }
-            None => Err(Refusal::Wrong(Wanted::Part(Expected::Part))),
+            None => Err(tokens.misfit(Wanted::Part(Expected::Part))),
         }
     }
 
@@ -95,13 +96,13 @@ impl<
     #[tactic(auto, using(crate::proofs::Bodies::body_is, crate::proofs::Bodies::body_more, crate::proofs::Bodies::body_done, minijinja_parser_tokens::proofs::Turned::take_shorter, crate::proofs::Bodies::part_no_longer))]
     pub(super) fn body(&self, tokens: &mut S::Input, ends: Ends) -> Result<Vec<S::Stmt>, Refusal>
         requires { Nests S.Input.place S.stmt S.functions self.now.depth F.pre F.post
-            self.now.stmt }
+            self.now.nested }
         ensures { Parses S.Input.place (λ v. map S.stmt v.items) (form.body (expr_at S.functions
             self.now.depth) (stmt_at S.functions (context_of self.now.context) self.now.depth)
             (ends_view ends)) tokens.old result tokens.new }
     {
         let mut parts = Vec::with_capacity(self.builder.alloc(), ROOM_AT_FIRST)?;
-        while tokens.begins(Part::Template) {
+        while tokens.begins(Part::Any) {
             let (token, span) = tokens.take(Wanted::Part(Expected::Part))?;
             match self.part(tokens, &token, span, ends)? {
                 Some(part) => parts.push(part)?,
@@ -112,7 +113,7 @@ impl<
     }
 
     /// The end of a tag, a body, and the word that it ends at.
-    #[tactic(auto, unfolding(minijinja_grammar::specs::Forms::reads, minijinja_grammar::specs::Statements::closed_body))]
+    #[tactic(auto, unfolding(minijinja_grammar::specs::internal::Forms::reads, minijinja_grammar::specs::internal::StmtForms::closed_body))]
     pub(super) fn closed_body(
         &self,
         tokens: &mut S::Input,
@@ -120,7 +121,7 @@ impl<
         word: Mark,
     ) -> Result<Vec<S::Stmt>, Refusal>
         requires { Nests S.Input.place S.stmt S.functions self.now.depth F.pre F.post
-            self.now.stmt }
+            self.now.nested }
         ensures { Parses S.Input.place (λ v. map S.stmt v.items) (form.closed_body
             (parts_at S.functions (context_of self.now.context) self.now.depth) (ends_view ends)
             (mark_tok word)) tokens.old result tokens.new }
@@ -132,7 +133,7 @@ impl<
     }
 
     /// An else body, if there is one, and the word that ends the statement.
-    #[tactic(auto, using(minijinja_parser_tokens::proofs::Turned::behind_is), unfolding(minijinja_grammar::specs::Forms::reads, minijinja_grammar::specs::Statements::else_body))]
+    #[tactic(auto, using(minijinja_parser_tokens::proofs::Turned::behind_is), unfolding(minijinja_grammar::specs::internal::Forms::reads, minijinja_grammar::specs::internal::StmtForms::else_body))]
     pub(super) fn else_body(
         &self,
         tokens: &mut S::Input,
@@ -140,7 +141,7 @@ impl<
         word: Mark,
     ) -> Result<Vec<S::Stmt>, Refusal>
         requires { Nests S.Input.place S.stmt S.functions self.now.depth F.pre F.post
-            self.now.stmt }
+            self.now.nested }
         ensures { Parses S.Input.place (λ v. map S.stmt v.items) (form.else_body
             (parts_at S.functions (context_of self.now.context) self.now.depth) (ends_view ends)
             (mark_tok word)) tokens.old result tokens.new }

@@ -1,9 +1,9 @@
 //! The rules of `macro` and `call`.
 ghost use Rattle.std.specs.Prelude.{[], map};
 ghost use Rattle.std.specs.Option.{option_map};
-ghost use Rattle.minijinja_grammar.specs.Grammar.{expr_at};
-ghost use Rattle.minijinja_grammar.specs.Statements as form;
-ghost use Rattle.minijinja_grammar.specs.Statements.{parts_at};
+ghost use Rattle.minijinja_grammar.specs.internal.ExprForms.{expr_at};
+ghost use Rattle.minijinja_grammar.specs.internal.StmtForms as form;
+ghost use Rattle.minijinja_grammar.specs.internal.StmtForms.{parts_at};
 ghost use Rattle.minijinja_parser_tokens.specs.internal.Marks.{ends_view, mark_tok};
 ghost use Rattle.minijinja_parser_stmt.specs.private.Macros.{param_at, param_items, params_if_any};
 ghost use Rattle.minijinja_parser_stmt.specs.internal.Made.{param_of};
@@ -11,7 +11,7 @@ ghost use Rattle.minijinja_parser_stmt.specs.private.Parses.{Nests, Parses, cont
 
 use crate::builder::{Kind, StmtBuilder, of_kind};
 use crate::rules::targets::stored_name;
-use crate::rules::{Context, StmtRules};
+use crate::rules::{Context, Nested, StmtRules};
 use minijinja_parser_tokens::forms::{ExprForm, IdentForm};
 use minijinja_parser_tokens::marks::{Ends, Mark, Part};
 use minijinja_parser_tokens::refusal::{Refusal, Wanted};
@@ -22,7 +22,7 @@ use std::marker::PhantomData;
 
 /// The default of an argument, if it has one. After an argument with a default each has to have
 /// one.
-#[tactic(auto, using(minijinja_parser_tokens::proofs::Turned::behind_is), unfolding(minijinja_grammar::specs::Forms::reads))]
+#[tactic(auto, using(minijinja_parser_tokens::proofs::Turned::behind_is), unfolding(minijinja_grammar::specs::internal::Forms::reads))]
 fn default_of<S: StmtBuilder>(
     builder: S,
     tokens: &mut S::Input,
@@ -41,7 +41,7 @@ fn default_of<S: StmtBuilder>(
 }
 
 /// An argument of a macro, with its default.
-#[tactic(auto, unfolding(minijinja_grammar::specs::Forms::reads))]
+#[tactic(auto, unfolding(minijinja_grammar::specs::internal::Forms::reads))]
 fn param<S: StmtBuilder>(
     builder: S,
     tokens: &mut S::Input,
@@ -80,7 +80,7 @@ fn param_items<S: StmtBuilder>(
 }
 
 /// The arguments of a macro, and the end of their parentheses.
-#[tactic(auto, unfolding(minijinja_grammar::specs::Forms::reads, minijinja_grammar::specs::Statements::params))]
+#[tactic(auto, unfolding(minijinja_grammar::specs::internal::Forms::reads, minijinja_grammar::specs::internal::StmtForms::params))]
 fn params<S: StmtBuilder>(
     builder: S,
     tokens: &mut S::Input,
@@ -95,7 +95,7 @@ fn params<S: StmtBuilder>(
 }
 
 /// The arguments of a call block's macro, in parentheses, if they are there.
-#[tactic(auto, using(minijinja_parser_tokens::proofs::Turned::behind_is), unfolding(minijinja_grammar::specs::Forms::reads))]
+#[tactic(auto, using(minijinja_parser_tokens::proofs::Turned::behind_is), unfolding(minijinja_grammar::specs::internal::Forms::reads))]
 fn params_of_call<S: StmtBuilder>(
     builder: S,
     tokens: &mut S::Input,
@@ -118,11 +118,12 @@ impl<
             &'x mut S::Input,
             PhantomData<S::Stmt>,
             Context,
+            Nested,
             usize,
         ) -> Result<S::Stmt, Refusal>,
 > StmtRules<S, F> {
     /// The end of a tag, the body of a macro, and the word that it ends at.
-    #[tactic(auto, unfolding(minijinja_grammar::specs::Forms::reads, minijinja_grammar::specs::Statements::macro_body))]
+    #[tactic(auto, unfolding(minijinja_grammar::specs::internal::Forms::reads, minijinja_grammar::specs::internal::StmtForms::macro_body))]
     fn macro_body(
         &self,
         tokens: &mut S::Input,
@@ -130,7 +131,7 @@ impl<
         word: Mark,
     ) -> Result<Vec<S::Stmt>, Refusal>
         requires { Nests S.Input.place S.stmt S.functions self.now.depth F.pre F.post
-            self.now.stmt }
+            self.now.nested }
         ensures { Parses S.Input.place (λ v. map S.stmt v.items) (form.macro_body
             (parts_at S.functions (context_of self.now.context) self.now.depth) (ends_view ends)
             (mark_tok word)) tokens.old result tokens.new }
@@ -144,7 +145,7 @@ impl<
                 open: self.context.open,
             },
             depth: self.depth,
-            stmt: self.stmt,
+            nested: self.nested,
         };
         let body = inner.body(tokens, ends)?;
         tokens.end_word(word, self.context.open)?;
@@ -152,10 +153,10 @@ impl<
     }
 
     /// `macro`, after its word.
-    #[tactic(auto, unfolding(crate::specs::internal::Made::HasParts, crate::specs::internal::Made::statement_tree, minijinja_grammar::specs::Forms::reads, minijinja_grammar::specs::Statements::macro_stmt))]
+    #[tactic(auto, unfolding(crate::specs::internal::Made::HasParts, crate::specs::internal::Made::statement_tree, minijinja_grammar::specs::internal::Forms::reads, minijinja_grammar::specs::internal::StmtForms::macro_stmt))]
     pub(super) fn macro_stmt(&self, tokens: &mut S::Input, from: Span) -> Result<S::Stmt, Refusal>
         requires { Nests S.Input.place S.stmt S.functions self.now.depth F.pre F.post
-            self.now.stmt }
+            self.now.nested }
         ensures { Parses S.Input.place S.stmt (form.macro_stmt (parts_at S.functions
             (context_of self.now.context) self.now.depth) from) tokens.old result tokens.new }
     {
@@ -176,7 +177,7 @@ impl<
     #[tactic(auto, using(crate::proofs::Calls::call_block_is), unfolding(crate::specs::internal::Made::HasParts, crate::specs::internal::Made::statement_tree))]
     pub(super) fn call_stmt(&self, tokens: &mut S::Input, from: Span) -> Result<S::Stmt, Refusal>
         requires { Nests S.Input.place S.stmt S.functions self.now.depth F.pre F.post
-            self.now.stmt }
+            self.now.nested }
         ensures { Parses S.Input.place S.stmt (form.call_stmt (parts_at S.functions
             (context_of self.now.context) self.now.depth) from) tokens.old result tokens.new }
     {

@@ -1,8 +1,8 @@
 //! The rules of statements on other templates: `extends`, `include`, `import` and `from`.
 ghost use Rattle.std.specs.Prelude.{map};
-ghost use Rattle.minijinja_grammar.specs.Forms.{one};
-ghost use Rattle.minijinja_grammar.specs.Grammar.{expr_at};
-ghost use Rattle.minijinja_grammar.specs.Statements as form;
+ghost use Rattle.minijinja_grammar.specs.internal.Forms.{one};
+ghost use Rattle.minijinja_grammar.specs.internal.ExprForms.{expr_at};
+ghost use Rattle.minijinja_grammar.specs.internal.StmtForms as form;
 ghost use Rattle.minijinja_parser_stmt.specs.internal.Made.{name_of};
 ghost use Rattle.minijinja_parser_stmt.specs.private.Modules.{ignored_if_any};
 ghost use Rattle.minijinja_parser_stmt.specs.private.Parses.{Parses};
@@ -17,7 +17,7 @@ use minijinja_syntax::error::Expected;
 use minijinja_syntax::tokens::Span;
 
 /// Takes `with context` or `without context`, if it comes, and returns whether it did.
-#[tactic(auto, unfolding(minijinja_grammar::specs::Forms::reads, minijinja_grammar::specs::Statements::context_if_any))]
+#[tactic(auto, unfolding(minijinja_grammar::specs::internal::Forms::reads, minijinja_grammar::specs::internal::StmtForms::context_if_any))]
 fn context_if_any<S: StmtBuilder>(tokens: &mut S::Input) -> Result<bool, Refusal>
     ensures { Parses S.Input.place (λ b. b) form.context_if_any tokens.old result tokens.new }
 {
@@ -30,7 +30,7 @@ fn context_if_any<S: StmtBuilder>(tokens: &mut S::Input) -> Result<bool, Refusal
 }
 
 /// `extends`, after its word.
-#[tactic(auto, unfolding(crate::specs::internal::Made::HasParts, crate::specs::internal::Made::statement_tree, minijinja_grammar::specs::Forms::reads, minijinja_grammar::specs::Statements::extends_stmt))]
+#[tactic(auto, unfolding(crate::specs::internal::Made::HasParts, crate::specs::internal::Made::statement_tree, minijinja_grammar::specs::internal::Forms::reads, minijinja_grammar::specs::internal::StmtForms::extends_stmt))]
 pub(super) fn extends_stmt<S: StmtBuilder>(
     builder: S,
     tokens: &mut S::Input,
@@ -49,7 +49,7 @@ pub(super) fn extends_stmt<S: StmtBuilder>(
 
 /// Takes `ignore missing`, if it comes, and returns whether it did. A context may follow it, unless
 /// one stood before it.
-#[tactic(auto, using(minijinja_parser_tokens::proofs::Turned::behind_is), unfolding(minijinja_grammar::specs::Forms::reads))]
+#[tactic(auto, using(minijinja_parser_tokens::proofs::Turned::behind_is), unfolding(minijinja_grammar::specs::internal::Forms::reads))]
 fn ignored<S: StmtBuilder>(tokens: &mut S::Input, had_context: bool) -> Result<bool, Refusal>
     ensures { Parses S.Input.place (λ b. b) (ignored_if_any had_context) tokens.old result
         tokens.new }
@@ -65,7 +65,7 @@ fn ignored<S: StmtBuilder>(tokens: &mut S::Input, had_context: bool) -> Result<b
 }
 
 /// `include`, after its word.
-#[tactic(auto, unfolding(crate::specs::internal::Made::HasParts, crate::specs::internal::Made::statement_tree, minijinja_grammar::specs::Forms::reads, minijinja_grammar::specs::Statements::include_stmt))]
+#[tactic(auto, unfolding(crate::specs::internal::Made::HasParts, crate::specs::internal::Made::statement_tree, minijinja_grammar::specs::internal::Forms::reads, minijinja_grammar::specs::internal::StmtForms::include_stmt))]
 pub(super) fn include_stmt<S: StmtBuilder>(
     builder: S,
     tokens: &mut S::Input,
@@ -124,7 +124,7 @@ fn public_name<S: StmtBuilder>(
 }
 
 /// A name that is imported, and its alias, if it has one.
-#[tactic(auto, using(minijinja_parser_tokens::proofs::Turned::behind_is), unfolding(minijinja_grammar::specs::Forms::reads, minijinja_grammar::specs::Statements::imported))]
+#[tactic(auto, using(minijinja_parser_tokens::proofs::Turned::behind_is), unfolding(minijinja_grammar::specs::internal::Forms::reads, minijinja_grammar::specs::internal::StmtForms::imported))]
 fn imported<S: StmtBuilder>(
     builder: S,
     tokens: &mut S::Input,
@@ -163,7 +163,7 @@ fn imports<S: StmtBuilder>(
 }
 
 /// `from`, after its word.
-#[tactic(auto, using(crate::proofs::Imports::aliases_are), unfolding(crate::specs::internal::Made::HasParts, crate::specs::internal::Made::statement_tree, minijinja_grammar::specs::Forms::reads, minijinja_grammar::specs::Statements::from_stmt))]
+#[tactic(auto, using(crate::proofs::Imports::aliases_are), unfolding(crate::specs::internal::Made::HasParts, crate::specs::internal::Made::statement_tree, minijinja_grammar::specs::internal::Forms::reads, minijinja_grammar::specs::internal::StmtForms::from_stmt))]
 pub(super) fn from_stmt<S: StmtBuilder>(
     builder: S,
     tokens: &mut S::Input,

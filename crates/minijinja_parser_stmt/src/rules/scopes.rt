@@ -1,46 +1,53 @@
 //! The rules of `with`, `set`, `autoescape` and of set and filter blocks.
 ghost use Rattle.std.specs.Prelude.{map};
 ghost use Rattle.std.specs.Option.{option_map};
-ghost use Rattle.minijinja_grammar.specs.Grammar.{expr_at};
-ghost use Rattle.minijinja_grammar.specs.Statements as form;
-ghost use Rattle.minijinja_grammar.specs.Statements.{parts_at};
+ghost use Rattle.minijinja_grammar.specs.internal.ExprForms.{expr_at};
+ghost use Rattle.minijinja_grammar.specs.internal.StmtForms as form;
+ghost use Rattle.minijinja_grammar.specs.internal.StmtForms.{parts_at};
 ghost use Rattle.minijinja_parser_stmt.specs.internal.Made.{binding_of};
 ghost use Rattle.minijinja_parser_stmt.specs.private.Parses.{Nests, Parses, context_of};
 
 use crate::builder::{Kind, StmtBuilder, of_kind};
 use crate::rules::targets::{any_targets, stored_name};
-use crate::rules::{Context, StmtRules};
+use crate::rules::{Context, Nested, StmtRules};
 use minijinja_parser_tokens::forms::ExprForm;
 use minijinja_parser_tokens::marks::{Ends, Mark, Part};
-use minijinja_parser_tokens::refusal::Refusal;
+use minijinja_parser_tokens::refusal::{Refusal, Wanted};
 use minijinja_parser_tokens::tokens::Tokens;
 use minijinja_syntax::tokens::Span;
 use std::marker::PhantomData;
 
 /// A name, or targets in parentheses.
-#[tactic(auto, using(minijinja_parser_tokens::proofs::Turned::behind_is), unfolding(minijinja_grammar::specs::Forms::reads, minijinja_grammar::specs::Statements::bound_target))]
-fn bound_target<S: StmtBuilder>(builder: S, tokens: &mut S::Input) -> Result<S::Expr, Refusal>
-    ensures { Parses S.Input.place S.tree form.bound_target tokens.old result tokens.new }
+#[tactic(auto, using(crate::proofs::Targets::bound_is, crate::proofs::Targets::nested_is))]
+fn bound_target<S: StmtBuilder>(
+    builder: S,
+    tokens: &mut S::Input,
+    depth: usize,
+) -> Result<S::Expr, Refusal>
+    ensures { Parses S.Input.place S.tree (form.bound_target depth) tokens.old result tokens.new }
 {
     if !tokens.eat(Mark::ParenOpen)? {
         return stored_name(builder, tokens);
     }
-    let target = any_targets(builder, tokens, false)?;
+    if depth == 0 {
+        return Err(Refusal::Wrong(Wanted::Flatter));
+    }
+    let target = any_targets(builder, tokens, false, depth - 1)?;
     tokens.expect(Mark::ParenClose)?;
     Ok(target)
 }
 
 /// A target of a `with`, and its value.
-#[tactic(auto, unfolding(minijinja_grammar::specs::Forms::reads, minijinja_grammar::specs::Statements::binding))]
+#[tactic(auto, unfolding(minijinja_grammar::specs::internal::Forms::reads, minijinja_grammar::specs::internal::StmtForms::binding))]
 fn binding<S: StmtBuilder>(
     builder: S,
     tokens: &mut S::Input,
     depth: usize,
 ) -> Result<(S::Expr, S::Expr), Refusal>
-    ensures { Parses S.Input.place (binding_of S.tree) (form.binding (expr_at S.functions depth))
-        tokens.old result tokens.new }
+    ensures { Parses S.Input.place (binding_of S.tree) (form.binding (form.bound_target depth)
+        (expr_at S.functions depth)) tokens.old result tokens.new }
 {
-    let target = bound_target(builder, tokens)?;
+    let target = bound_target(builder, tokens, depth)?;
     tokens.expect(Mark::Assign)?;
     let value = builder.expr(tokens, ExprForm::Full, depth)?;
     Ok((target, value))
@@ -54,7 +61,7 @@ fn bindings<S: StmtBuilder>(
     depth: usize,
 ) -> Result<Vec<(S::Expr, S::Expr)>, Refusal>
     ensures { Parses S.Input.place (λ v. map (binding_of S.tree) v.items)
-        (form.bindings (expr_at S.functions depth)) tokens.old result tokens.new }
+        (form.bindings (form.bound_target depth) (expr_at S.functions depth)) tokens.old result tokens.new }
 {
     let mut bindings = Vec::new(builder.alloc());
     if tokens.at(Mark::BlockEnd) {
@@ -68,7 +75,7 @@ fn bindings<S: StmtBuilder>(
 }
 
 /// `=` and a value, after the targets of a `set`.
-#[tactic(auto, unfolding(crate::specs::internal::Made::HasParts, crate::specs::internal::Made::statement_tree, minijinja_grammar::specs::Forms::reads, minijinja_grammar::specs::Statements::rest_of_set))]
+#[tactic(auto, unfolding(crate::specs::internal::Made::HasParts, crate::specs::internal::Made::statement_tree, minijinja_grammar::specs::internal::Forms::reads, minijinja_grammar::specs::internal::StmtForms::rest_of_set))]
 fn rest_of_set<S: StmtBuilder>(
     builder: S,
     tokens: &mut S::Input,
@@ -89,7 +96,7 @@ fn rest_of_set<S: StmtBuilder>(
 }
 
 /// `|` and a chain of filters, after the targets of a set block, if they are there.
-#[tactic(auto, using(minijinja_parser_tokens::proofs::Turned::behind_is), unfolding(minijinja_grammar::specs::Forms::reads, minijinja_grammar::specs::Statements::filters_if_any))]
+#[tactic(auto, using(minijinja_parser_tokens::proofs::Turned::behind_is), unfolding(minijinja_grammar::specs::internal::Forms::reads, minijinja_grammar::specs::internal::StmtForms::filters_if_any))]
 fn filters_if_any<S: StmtBuilder>(
     builder: S,
     tokens: &mut S::Input,
@@ -112,14 +119,15 @@ impl<
             &'x mut S::Input,
             PhantomData<S::Stmt>,
             Context,
+            Nested,
             usize,
         ) -> Result<S::Stmt, Refusal>,
 > StmtRules<S, F> {
     /// `with`, after its word.
-    #[tactic(auto, unfolding(crate::specs::internal::Made::HasParts, crate::specs::internal::Made::statement_tree, minijinja_grammar::specs::Forms::reads, minijinja_grammar::specs::Statements::with_stmt))]
+    #[tactic(auto, unfolding(crate::specs::internal::Made::HasParts, crate::specs::internal::Made::statement_tree, minijinja_grammar::specs::internal::Forms::reads, minijinja_grammar::specs::internal::StmtForms::with_stmt))]
     pub(super) fn with_stmt(&self, tokens: &mut S::Input, from: Span) -> Result<S::Stmt, Refusal>
         requires { Nests S.Input.place S.stmt S.functions self.now.depth F.pre F.post
-            self.now.stmt }
+            self.now.nested }
         ensures { Parses S.Input.place S.stmt (form.with_stmt (parts_at S.functions
             (context_of self.now.context) self.now.depth) from) tokens.old result tokens.new }
     {
@@ -133,7 +141,7 @@ impl<
     }
 
     /// The filters and the body of a set block, after its targets.
-    #[tactic(auto, unfolding(crate::specs::internal::Made::HasParts, crate::specs::internal::Made::statement_tree, minijinja_grammar::specs::Forms::reads, minijinja_grammar::specs::Statements::rest_of_set_block))]
+    #[tactic(auto, unfolding(crate::specs::internal::Made::HasParts, crate::specs::internal::Made::statement_tree, minijinja_grammar::specs::internal::Forms::reads, minijinja_grammar::specs::internal::StmtForms::rest_of_set_block))]
     fn rest_of_set_block(
         &self,
         tokens: &mut S::Input,
@@ -141,7 +149,7 @@ impl<
         from: Span,
     ) -> Result<S::Stmt, Refusal>
         requires { Nests S.Input.place S.stmt S.functions self.now.depth F.pre F.post
-            self.now.stmt }
+            self.now.nested }
         ensures { Parses S.Input.place S.stmt (form.rest_of_set_block (parts_at S.functions
             (context_of self.now.context) self.now.depth) from (S.tree target)) tokens.old
             result tokens.new }
@@ -157,14 +165,14 @@ impl<
     }
 
     /// `set`, after its word.
-    #[tactic(auto, unfolding(minijinja_grammar::specs::Forms::reads, minijinja_grammar::specs::Statements::set_stmt))]
+    #[tactic(auto, unfolding(minijinja_grammar::specs::internal::Forms::reads, minijinja_grammar::specs::internal::StmtForms::set_stmt))]
     pub(super) fn set_stmt(&self, tokens: &mut S::Input, from: Span) -> Result<S::Stmt, Refusal>
         requires { Nests S.Input.place S.stmt S.functions self.now.depth F.pre F.post
-            self.now.stmt }
+            self.now.nested }
         ensures { Parses S.Input.place S.stmt (form.set_stmt (parts_at S.functions
             (context_of self.now.context) self.now.depth) from) tokens.old result tokens.new }
     {
-        let target = any_targets(self.builder, tokens, true)?;
+        let target = any_targets(self.builder, tokens, true, self.depth)?;
         if tokens.begins(Part::SetBlock) {
             return self.rest_of_set_block(tokens, target, from);
         }
@@ -172,14 +180,14 @@ impl<
     }
 
     /// `autoescape`, after its word.
-    #[tactic(auto, unfolding(crate::specs::internal::Made::HasParts, crate::specs::internal::Made::statement_tree, minijinja_grammar::specs::Forms::reads, minijinja_grammar::specs::Statements::autoescape_stmt))]
+    #[tactic(auto, unfolding(crate::specs::internal::Made::HasParts, crate::specs::internal::Made::statement_tree, minijinja_grammar::specs::internal::Forms::reads, minijinja_grammar::specs::internal::StmtForms::autoescape_stmt))]
     pub(super) fn autoescape_stmt(
         &self,
         tokens: &mut S::Input,
         from: Span,
     ) -> Result<S::Stmt, Refusal>
         requires { Nests S.Input.place S.stmt S.functions self.now.depth F.pre F.post
-            self.now.stmt }
+            self.now.nested }
         ensures { Parses S.Input.place S.stmt (form.autoescape_stmt (parts_at S.functions
             (context_of self.now.context) self.now.depth) from) tokens.old result tokens.new }
     {
@@ -193,10 +201,10 @@ impl<
     }
 
     /// A filter block, after its word.
-    #[tactic(auto, unfolding(crate::specs::internal::Made::HasParts, crate::specs::internal::Made::statement_tree, minijinja_grammar::specs::Forms::reads, minijinja_grammar::specs::Statements::filter_stmt))]
+    #[tactic(auto, unfolding(crate::specs::internal::Made::HasParts, crate::specs::internal::Made::statement_tree, minijinja_grammar::specs::internal::Forms::reads, minijinja_grammar::specs::internal::StmtForms::filter_stmt))]
     pub(super) fn filter_stmt(&self, tokens: &mut S::Input, from: Span) -> Result<S::Stmt, Refusal>
         requires { Nests S.Input.place S.stmt S.functions self.now.depth F.pre F.post
-            self.now.stmt }
+            self.now.nested }
         ensures { Parses S.Input.place S.stmt (form.filter_stmt (parts_at S.functions
             (context_of self.now.context) self.now.depth) from) tokens.old result tokens.new }
     {

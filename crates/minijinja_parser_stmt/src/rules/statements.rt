@@ -1,14 +1,14 @@
 //! The rules of templates, of statements by their first word, and of `do`, `break` and `continue`.
-ghost use Rattle.minijinja_grammar.specs.Grammar.{expr_at};
-ghost use Rattle.minijinja_grammar.specs.Statements as form;
-ghost use Rattle.minijinja_grammar.specs.Statements.{parts_at, stmt_at};
-ghost use Rattle.minijinja_grammar.specs.Templates.{template_at};
+ghost use Rattle.minijinja_grammar.specs.internal.ExprForms.{expr_at};
+ghost use Rattle.minijinja_grammar.specs.internal.StmtForms as form;
+ghost use Rattle.minijinja_grammar.specs.internal.StmtForms.{parts_at, stmt_level};
+ghost use Rattle.minijinja_grammar.specs.internal.TemplateForms.{template_at};
 ghost use Rattle.minijinja_parser_tokens.specs.internal.Marks.{keyword_view};
-ghost use Rattle.minijinja_parser_stmt.specs.private.Parses.{Nests, Parses, context_of};
+ghost use Rattle.minijinja_parser_stmt.specs.private.Parses.{Nests, Parses, context_of, nested_at};
 
 use crate::builder::{Kind, StmtBuilder, of_kind};
 use crate::rules::modules::{extends_stmt, from_stmt, import_stmt, include_stmt};
-use crate::rules::{Context, StmtRules};
+use crate::rules::{Context, Nested, StmtRules};
 use minijinja_parser_tokens::forms::ExprForm;
 use minijinja_parser_tokens::marks::Ends;
 use minijinja_parser_tokens::refusal::{Refusal, Wanted};
@@ -18,7 +18,7 @@ use minijinja_syntax::tokens::Span;
 use std::marker::PhantomData;
 
 /// A template, in which statements and expressions nest `depth` deep at most.
-#[tactic(auto, unfolding(crate::specs::internal::Made::HasParts, crate::specs::internal::Made::statement_tree, minijinja_grammar::specs::Forms::reads, minijinja_grammar::specs::Templates::template_at))]
+#[tactic(auto, unfolding(crate::specs::internal::Made::HasParts, crate::specs::internal::Made::statement_tree, minijinja_grammar::specs::internal::Forms::reads, minijinja_grammar::specs::internal::TemplateForms::template_at))]
 pub fn template<S: StmtBuilder>(
     builder: S,
     tokens: &mut S::Input,
@@ -35,7 +35,7 @@ pub fn template<S: StmtBuilder>(
             open: None,
         },
         depth,
-        stmt: stmt::<S>,
+        nested: nested::<S>,
     };
     let from = tokens.last_span();
     let children = rules.body(tokens, Ends::Text)?;
@@ -45,34 +45,34 @@ pub fn template<S: StmtBuilder>(
     Ok(builder.statement(parts, span)?)
 }
 
-/// A statement, from its first word on, in which statements and expressions nest `depth` deep at
-/// most. The parameter `made` has the type of the result, so that the rules can take this function
-/// as their parser of nested statements.
-#[tactic(auto, unfolding(minijinja_grammar::specs::Forms::reads, minijinja_grammar::specs::Statements::stmt_at))]
-pub fn stmt<S: StmtBuilder>(
+/// What nests in a statement, in which statements and expressions nest `depth` deep at most. The
+/// parameter `made` has the type of the result, so that the rules can take this function as their
+/// parser of what nests.
+#[tactic(auto, unfolding(minijinja_grammar::specs::internal::Forms::reads, minijinja_grammar::specs::internal::StmtForms::within))]
+pub fn nested<S: StmtBuilder>(
     builder: S,
     tokens: &mut S::Input,
     made: PhantomData<S::Stmt>,
     context: Context,
+    part: Nested,
     depth: usize,
 ) -> Result<S::Stmt, Refusal>
-    ensures { Parses S.Input.place S.stmt (stmt_at S.functions (context_of context) depth)
-        tokens.old result tokens.new }
+    ensures { Parses S.Input.place S.stmt (nested_at S.functions (context_of context) part depth
+        (S.Input.place tokens.old).last) tokens.old result tokens.new }
 {
     if depth == 0 {
         return Err(tokens.misfit(Wanted::Flatter));
     }
-    let (keyword, from) = tokens.keyword(context.open)?;
     let rules = StmtRules {
         builder,
-        context: Context {
-            open: opened(keyword, from.start_line),
-            ..context
-        },
+        context,
         depth: depth - 1,
-        stmt: stmt::<S>,
+        nested: nested::<S>,
     };
-    rules.stmt_of(tokens, keyword, from)
+    match part {
+        Nested::Statement => rules.any_stmt(tokens),
+        Nested::ElseIf => rules.if_stmt(tokens, tokens.last_span()),
+    }
 }
 
 /// `do`, after its word.
@@ -94,7 +94,7 @@ fn do_stmt<S: StmtBuilder>(
 }
 
 /// `break`, after its word.
-#[tactic(auto, unfolding(crate::specs::internal::Made::HasParts, crate::specs::internal::Made::statement_tree, minijinja_grammar::specs::Forms::reads, minijinja_grammar::specs::Statements::break_stmt))]
+#[tactic(auto, unfolding(crate::specs::internal::Made::HasParts, crate::specs::internal::Made::statement_tree, minijinja_grammar::specs::internal::Forms::reads, minijinja_grammar::specs::internal::StmtForms::break_stmt))]
 fn break_stmt<S: StmtBuilder>(
     builder: S,
     tokens: &mut S::Input,
@@ -113,7 +113,7 @@ fn break_stmt<S: StmtBuilder>(
 }
 
 /// `continue`, after its word.
-#[tactic(auto, unfolding(crate::specs::internal::Made::HasParts, crate::specs::internal::Made::statement_tree, minijinja_grammar::specs::Forms::reads, minijinja_grammar::specs::Statements::continue_stmt))]
+#[tactic(auto, unfolding(crate::specs::internal::Made::HasParts, crate::specs::internal::Made::statement_tree, minijinja_grammar::specs::internal::Forms::reads, minijinja_grammar::specs::internal::StmtForms::continue_stmt))]
 fn continue_stmt<S: StmtBuilder>(
     builder: S,
     tokens: &mut S::Input,
@@ -139,9 +139,30 @@ impl<
             &'x mut S::Input,
             PhantomData<S::Stmt>,
             Context,
+            Nested,
             usize,
         ) -> Result<S::Stmt, Refusal>,
 > StmtRules<S, F> {
+    /// A statement, from its first word on.
+    #[tactic(auto, unfolding(minijinja_grammar::specs::internal::Forms::reads, minijinja_grammar::specs::internal::StmtForms::stmt_level))]
+    fn any_stmt(&self, tokens: &mut S::Input) -> Result<S::Stmt, Refusal>
+        requires { Nests S.Input.place S.stmt S.functions self.now.depth F.pre F.post
+            self.now.nested }
+        ensures { Parses S.Input.place S.stmt (stmt_level (context_of self.now.context) (parts_at
+            S.functions (context_of self.now.context) self.now.depth)) tokens.old result
+            tokens.new }
+    {
+        let (keyword, from) = tokens.keyword(self.context.open)?;
+        let rules = StmtRules {
+            context: Context {
+                open: opened(keyword, from.start_line),
+                ..self.context
+            },
+            ..*self
+        };
+        rules.stmt_of(tokens, keyword, from)
+    }
+
     /// The statement of a word, after it.
     fn stmt_of(
         &self,
@@ -150,7 +171,7 @@ impl<
         from: Span,
     ) -> Result<S::Stmt, Refusal>
         requires { Nests S.Input.place S.stmt S.functions self.now.depth F.pre F.post
-            self.now.stmt }
+            self.now.nested }
         ensures { Parses S.Input.place S.stmt (form.stmt_of (context_of self.now.context)
             (parts_at S.functions (context_of self.now.context) self.now.depth)
             (keyword_view keyword, from)) tokens.old result tokens.new }

@@ -1,9 +1,11 @@
 //! The rules of targets, which are assigned to: names, attributes and lists of targets.
-ghost use Rattle.std.specs.Prelude.{◌≡◌, is_some, length, map, reverse, IfOk};
-ghost use Rattle.minijinja_grammar.specs.Forms.{one};
-ghost use Rattle.minijinja_grammar.specs.Targets as form;
+ghost use Rattle.std.specs.Prelude.{◌≡◌, ◌∷◌, [], is_some, map};
+ghost use Rattle.minijinja_syntax.specs.Tokens.{comma};
+ghost use Rattle.minijinja_grammar.specs.internal.Forms.{many, one};
+ghost use Rattle.minijinja_grammar.specs.internal.ExprForms.{span_of_mark};
+ghost use Rattle.minijinja_grammar.specs.internal.TargetForms as form;
 ghost use Rattle.minijinja_parser_stmt.specs.private.Parses.{Parses};
-ghost use Rattle.minijinja_parser_stmt.specs.private.Targets.{Resumes, after_whole, all_of, is_no_target, listed, opened, opens_within, rest_of_all};
+ghost use Rattle.minijinja_parser_stmt.specs.private.Targets.{is_no_target};
 
 use crate::builder::{StmtBuilder, Target};
 use minijinja_parser_tokens::forms::IdentForm;
@@ -13,26 +15,6 @@ use minijinja_parser_tokens::tokens::Tokens;
 use minijinja_parser_tokens::words::is_reserved;
 use minijinja_syntax::error::Expected;
 use minijinja_syntax::tokens::Span;
-use std::alloc::AllocError;
-
-/// How many parentheses may stand around a target: more than a source has bytes.
-const MOST_PARENTHESES: usize = 1 << 32;
-
-/// Targets whose end is not read yet: where they begin, and those before the last comma.
-#[derive(Drop)]
-pub struct OpenTargets<E> {
-    pub from: Span,
-    pub items: Vec<E>,
-}
-
-/// What targets are after their end.
-#[derive(Drop)]
-pub enum Ended<E> {
-    /// They stood in no parentheses, so this is the whole target.
-    Whole(E),
-    /// They stood in parentheses, and a comma followed: they are the first of these.
-    More(OpenTargets<E>),
-}
 
 /// What is wanted in the place of a name that cannot be assigned to.
 fn wanted_for(name: &str) -> Option<Wanted>
@@ -79,7 +61,7 @@ pub(super) fn name<S: StmtBuilder>(
 }
 
 /// A target that is one name, which may be `in`.
-#[tactic(auto, unfolding(minijinja_grammar::specs::Forms::reads, minijinja_grammar::specs::Targets::stored_name))]
+#[tactic(auto, unfolding(minijinja_grammar::specs::internal::Forms::reads, minijinja_grammar::specs::internal::TargetForms::stored_name))]
 pub(super) fn stored_name<S: StmtBuilder>(
     builder: S,
     tokens: &mut S::Input,
@@ -113,7 +95,7 @@ fn attributes<S: StmtBuilder>(
 }
 
 /// A name, and attributes after it where dots may follow.
-#[tactic(auto, unfolding(minijinja_grammar::specs::Forms::reads, minijinja_grammar::specs::Targets::named_target))]
+#[tactic(auto, unfolding(minijinja_grammar::specs::internal::Forms::reads, minijinja_grammar::specs::internal::TargetForms::named_target))]
 fn named_target<S: StmtBuilder>(
     builder: S,
     tokens: &mut S::Input,
@@ -129,127 +111,75 @@ fn named_target<S: StmtBuilder>(
     attributes(builder, tokens, target)
 }
 
-/// A list of targets, up to the last token taken.
-fn list<S: StmtBuilder>(
-    builder: S,
-    tokens: &S::Input,
-    targets: OpenTargets<S::Expr>,
-) -> Result<S::Expr, AllocError>
-    ensures { IfOk result (λ e. S.tree e ≡ listed (opened S.tree targets)
-        (S.Input.place tokens.now)) }
-{
-    let span = tokens.expand_span(targets.from);
-    builder.target(Target::List(targets.items), span)
-}
-
-/// The target that ends with this one: itself if no comma came, otherwise a list.
-fn all<S: StmtBuilder>(
-    builder: S,
-    tokens: &S::Input,
-    targets: OpenTargets<S::Expr>,
-    last: S::Expr,
-) -> Result<S::Expr, AllocError>
-    ensures { IfOk result (λ e. S.tree e ≡ all_of (opened S.tree targets) (S.tree last)
-        (S.Input.place tokens.now)) }
-{
-    if targets.items.is_empty() {
-        return Ok(last);
-    }
-    let mut targets = targets;
-    targets.items.push(last)?;
-    list(builder, tokens, targets)
-}
-
-/// Ends targets, and all those around them that end here too.
-#[tactic(auto, using(crate::proofs::OpenTargets::rest_is))]
-fn end<S: StmtBuilder>(
+/// A target: targets in parentheses, or a name.
+#[tactic(auto, using(crate::proofs::Targets::target_is, crate::proofs::Targets::nested_is))]
+#[cycle(targets)]
+fn target<S: StmtBuilder>(
     builder: S,
     tokens: &mut S::Input,
     dotted: bool,
-    enclosing: &mut Vec<OpenTargets<S::Expr>>,
-    whole: S::Expr,
-) -> Result<Ended<S::Expr>, Refusal>
-    ensures { Resumes S.Input.place S.tree dotted (after_whole dotted
-        (reverse (map (opened S.tree) enclosing.old.items)) (S.tree whole)
-        (S.Input.place tokens.old)) (length (S.Input.place tokens.old).tokens) result
-        (reverse (map (opened S.tree) enclosing.new.items)) tokens.new }
+    depth: usize,
+) -> Result<S::Expr, Refusal>
+    ensures { Parses S.Input.place S.tree (form.target_in dotted depth) tokens.old result
+        tokens.new }
 {
-    let mut whole = whole;
-    while let Some(outer) = enclosing.pop() {
-        let mut outer = outer;
-        tokens.expect(Mark::ParenClose)?;
-        if tokens.eat(Mark::Comma)? {
-            outer.items.push(whole)?;
-            return Ok(Ended::More(outer));
+    if !tokens.eat(Mark::ParenOpen)? {
+        return named_target(builder, tokens, dotted);
+    }
+    if depth == 0 {
+        return Err(Refusal::Wrong(Wanted::Flatter));
+    }
+    let targets = any_targets(builder, tokens, dotted, depth - 1)?;
+    tokens.expect(Mark::ParenClose)?;
+    Ok(targets)
+}
+
+/// The targets after a first one, each after a comma.
+#[cycle(targets)]
+fn further_targets<S: StmtBuilder>(
+    builder: S,
+    tokens: &mut S::Input,
+    dotted: bool,
+    depth: usize,
+    first: S::Expr,
+) -> Result<Vec<S::Expr>, Refusal>
+    ensures { Parses S.Input.place (λ v. map S.tree v.items) (many (span_of_mark comma)
+        (form.next_target (form.target_in dotted depth)) (S.tree first ∷ [])) tokens.old result
+        tokens.new }
+{
+    let mut targets = Vec::new(builder.alloc());
+    targets.push(first)?;
+    while tokens.eat(Mark::Comma)? {
+        if tokens.begins(Part::TargetsEnd) {
+            return Ok(targets);
         }
-        whole = all(builder, tokens, outer, whole)?;
+        targets.push(target(builder, tokens, dotted, depth)?)?;
     }
-    Ok(Ended::Whole(whole))
+    Ok(targets)
 }
 
-/// Whether a parenthesis comes, in which this many others may be nested.
-fn opens<S: StmtBuilder>(tokens: &S::Input, others: usize) -> bool
-    ensures { result ≡ opens_within others (S.Input.place tokens.now).tokens }
-{
-    others < MOST_PARENTHESES && tokens.at(Mark::ParenOpen)
-}
-
-/// Reads the end of targets, a parenthesis or a name, whichever comes.
-#[tactic(auto, using(crate::proofs::OpenTargets::at_end, crate::proofs::OpenTargets::at_opening, crate::proofs::OpenTargets::at_target))]
-fn go_on<S: StmtBuilder>(
-    builder: S,
-    tokens: &mut S::Input,
-    dotted: bool,
-    enclosing: &mut Vec<OpenTargets<S::Expr>>,
-    now: OpenTargets<S::Expr>,
-) -> Result<Ended<S::Expr>, Refusal>
-    ensures { Resumes S.Input.place S.tree dotted
-        (rest_of_all dotted (reverse (map (opened S.tree) enclosing.old.items))
-        (opened S.tree now) (S.Input.place tokens.old))
-        (length (S.Input.place tokens.old).tokens) result
-        (reverse (map (opened S.tree) enclosing.new.items)) tokens.new }
-{
-    if tokens.begins(Part::TargetsEnd) {
-        let whole = list(builder, tokens, now)?;
-        return end(builder, tokens, dotted, enclosing, whole);
-    }
-    if opens::<S>(tokens, enclosing.len()) {
-        tokens.expect(Mark::ParenOpen)?;
-        enclosing.push(now)?;
-        return Ok(Ended::More(OpenTargets {
-            from: tokens.current_span(),
-            items: Vec::new(builder.alloc()),
-        }));
-    }
-    let mut now = now;
-    let target = named_target(builder, tokens, dotted)?;
-    if tokens.eat(Mark::Comma)? {
-        now.items.push(target)?;
-        return Ok(Ended::More(now));
-    }
-    let whole = all(builder, tokens, now, target)?;
-    end(builder, tokens, dotted, enclosing, whole)
-}
-
-/// Targets, in any number of parentheses. These nest without a limit, so they are read by a loop
-/// and not by recursion.
-#[tactic(auto, using(crate::proofs::OpenTargets::whole_is))]
+/// Targets up to what ends them: one without a comma is itself, otherwise they are a list.
+/// Parentheses nest `depth` deep at most.
+#[tactic(auto, unfolding(minijinja_grammar::specs::internal::Forms::reads, minijinja_grammar::specs::internal::TargetForms::any_targets, minijinja_grammar::specs::internal::TargetForms::targets))]
+#[cycle(targets)]
 pub(super) fn any_targets<S: StmtBuilder>(
     builder: S,
     tokens: &mut S::Input,
     dotted: bool,
+    depth: usize,
 ) -> Result<S::Expr, Refusal>
-    ensures { Parses S.Input.place S.tree (form.any_targets dotted) tokens.old result tokens.new }
+    ensures { Parses S.Input.place S.tree (form.any_targets dotted depth) tokens.old result
+        tokens.new }
 {
-    let mut enclosing = Vec::new(builder.alloc());
-    let mut now = OpenTargets {
-        from: tokens.current_span(),
-        items: Vec::new(builder.alloc()),
-    };
-    loop {
-        match go_on(builder, tokens, dotted, &mut enclosing, now)? {
-            Ended::Whole(targets) => return Ok(targets),
-            Ended::More(targets) => now = targets,
+    let from = tokens.current_span();
+    let mut items = Vec::new(builder.alloc());
+    if !tokens.begins(Part::TargetsEnd) {
+        let first = target(builder, tokens, dotted, depth)?;
+        if !tokens.at(Mark::Comma) {
+            return Ok(first);
         }
+        items = further_targets(builder, tokens, dotted, depth, first)?;
     }
+    let span = tokens.expand_span(from);
+    Ok(builder.target(Target::List(items), span)?)
 }

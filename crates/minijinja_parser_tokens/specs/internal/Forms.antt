@@ -4,9 +4,9 @@ use Rattle.minijinja_syntax.specs.Texts.{Text}
 use Rattle.minijinja_syntax.specs.declared.tokens.Span.{Span}
 use Rattle.minijinja_value.specs.Values.{Functions}
 use Rattle.minijinja_tree.specs.SpannedTrees.{Expr}
-use Rattle.minijinja_grammar.specs.Forms.{Form, one, pure, new_name, ◌>>=◌, ◌>>◌}
-use Rattle.minijinja_grammar.specs.Grammar.{expr_at, ident_and_span, when}
-use Rattle.minijinja_grammar.specs.Statements.{call_of, chain, is_storable, or_at, value}
+use Rattle.minijinja_grammar.specs.internal.Forms.{Form, one, pure, new_name, ◌>>=◌, ◌>>◌}
+use Rattle.minijinja_grammar.specs.internal.ExprForms.{expr_at, ident_and_span, when}
+use Rattle.minijinja_grammar.specs.internal.StmtForms.{call_of, chain, is_storable, or_at, value}
 use Rattle.minijinja_parser_tokens.specs.declared.forms.ExprForm.{ExprForm}
 use Rattle.minijinja_parser_tokens.specs.declared.forms.ExprForm.TheVariants as form
 use Rattle.minijinja_parser_tokens.specs.declared.forms.IdentForm.{IdentForm}

@@ -7,12 +7,13 @@ use Rattle.minijinja_tree.specs.CompareOps.{CompareOp}
 use Rattle.minijinja_tree.specs.SpannedTrees.{Expr}
 use Rattle.minijinja_tree_expr.specs.declared.ast.BinOpKind.TheVariants as op
 use Rattle.minijinja_tree.specs.Erasure.{bin_op}
-use Rattle.minijinja_grammar.specs.Words.{is, and_word, or_word, begins_comparison, compare_op, and_op, sum_op, cat_op, term_op, pow_op}
-use Rattle.minijinja_grammar.specs.Forms.{Place, Read, Form, got, one, read_then, reads}
-use Rattle.minijinja_grammar.specs.Grammar.{of_kind, compare_operator}
-use Rattle.minijinja_grammar.specs.internal.Climbing.{Row, binaries, comparing, all_rows, Infix, binary_of, comparing_of}
+use Rattle.minijinja_grammar.specs.Words.{is, and_word, or_word, begins_comparison, compare_op, and_op, sum_op, cat_op, term_op}
+use Rattle.minijinja_grammar.specs.Places.{Place}
+use Rattle.minijinja_grammar.specs.internal.Forms.{Read, Form, got, one, read_then, reads}
+use Rattle.minijinja_grammar.specs.internal.ExprForms.{of_kind, compare_operator}
+use Rattle.minijinja_grammar.specs.internal.Climbing.{Row, binaries, not_rows, all_rows, Infix, binary_of, comparing_of}
 use Rattle.minijinja_parser_tokens.specs.declared.operators.Level.{Level}
-use Rattle.minijinja_parser_tokens.specs.declared.operators.Level.TheVariants.{Or, And, Not, Sum, Cat, Term, Pow, Operand}
+use Rattle.minijinja_parser_tokens.specs.declared.operators.Level.TheVariants.{Or, And, Not, Sum, Cat, Term, Operand}
 use Rattle.minijinja_parser_tokens.specs.declared.operators.Operator.{Operator}
 use Rattle.minijinja_parser_tokens.specs.declared.operators.Operator.TheVariants.{Binary, Comparison}
 
@@ -24,18 +25,16 @@ rank Not = 2
 rank Sum = 3
 rank Cat = 4
 rank Term = 5
-rank Pow = 6
-rank Operand = 7
+rank Operand = 6
 
 -- the level and all tighter ones
 abbrev pub rows : Level → List Row
 rows Or = all_rows
-rows And = binaries and_op ∷ comparing ∷ binaries sum_op ∷ binaries cat_op ∷ binaries term_op ∷ binaries pow_op ∷ []
-rows Not = comparing ∷ binaries sum_op ∷ binaries cat_op ∷ binaries term_op ∷ binaries pow_op ∷ []
-rows Sum = binaries sum_op ∷ binaries cat_op ∷ binaries term_op ∷ binaries pow_op ∷ []
-rows Cat = binaries cat_op ∷ binaries term_op ∷ binaries pow_op ∷ []
-rows Term = binaries term_op ∷ binaries pow_op ∷ []
-rows Pow = binaries pow_op ∷ []
+rows And = binaries and_op ∷ not_rows
+rows Not = not_rows
+rows Sum = binaries sum_op ∷ binaries cat_op ∷ binaries term_op ∷ []
+rows Cat = binaries cat_op ∷ binaries term_op ∷ []
+rows Term = binaries term_op ∷ []
 rows Operand = []
 
 -- the level of its operands
@@ -45,8 +44,7 @@ tighter And = Not
 tighter Not = Sum
 tighter Sum = Cat
 tighter Cat = Term
-tighter Term = Pow
-tighter Pow = Operand
+tighter Term = Operand
 tighter Operand = Operand
 
 -- whether it has `not`
@@ -78,7 +76,6 @@ operator_of tok.mul = Some (Binary op.Mul Term)
 operator_of tok.div = Some (Binary op.Div Term)
 operator_of tok.floor_div = Some (Binary op.FloorDiv Term)
 operator_of tok.rem = Some (Binary op.Rem Term)
-operator_of tok.pow = Some (Binary op.Pow Pow)
 operator_of t = word_operator t
 
 -- if it binds at least as tight as the level

@@ -1,10 +1,12 @@
 -- The tokens of the grammar that `Mark`, `Keyword`, `Ends` and `Part` name.
-use Rattle.std.specs.Prelude.{Bool, is_some}
+use Rattle.std.specs.Prelude.{Bool, true, is_some}
 use Rattle.minijinja_syntax.specs.Tokens as tok
 use Rattle.minijinja_syntax.specs.Tokens.{Tok}
+use Rattle.minijinja_grammar.specs.internal.StmtForms as stmt_forms
 use Rattle.minijinja_grammar.specs.Statements as statements
 use Rattle.minijinja_grammar.specs.Targets as targets
 use Rattle.minijinja_grammar.specs.Words as words
+use Rattle.minijinja_grammar.specs.internal.Keywords as keywords
 use Rattle.minijinja_parser_tokens.specs.declared.marks.Ends.{Ends}
 use Rattle.minijinja_parser_tokens.specs.declared.marks.Ends.TheVariants as ends
 use Rattle.minijinja_parser_tokens.specs.declared.marks.Mark.{Mark}
@@ -57,23 +59,23 @@ mark_tok mark.VariableEnd = tok.variable_end
 mark_tok mark.BlockEnd = tok.block_end
 
 -- the word that begins a statement
-abbrev pub keyword_view : Keyword → words.Keyword
-keyword_view keyword.For = words.for_keyword
-keyword_view keyword.If = words.if_keyword
-keyword_view keyword.With = words.with_keyword
-keyword_view keyword.Set = words.set_keyword
-keyword_view keyword.AutoEscape = words.autoescape_keyword
-keyword_view keyword.Filter = words.filter_keyword
-keyword_view keyword.Block = words.block_keyword
-keyword_view keyword.Extends = words.extends_keyword
-keyword_view keyword.Include = words.include_keyword
-keyword_view keyword.Import = words.import_keyword
-keyword_view keyword.From = words.from_keyword
-keyword_view keyword.Macro = words.macro_keyword
-keyword_view keyword.Call = words.call_keyword
-keyword_view keyword.Do = words.do_keyword
-keyword_view keyword.Break = words.break_keyword
-keyword_view keyword.Continue = words.continue_keyword
+abbrev pub keyword_view : Keyword → keywords.Keyword
+keyword_view keyword.For = keywords.for_keyword
+keyword_view keyword.If = keywords.if_keyword
+keyword_view keyword.With = keywords.with_keyword
+keyword_view keyword.Set = keywords.set_keyword
+keyword_view keyword.AutoEscape = keywords.autoescape_keyword
+keyword_view keyword.Filter = keywords.filter_keyword
+keyword_view keyword.Block = keywords.block_keyword
+keyword_view keyword.Extends = keywords.extends_keyword
+keyword_view keyword.Include = keywords.include_keyword
+keyword_view keyword.Import = keywords.import_keyword
+keyword_view keyword.From = keywords.from_keyword
+keyword_view keyword.Macro = keywords.macro_keyword
+keyword_view keyword.Call = keywords.call_keyword
+keyword_view keyword.Do = keywords.do_keyword
+keyword_view keyword.Break = keywords.break_keyword
+keyword_view keyword.Continue = keywords.continue_keyword
 
 -- what a body ends at
 abbrev pub ends_view : Ends → statements.Ends
@@ -90,6 +92,10 @@ ends_view ends.EndBlock = statements.at_endblock
 ends_view ends.EndMacro = statements.at_endmacro
 ends_view ends.EndCall = statements.at_endcall
 
+-- every token, whichever it is
+abbrev pub is_any : Tok → Bool
+is_any t = true
+
 -- whether the token begins the part
 abbrev pub begins : Part → Tok → Bool
 begins part.Expr = words.begins_expr
@@ -99,10 +105,10 @@ begins part.Suffix = words.begins_suffix
 begins part.Comparison = words.begins_comparison
 begins part.Bare = words.begins_bare
 begins part.Text = λ t. is_some (words.text_of t)
-begins part.Template = statements.begins_part
+begins part.Any = is_any
 begins part.Name = words.is_identifier
 begins part.Context = statements.begins_context
 begins part.NamesEnd = statements.ends_names
-begins part.SetBlock = statements.begins_set_block
+begins part.SetBlock = stmt_forms.begins_set_block
 begins part.TargetsEnd = targets.ends_targets
 begins (part.BodyEnd e) = statements.ends_body (ends_view e)

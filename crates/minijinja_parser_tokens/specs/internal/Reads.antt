@@ -6,8 +6,10 @@ use Rattle.minijinja_syntax.specs.declared.tokens.Span.{Span}
 use Rattle.minijinja_syntax.specs.Tokens.{Tok}
 use Rattle.minijinja_syntax.specs.Streams.{SpannedTok}
 use Rattle.minijinja_grammar.specs.Words.{is}
-use Rattle.minijinja_grammar.specs.Grammar.{ident_and_span, next}
-use Rattle.minijinja_grammar.specs.Forms.{Place, Read, got, short, wrong, comes, one, read_then, reads}
+use Rattle.minijinja_grammar.specs.internal.ExprForms.{ident_and_span, next}
+use Rattle.minijinja_grammar.specs.Places.{Place}
+use Rattle.minijinja_grammar.specs.internal.Forms.{Read, got, short, wrong, one, read_then, reads}
+use Rattle.minijinja_grammar.specs.Ahead.{comes}
 use Rattle.minijinja_parser_tokens.specs.declared.refusal.Refusal.{Refusal}
 use Rattle.minijinja_parser_tokens.specs.declared.refusal.Refusal.TheVariants.{OutOfMemory, Ended, Wrong}
 

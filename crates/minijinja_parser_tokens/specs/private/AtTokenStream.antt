@@ -8,7 +8,7 @@ use Rattle.minijinja_syntax.specs.declared.tokens.Span.{Span}
 use Rattle.minijinja_syntax.specs.declared.error.Error.{Error}
 use Rattle.minijinja_syntax.specs.declared.error.ErrorKind.TheVariants.{OutOfMemory}
 use Rattle.minijinja_lexer.specs.Stream.{IsTokenizerKind}
-use Rattle.minijinja_grammar.specs.Forms.{Place}
+use Rattle.minijinja_grammar.specs.Places.{Place}
 use Rattle.minijinja_parser_tokens.specs.TokenStreams.{StandsBetweenChars}
 use Rattle.minijinja_parser_tokens.specs.declared.token_stream.TokenStream.TheInside.{Inside}
 

@@ -3,7 +3,7 @@ use Rattle.std.specs.Prelude.{◌≡◌, [], Option, Some, None}
 use Rattle.minijinja_syntax.specs.Errors.{kind_of, span_of}
 use Rattle.minijinja_syntax.specs.Streams.{Ending, finished, refused}
 use Rattle.minijinja_syntax.specs.declared.error.Error.{Error}
-use Rattle.minijinja_grammar.specs.Forms.{Place}
+use Rattle.minijinja_grammar.specs.Places.{Place}
 
 -- no token is left, only that ending
 abbrev pub ended_at : Place → Ending → Place

@@ -55,7 +55,10 @@ a / b => 0 Lookup("a")␊1 Lookup("b")␊2 Div␊
 a // b => 0 Lookup("a")␊1 Lookup("b")␊2 IntDiv␊
 a % b => 0 Lookup("a")␊1 Lookup("b")␊2 Rem␊
 a ** b => 0 Lookup("a")␊1 Lookup("b")␊2 Pow␊
-2 ** 3 ** 2 => 0 LoadConst(64)␊
+2**3**2 => 0 LoadConst(512)␊
+(2**3)**2 => 0 LoadConst(64)␊
+x**y**z => 0 Lookup("x")␊1 Lookup("y")␊2 Lookup("z")␊3 Pow␊4 Pow␊
+2 * x ** 2 ** 3 => 0 LoadConst(2)␊1 Lookup("x")␊2 LoadConst(8)␊3 Pow␊4 Mul␊
 a ~ b => 0 Lookup("a")␊1 Lookup("b")␊2 StringConcat␊
 "x" ~ 1 => 0 LoadConst("x1")␊
 a == b => 0 Lookup("a")␊1 Lookup("b")␊2 Eq␊

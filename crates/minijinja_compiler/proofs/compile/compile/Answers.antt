@@ -2,9 +2,6 @@ use Rattle.std.proofs.Common.{◌≡◌, ◌<◌, ◌≤◌, ◌^◌, ◌++◌, 
 use Rattle.std.proofs.lemmas.Result.{err_from_is_err_and}
 use Rattle.minijinja_tree.specs.Erasure.{stmt_tree}
 use Rattle.minijinja_tree.specs.Tree.{blocks}
-use Rattle.minijinja_tree.specs.SpannedTrees.{bare_stmt}
-use Rattle.minijinja_tree.specs.SpannedErasure.{stmt_node}
-use Rattle.minijinja_tree.proofs.Bare.{stmt_is}
 use Rattle.minijinja_semantics.specs.Jumps.{LeadsWell}
 use Rattle.minijinja_semantics.specs.Pieces.{start}
 use Rattle.minijinja_semantics.proofs.Leads.{layout_leads_well}
@@ -25,7 +22,6 @@ returns-clause-compiled g c =
     let v = g.V.TemplateValue.contents in
     let f = g.V.TemplateValue.functions in
     let tree = stmt_tree v c.in_ok-template.template in
-    let bare : bare_stmt (stmt_node v c.in_ok-template.template) ≡ tree = stmt_is v c.in_ok-template.template in
     let made = c.new-generator.result in
     let before = generated v made in
     let after = generated v c.compile_stmt.new.self in
@@ -35,21 +31,19 @@ returns-clause-compiled g c =
     let empty = c.new-generator.ensures.empty in
     let finished = c.finish-instructions.ensures.code in
     record {
-      tree = stmt_node v c.in_ok-template.template;
+      tree = tree;
       derived = parsed.found;
       only = λ t d. sym (parsed.only t d);
-      code = whole_code before after code (here_so_far v made) (stmt_code f tree) empty c.new-generator.ensures.here done.added finished ∙ ap (λ t. stmt_code f t start) (sym bare);
-      does = subst (λ t. DoesStmt f code 0 (length code) (placed_stmt f t start)) (sym bare)
-          (whole_does (λ is from to. DoesStmt f is from to (placed_stmt f tree start)) before after code empty
-          (subst (λ h. DoesStmt f after (length before) (length after) (placed_stmt f tree h)) c.new-generator.ensures.here done.does) finished);
-      units = subst (λ t. DoUnits f code t start) (sym bare)
-          (subst (λ is. DoUnits f is tree start) (sym finished) (subst (λ h. DoUnits f after tree h) c.new-generator.ensures.here done.units));
+      code = whole_code before after code (here_so_far v made) (stmt_code f tree) empty c.new-generator.ensures.here done.added finished;
+      does = whole_does (λ is from to. DoesStmt f is from to (placed_stmt f tree start)) before after code empty
+          (subst (λ h. DoesStmt f after (length before) (length after) (placed_stmt f tree h)) c.new-generator.ensures.here done.does) finished;
+      units = subst (λ is. DoUnits f is tree start) (sym finished) (subst (λ h. DoUnits f after tree h) c.new-generator.ensures.here done.units);
       few = subst (λ is. length is < 2 ^ 32) (sym finished) done.few;
       leads = subst LeadsWell (sym (whole_code before after code (here_so_far v made) (stmt_code f tree) empty c.new-generator.ensures.here done.added finished)) (layout_leads_well f tree c.in_ok-template.ensures.well_formed);
       required = c.finish-instructions.ensures.required;
-      hint = subst (λ t. IsHint (data_bytes t) c.buffer_size_hint-buffer_size_hint.result) (sym bare) (hint_of_all (data_bytes tree) _ _ c.buffer_size_hint-buffer_size_hint.result c.new-generator.ensures.bytes done.counted c.buffer_size_hint-buffer_size_hint.ensures);
-      lists = compiled_lists f v _ _ _ _ (blocks (bare_stmt (stmt_node v c.in_ok-template.template))) (blocks tree) _ _ _ c.new-generator.ensures.blocks done.blocks
-          c.finish-instructions.ensures.blocks c.new-generator.ensures.source c.new-generator.ensures.name (ap (λ t. blocks t) bare);
+      hint = hint_of_all (data_bytes tree) _ _ c.buffer_size_hint-buffer_size_hint.result c.new-generator.ensures.bytes done.counted c.buffer_size_hint-buffer_size_hint.ensures;
+      lists = compiled_lists f v _ _ _ _ (blocks tree) _ _ _ c.new-generator.ensures.blocks done.blocks
+          c.finish-instructions.ensures.blocks c.new-generator.ensures.source c.new-generator.ensures.name;
       name = c.finish-instructions.ensures.name ∙ done.name ∙ c.new-generator.ensures.name;
       text = c.finish-instructions.ensures.source ∙ done.source ∙ c.new-generator.ensures.source;
     }
@@ -87,14 +81,12 @@ returns-in_err-compile_stmt-clause-too_many_only g c =
     let v = g.V.TemplateValue.contents in
     let f = g.V.TemplateValue.functions in
     let tree = stmt_tree v c.in_ok-template.template in
-    let bare : bare_stmt (stmt_node v c.in_ok-template.template) ≡ tree = stmt_is v c.in_ok-template.template in
     let made = c.new-generator.result in
     let e = c.in_err-compile_stmt.field-0.0 in
     let p = err_from_is_err_and c.from_residual-in_err-compile_stmt.result c.from_residual-in_err-compile_stmt.ensures.1 in
     rw (p.1, p.2) (λ k. record {
-      tree = stmt_node v c.in_ok-template.template;
+      tree = tree;
       derived = c.in_ok-template.ensures.found;
-      long = subst (λ t. (2 ^ 32 ≤ length (stmt_code f t start)) ⊎ HaveTooLong f (blocks t)) (sym bare)
-          (too_long_lists (generated v made) (here_so_far v made) (stmt_code f tree) e (HaveTooLong f (blocks tree)) c.new-generator.ensures.empty c.new-generator.ensures.here
-          (unkept {A = OnlyWhereOneIsTooLong f e (generated v made ++ stmt_code f tree (here_so_far v made)) (blocks tree)} _ c.new-generator.ensures.refusal c.in_err-compile_stmt.ensures.too_many) k);
+      long = too_long_lists (generated v made) (here_so_far v made) (stmt_code f tree) e (HaveTooLong f (blocks tree)) c.new-generator.ensures.empty c.new-generator.ensures.here
+          (unkept {A = OnlyWhereOneIsTooLong f e (generated v made ++ stmt_code f tree (here_so_far v made)) (blocks tree)} _ c.new-generator.ensures.refusal c.in_err-compile_stmt.ensures.too_many) k;
     })

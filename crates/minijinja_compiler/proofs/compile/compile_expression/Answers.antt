@@ -1,9 +1,6 @@
 use Rattle.std.proofs.Common.{◌≡◌, ◌<◌, ◌≤◌, ◌^◌, ◌++◌, ◌∙◌, length, sym, ap, subst}
 use Rattle.std.proofs.lemmas.Result.{err_from_is_err_and}
 use Rattle.minijinja_tree.specs.Erasure.{expr_tree}
-use Rattle.minijinja_tree.specs.SpannedTrees.{bare_expr}
-use Rattle.minijinja_tree.specs.SpannedErasure.{expr_node}
-use Rattle.minijinja_tree_expr.proofs.Bare.{expr_is}
 use Rattle.minijinja_semantics.specs.Jumps.{LeadsWell}
 use Rattle.minijinja_semantics.specs.Pieces.{start}
 use Rattle.minijinja_semantics.proofs.Leads.{expression_leads_well}
@@ -20,7 +17,6 @@ returns-clause-compiled g c =
     let v = g.V.TemplateValue.contents in
     let f = g.V.TemplateValue.functions in
     let tree = expr_tree v c.in_ok-expr.expr in
-    let bare : bare_expr (expr_node v c.in_ok-expr.expr) ≡ tree = expr_is v c.in_ok-expr.expr in
     let made = c.new-generator.result in
     let before = generated v made in
     let after = generated v c.compile_expr.new.self in
@@ -30,11 +26,11 @@ returns-clause-compiled g c =
     let empty = c.new-generator.ensures.empty in
     let finished = c.finish-instructions.ensures.code in
     record {
-      tree = expr_node v c.in_ok-expr.expr;
+      tree = tree;
       derived = parsed.found;
       only = λ t d. sym (parsed.only t d);
-      code = whole_code before after code (here_so_far v made) (expr_code f tree) empty c.new-generator.ensures.here done.added finished ∙ ap (λ t. expr_code f t start) (sym bare);
-      does = subst (λ t. DoesExpr f code 0 (length code) t) (sym bare) (whole_does (λ is from to. DoesExpr f is from to tree) before after code empty done.does finished);
+      code = whole_code before after code (here_so_far v made) (expr_code f tree) empty c.new-generator.ensures.here done.added finished;
+      does = whole_does (λ is from to. DoesExpr f is from to tree) before after code empty done.does finished;
       few = subst (λ is. length is < 2 ^ 32) (sym finished) done.few;
       leads = subst LeadsWell (sym (whole_code before after code (here_so_far v made) (expr_code f tree) empty c.new-generator.ensures.here done.added finished)) (expression_leads_well f tree);
       required = c.finish-instructions.ensures.required;
@@ -75,14 +71,12 @@ returns-in_err-compile_expr-clause-too_many_only g c =
     let v = g.V.TemplateValue.contents in
     let f = g.V.TemplateValue.functions in
     let tree = expr_tree v c.in_ok-expr.expr in
-    let bare : bare_expr (expr_node v c.in_ok-expr.expr) ≡ tree = expr_is v c.in_ok-expr.expr in
     let made = c.new-generator.result in
     let e = c.in_err-compile_expr.field-0.0 in
     let p = err_from_is_err_and c.from_residual-in_err-compile_expr.result c.from_residual-in_err-compile_expr.ensures.1 in
     rw (p.1, p.2) (λ k. record {
-      tree = expr_node v c.in_ok-expr.expr;
+      tree = tree;
       derived = c.in_ok-expr.ensures.found;
-      long = subst (λ t. 2 ^ 32 ≤ length (expr_code f t start)) (sym bare)
-          (too_long_list (generated v made) (here_so_far v made) (expr_code f tree) e c.new-generator.ensures.empty c.new-generator.ensures.here
-          (unkept {A = OnlyWhereTooLong e (generated v made ++ expr_code f tree (here_so_far v made))} _ c.new-generator.ensures.refusal c.in_err-compile_expr.ensures.too_many) k);
+      long = too_long_list (generated v made) (here_so_far v made) (expr_code f tree) e c.new-generator.ensures.empty c.new-generator.ensures.here
+          (unkept {A = OnlyWhereTooLong e (generated v made ++ expr_code f tree (here_so_far v made))} _ c.new-generator.ensures.refusal c.in_err-compile_expr.ensures.too_many) k;
     })

@@ -1,7 +1,7 @@
 use Rattle.std.proofs.Common.{◌≡◌, length}
 use Rattle.std.specs.String.{string_bytes}
-use Rattle.minijinja_grammar.specs.Forms.{reads}
-use Rattle.minijinja_grammar.specs.Grammar as form
+use Rattle.minijinja_grammar.specs.internal.Forms.{reads}
+use Rattle.minijinja_grammar.specs.internal.ExprForms as form
 use Rattle.minijinja_parser_expr.proofs.atoms.joined_text.Given as goal
 
 abbrev pub invariant-loop-tokens : goal.invariant-loop-tokens

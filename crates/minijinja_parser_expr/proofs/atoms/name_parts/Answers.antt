@@ -1,7 +1,7 @@
 use Rattle.std.proofs.Common.{◌∙◌, refl, sym, arith}
 use Rattle.minijinja_syntax.specs.Tokens.{dot}
-use Rattle.minijinja_grammar.specs.Forms.{one}
-use Rattle.minijinja_grammar.specs.Grammar.{ident_and_span}
+use Rattle.minijinja_grammar.specs.internal.Forms.{one}
+use Rattle.minijinja_grammar.specs.internal.ExprForms.{ident_and_span}
 use Rattle.minijinja_parser_expr.proofs.Names.{parts_more, still_between}
 use Rattle.minijinja_parser_tokens.proofs.Turned.{next_shorter, read_no_longer}
 use Rattle.minijinja_parser_expr.proofs.atoms.name_parts.Goals as goal

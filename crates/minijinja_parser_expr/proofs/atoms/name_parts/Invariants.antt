@@ -1,7 +1,7 @@
 use Rattle.std.proofs.Common.{◌≡◌, length}
 use Rattle.minijinja_lexer.specs.Slices.{IsBetweenChars}
-use Rattle.minijinja_grammar.specs.Forms.{reads}
-use Rattle.minijinja_grammar.specs.Grammar as form
+use Rattle.minijinja_grammar.specs.internal.Forms.{reads}
+use Rattle.minijinja_grammar.specs.internal.ExprForms as form
 use Rattle.minijinja_parser_expr.proofs.atoms.name_parts.Given as goal
 
 abbrev pub invariant-loop-last : goal.invariant-loop-last

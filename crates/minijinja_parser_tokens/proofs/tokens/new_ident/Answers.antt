@@ -5,7 +5,7 @@ use Rattle.std.specs.Bool.{OnFalse}
 use Rattle.std.specs.BTreeSet.{keys}
 use Rattle.minijinja_syntax.specs.Texts.{Text}
 use Rattle.minijinja_syntax.specs.declared.tokens.Span.{Span}
-use Rattle.minijinja_grammar.specs.Forms.{got, giving, is_given}
+use Rattle.minijinja_grammar.specs.internal.Forms.{got, giving, is_given}
 use Rattle.minijinja_parser_tokens.proofs.Naming.{given_again, given_first, has_is, inserted_is, refused}
 use Rattle.minijinja_parser_tokens.specs.private.AtTokenStream.{place_of}
 use Rattle.minijinja_parser_tokens.proofs.tokens.new_ident.Goals as goal

@@ -1,9 +1,11 @@
 use Rattle.std.proofs.Common.{◌∙◌, sym, ap, subst}
 use Rattle.minijinja_tree.specs.SpannedErasure.{stmt_node}
-use Rattle.minijinja_tree.specs.WellFormed.{IsWellFormed}
-use Rattle.minijinja_grammar.specs.Grammar.{max_depth}
-use Rattle.minijinja_grammar.specs.Templates.{template_at}
-use Rattle.minijinja_grammar.proofs.Trees.{template_formed, template_stands}
+use Rattle.minijinja_grammar.specs.Derived.{max_depth}
+use Rattle.minijinja_grammar.specs.internal.TemplateForms.{template_at}
+use Rattle.minijinja_grammar.specs.Derived.{IsTemplateTree}
+use Rattle.minijinja_grammar.proofs.Derivations.{derived_template, one_template, template_derived, template_fits, template_formed}
+use Rattle.minijinja_grammar.proofs.Trees.{template_stands}
+use Rattle.minijinja_tree.specs.Erasure.{stmt_tree}
 use Rattle.minijinja_tree.proofs.Bare.{stmt_is}
 use Rattle.minijinja_parser.proofs.NoTokens.{empty_template, empty_derived}
 use Rattle.minijinja_parser.proofs.Wholes.{whole_of, only_whole, unrefused, refused_whole, memory_at, not_derived, answers, escapes}
@@ -12,11 +14,14 @@ use Rattle.minijinja_parser.proofs.parser.Parser.parse.Goals as goal
 -- a tree
 pub returns-in-Ok-clause-found : goal.returns-in-Ok-clause-found
 returns-in-Ok-clause-found g c =
-    whole_of (template_at g.V.TemplateValue.functions max_depth) c.args.self.now.place c.whole_template.new.self.place (stmt_node g.V.TemplateValue.contents c.in-Ok.template) c.in-Ok.ensures.read.0 c.in-Ok.ensures.read.1
+    subst (IsTemplateTree g.V.TemplateValue.functions c.args.self.now.place) (stmt_is g.V.TemplateValue.contents c.in-Ok.template)
+    (derived_template g.V.TemplateValue.functions c.args.self.now.place (stmt_node g.V.TemplateValue.contents c.in-Ok.template)
+    (whole_of (template_at g.V.TemplateValue.functions max_depth) c.args.self.now.place c.whole_template.new.self.place (stmt_node g.V.TemplateValue.contents c.in-Ok.template) c.in-Ok.ensures.read.0 c.in-Ok.ensures.read.1))
 
 pub returns-in-Ok-clause-only : goal.returns-in-Ok-clause-only
 returns-in-Ok-clause-only g c = λ t d.
-    only_whole (template_at g.V.TemplateValue.functions max_depth) c.args.self.now.place c.whole_template.new.self.place (stmt_node g.V.TemplateValue.contents c.in-Ok.template) t c.in-Ok.ensures.read.0 c.in-Ok.ensures.read.1 d
+    one_template g.V.TemplateValue.functions c.args.self.now.place (stmt_tree g.V.TemplateValue.contents c.in-Ok.template) t
+    (returns-in-Ok-clause-found g c) d
 
 pub returns-in-Ok-clause-first : goal.returns-in-Ok-clause-first
 returns-in-Ok-clause-first g c = λ kind span e h.
@@ -24,9 +29,7 @@ returns-in-Ok-clause-first g c = λ kind span e h.
 
 pub returns-in-Ok-clause-well_formed : goal.returns-in-Ok-clause-well_formed
 returns-in-Ok-clause-well_formed g c =
-    subst (λ t. IsWellFormed t) (stmt_is g.V.TemplateValue.contents c.in-Ok.template)
-    (template_formed g.V.TemplateValue.functions c.args.self.now.place (stmt_node g.V.TemplateValue.contents c.in-Ok.template)
-    (whole_of (template_at g.V.TemplateValue.functions max_depth) c.args.self.now.place c.whole_template.new.self.place (stmt_node g.V.TemplateValue.contents c.in-Ok.template) c.in-Ok.ensures.read.0 c.in-Ok.ensures.read.1))
+    template_formed g.V.TemplateValue.functions c.args.self.now.place (stmt_tree g.V.TemplateValue.contents c.in-Ok.template) (returns-in-Ok-clause-found g c)
 
 pub returns-in-Ok-clause-spans : goal.returns-in-Ok-clause-spans
 returns-in-Ok-clause-spans g c =
@@ -44,11 +47,13 @@ returns-in-Ok-clause-empty g c = λ e.
 -- a refusal
 pub returns-in-Err-clause-refused : goal.returns-in-Err-clause-refused
 returns-in-Err-clause-refused g c = λ fault t d.
-    not_derived (template_at g.V.TemplateValue.functions max_depth) (stmt_node {F = g.row.V-Fault.Denot} g.V.TemplateValue.contents) c.args.self.now.place c.whole_template.new.self.place c.in-Err.refusal c.refuse.result t c.in-Err.ensures.read c.refuse.ensures.is fault d
+    let v = template_derived g.V.TemplateValue.functions c.args.self.now.place t d in
+    not_derived (template_at g.V.TemplateValue.functions max_depth) (stmt_node {F = g.row.V-Fault.Denot} g.V.TemplateValue.contents) c.args.self.now.place c.whole_template.new.self.place c.in-Err.refusal c.refuse.result v.0 c.in-Err.ensures.read c.refuse.ensures.is fault v.1
 
 pub returns-in-Err-clause-only : goal.returns-in-Err-clause-only
 returns-in-Err-clause-only g c = λ t d.
-    memory_at c.whole_template.new.self.place c.in-Err.refusal c.refuse.result (refused_whole (template_at g.V.TemplateValue.functions max_depth) (stmt_node {F = g.row.V-Fault.Denot} g.V.TemplateValue.contents) c.args.self.now.place c.whole_template.new.self.place c.in-Err.refusal t c.in-Err.ensures.read d) c.refuse.ensures.is
+    let v = template_derived g.V.TemplateValue.functions c.args.self.now.place t d in
+    memory_at c.whole_template.new.self.place c.in-Err.refusal c.refuse.result (refused_whole (template_at g.V.TemplateValue.functions max_depth) (stmt_node {F = g.row.V-Fault.Denot} g.V.TemplateValue.contents) c.args.self.now.place c.whole_template.new.self.place c.in-Err.refusal v.0 c.in-Err.ensures.read v.1) c.refuse.ensures.is
 
 pub returns-in-Err-clause-bad_escape : goal.returns-in-Err-clause-bad_escape
 returns-in-Err-clause-bad_escape g c = λ k.
@@ -56,7 +61,8 @@ returns-in-Err-clause-bad_escape g c = λ k.
 
 pub returns-in-Err-clause-first : goal.returns-in-Err-clause-first
 returns-in-Err-clause-first g c = λ kind span e h.
-    answers (template_at g.V.TemplateValue.functions max_depth) (stmt_node {F = g.row.V-Fault.Denot} g.V.TemplateValue.contents) c.args.self.now.place c.whole_template.new.self.place c.in-Err.refusal c.refuse.result c.in-Err.ensures.read c.refuse.ensures.is kind span e h
+    answers (template_at g.V.TemplateValue.functions max_depth) (stmt_node {F = g.row.V-Fault.Denot} g.V.TemplateValue.contents) c.args.self.now.place c.whole_template.new.self.place c.in-Err.refusal c.refuse.result c.in-Err.ensures.read c.refuse.ensures.is kind span e
+    (template_fits g.V.TemplateValue.functions c.args.self.now.place h)
 
 pub returns-in-Err-clause-again : goal.returns-in-Err-clause-again
 returns-in-Err-clause-again g c = λ kind span h. absurd (c.in_ok-unrefused.ensures.none kind span h)

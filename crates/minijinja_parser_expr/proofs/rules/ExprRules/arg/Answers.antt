@@ -1,7 +1,7 @@
 use Rattle.std.proofs.Common.{rules, ◌≡◌, ◌∙◌, true, false, refl, ap}
 use Rattle.minijinja_syntax.specs.Tokens.{mul, pow}
-use Rattle.minijinja_grammar.specs.Forms.{got}
-use Rattle.minijinja_grammar.specs.Grammar.{expr_at}
+use Rattle.minijinja_grammar.specs.internal.Forms.{got}
+use Rattle.minijinja_grammar.specs.internal.ExprForms.{expr_at}
 use Rattle.minijinja_parser_tokens.specs.internal.Reads.{eaten}
 use Rattle.minijinja_parser_expr.proofs.CallArgs.{arg_is}
 use Rattle.minijinja_parser_expr.proofs.rules.ExprRules.arg.Goals as goal

@@ -1,7 +1,7 @@
 use Rattle.std.proofs.Common.{◌≡◌, [], length, map}
-use Rattle.minijinja_grammar.specs.Forms.{reads}
-use Rattle.minijinja_grammar.specs.Grammar as form
-use Rattle.minijinja_grammar.specs.Grammar.{expr_at, has_named}
+use Rattle.minijinja_grammar.specs.internal.Forms.{reads}
+use Rattle.minijinja_grammar.specs.internal.ExprForms as form
+use Rattle.minijinja_grammar.specs.internal.ExprForms.{expr_at, has_named}
 use Rattle.minijinja_parser_expr.proofs.rules.ExprRules.arg_items.Given as goal
 
 -- reading the others after those so far comes to what reading all comes to

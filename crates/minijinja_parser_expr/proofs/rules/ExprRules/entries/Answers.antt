@@ -1,6 +1,6 @@
 use Rattle.std.proofs.Common.{rules, ◌∙◌, sym, map}
 use Rattle.minijinja_syntax.specs.Tokens.{comma}
-use Rattle.minijinja_grammar.specs.Grammar.{expr_at}
+use Rattle.minijinja_grammar.specs.internal.ExprForms.{expr_at}
 use Rattle.minijinja_parser_expr.proofs.Entries.{entries_also, entries_last, entries_more, entry_shorter, map_pushed}
 use Rattle.minijinja_parser_expr.proofs.rules.ExprRules.entries.Goals as goal
 

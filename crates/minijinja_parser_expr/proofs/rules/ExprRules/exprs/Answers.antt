@@ -1,8 +1,8 @@
 use Rattle.std.proofs.Common.{rules, ◌∙◌, sym, map}
 use Rattle.minijinja_syntax.specs.Tokens.{comma}
-use Rattle.minijinja_grammar.specs.Forms.{reads}
-use Rattle.minijinja_grammar.specs.Grammar as form
-use Rattle.minijinja_grammar.specs.Grammar.{expr_at}
+use Rattle.minijinja_grammar.specs.internal.Forms.{reads}
+use Rattle.minijinja_grammar.specs.internal.ExprForms as form
+use Rattle.minijinja_grammar.specs.internal.ExprForms.{expr_at}
 use Rattle.minijinja_parser_expr.proofs.Entries.{exprs_also, exprs_last, item_shorter, map_pushed}
 use Rattle.minijinja_parser_expr.proofs.Steps.{exprs_done, exprs_more}
 use Rattle.minijinja_parser_expr.proofs.rules.ExprRules.exprs.Goals as goal

@@ -1,7 +1,7 @@
 use Rattle.std.proofs.Common.{rules, ◌≡◌, ◌∙◌, true, false, ap}
 use Rattle.minijinja_syntax.specs.Tokens.{paren_close}
-use Rattle.minijinja_grammar.specs.Forms.{got}
-use Rattle.minijinja_grammar.specs.Grammar.{expr_at}
+use Rattle.minijinja_grammar.specs.internal.Forms.{got}
+use Rattle.minijinja_grammar.specs.internal.ExprForms.{expr_at}
 use Rattle.minijinja_parser_tokens.specs.internal.Reads.{eaten}
 use Rattle.minijinja_parser_expr.proofs.Following.{group_is}
 use Rattle.minijinja_parser_expr.proofs.rules.ExprRules.group.Goals as goal

@@ -1,7 +1,7 @@
 use Rattle.std.proofs.Common.{rules, ◌≡◌, ◌∙◌, [], map, ap, sym}
-use Rattle.minijinja_grammar.specs.Forms.{got, reads}
-use Rattle.minijinja_grammar.specs.Grammar as form
-use Rattle.minijinja_grammar.specs.Grammar.{expr_at}
+use Rattle.minijinja_grammar.specs.internal.Forms.{got, reads}
+use Rattle.minijinja_grammar.specs.internal.ExprForms as form
+use Rattle.minijinja_grammar.specs.internal.ExprForms.{expr_at}
 use Rattle.minijinja_parser_expr.proofs.Following.{in_brackets_is}
 use Rattle.minijinja_parser_expr.proofs.rules.ExprRules.list.Goals as goal
 

@@ -1,5 +1,5 @@
 use Rattle.std.proofs.Common.{rules}
-use Rattle.minijinja_grammar.specs.Grammar.{expr_at}
+use Rattle.minijinja_grammar.specs.internal.ExprForms.{expr_at}
 use Rattle.minijinja_parser_expr.proofs.Following.{in_braces_is}
 use Rattle.minijinja_parser_expr.proofs.rules.ExprRules.map.Goals as goal
 

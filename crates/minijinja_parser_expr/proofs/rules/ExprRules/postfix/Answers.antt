@@ -1,5 +1,5 @@
 use Rattle.std.proofs.Common.{rules, sym, ◌∙◌}
-use Rattle.minijinja_grammar.specs.Grammar.{expr_at}
+use Rattle.minijinja_grammar.specs.internal.ExprForms.{expr_at}
 use Rattle.minijinja_parser_expr.proofs.Following.{postfix_call}
 use Rattle.minijinja_parser_expr.proofs.rules.ExprRules.postfix.Goals as goal
 

@@ -1,8 +1,8 @@
 use Rattle.std.proofs.Common.{rules, ◌≡◌, true, false, refl, Some, arith, ap, ◌∙◌}
 use Rattle.minijinja_syntax.specs.Tokens.{pipe}
-use Rattle.minijinja_grammar.specs.Forms.{got}
-use Rattle.minijinja_grammar.specs.Grammar.{expr_at}
-use Rattle.minijinja_grammar.specs.Statements as form
+use Rattle.minijinja_grammar.specs.internal.Forms.{got}
+use Rattle.minijinja_grammar.specs.internal.ExprForms.{expr_at}
+use Rattle.minijinja_grammar.specs.internal.StmtForms as form
 use Rattle.minijinja_parser_tokens.specs.internal.Reads.{eaten}
 use Rattle.minijinja_parser_tokens.proofs.Turned.{eaten_shorter, read_no_longer}
 use Rattle.minijinja_parser_expr.proofs.FilterChains.{links_is}

@@ -1,7 +1,7 @@
 use Rattle.std.proofs.Common.{◌≡◌, length}
-use Rattle.minijinja_grammar.specs.Forms.{reads}
-use Rattle.minijinja_grammar.specs.Grammar.{expr_at}
-use Rattle.minijinja_grammar.specs.Statements as form
+use Rattle.minijinja_grammar.specs.internal.Forms.{reads}
+use Rattle.minijinja_grammar.specs.internal.ExprForms.{expr_at}
+use Rattle.minijinja_grammar.specs.internal.StmtForms as form
 use Rattle.minijinja_parser_expr.proofs.FilterChains.{links}
 use Rattle.minijinja_parser_expr.proofs.rules.in_statements.chain.Given as goal
 

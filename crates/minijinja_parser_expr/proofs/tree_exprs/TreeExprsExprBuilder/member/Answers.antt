@@ -1,6 +1,6 @@
 use Rattle.std.proofs.Common.{◌∙◌, ap}
 use Rattle.minijinja_syntax.specs.Tokens.{tok_of}
-use Rattle.minijinja_grammar.specs.Forms.{got}
+use Rattle.minijinja_grammar.specs.internal.Forms.{got}
 use Rattle.minijinja_tree.specs.SpannedErasure.{expr_node}
 use Rattle.minijinja_parser_expr.proofs.Members.{int_member, large_member}
 use Rattle.minijinja_parser_expr.proofs.tree_exprs.TreeExprsExprBuilder.member.Goals as goal

@@ -1,7 +1,7 @@
 use Rattle.std.proofs.Common.{sym, subst}
 use Rattle.minijinja_lexer.specs.Slices.{IsBetweenChars}
-use Rattle.minijinja_grammar.specs.Forms.{one}
-use Rattle.minijinja_grammar.specs.Grammar.{ident_and_span, name_parts}
+use Rattle.minijinja_grammar.specs.internal.Forms.{one}
+use Rattle.minijinja_grammar.specs.internal.ExprForms.{ident_and_span, name_parts}
 use Rattle.minijinja_parser_expr.proofs.Names.{still_between}
 use Rattle.minijinja_parser_expr.proofs.tree_exprs.TreeExprsExprBuilder.name.Goals as goal
 

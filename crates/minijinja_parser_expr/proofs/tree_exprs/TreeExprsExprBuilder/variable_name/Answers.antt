@@ -6,7 +6,7 @@ use Rattle.minijinja_tree_expr.specs.declared.ast.Expr.{Expr}
 use Rattle.minijinja_tree_expr.specs.declared.ast.Expr.TheVariants as expr
 use Rattle.minijinja_tree_expr.specs.declared.ast.Expr.TheVariants.{Compare'}
 use Rattle.minijinja_tree.specs.SpannedErasure.{expr_node}
-use Rattle.minijinja_grammar.specs.Grammar.{name_of_variable}
+use Rattle.minijinja_grammar.specs.internal.ExprForms.{name_of_variable}
 use Rattle.minijinja_parser_expr.proofs.tree_exprs.TreeExprsExprBuilder.variable_name.Goals as goal
 
 no_name : {V F C : Type 0} (c : V → C) (e : Expr V F) → ((s : Spanned Var) → e ≡ expr.Var s → ⊥) → ◌≡◌ {A = _} None (name_of_variable (expr_node c e))

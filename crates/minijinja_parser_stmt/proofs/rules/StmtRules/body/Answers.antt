@@ -2,11 +2,12 @@ use Rattle.std.proofs.Common.{rules, ◌≡◌, true, false, ◌∷◌, ◌++◌
 use Rattle.std.proofs.lemmas.List.{map-append}
 use Rattle.std.specs.Option.{option_map}
 use Rattle.minijinja_syntax.specs.Streams.{SpannedTok}
-use Rattle.minijinja_grammar.specs.Forms.{comes, got, one, reads}
-use Rattle.minijinja_grammar.specs.Statements.{begins_part}
+use Rattle.minijinja_grammar.specs.Ahead.{comes}
+use Rattle.minijinja_grammar.specs.internal.Forms.{got, one, reads}
+use Rattle.minijinja_parser_tokens.specs.internal.Marks.{is_any}
 use Rattle.minijinja_parser_tokens.specs.internal.Marks.{ends_view}
 use Rattle.minijinja_parser_tokens.proofs.Turned.{take_shorter}
-use Rattle.minijinja_parser_stmt.specs.private.Bodies.{part_at, rest_of_body}
+use Rattle.minijinja_parser_stmt.specs.private.Bodies.{piece, rest_of_body}
 use Rattle.minijinja_parser_stmt.specs.private.Parses.{context_of}
 use Rattle.minijinja_parser_stmt.proofs.Bodies.{body_done, body_is, body_more, part_no_longer}
 use Rattle.minijinja_parser_stmt.proofs.rules.StmtRules.body.Goals as goal
@@ -35,9 +36,9 @@ loop-ends-preserved g c =
     let ends = ends_view c.args.ends in
     let t : SpannedTok = (g.S.Input.Tokens.tok c.in_ok-token.token, c.in_ok-token.span) in
     let ss = map v c.loop-ends.parts.items in
-    let e : comes begins_part p.tokens ≡ true = sym c.begins.ensures ∙ c.loop-ends-test.true in
+    let e : comes is_any p.tokens ≡ true = sym c.begins.ensures ∙ c.loop-ends-test.true in
     let h : reads (one Some) p ≡ got t q = c.in_ok-token.ensures in
-    let k : part_at f x d ends t q ≡ got (Some (v c.in-Some.part)) r = c.in_ok-part.ensures ∙ ap (λ o. got (option_map v o) r) c.in-Some.is in
+    let k : piece f x d ends t q ≡ got (Some (v c.in-Some.part)) r = c.in_ok-part.ensures ∙ ap (λ o. got (option_map v o) r) c.in-Some.is in
     let pushed : ss ++ v c.in-Some.part ∷ [] ≡ map v c.push.new.self.items = rw (c.in_ok-push-in-Some.ensures.items, map-append) refl in
     c.loop-ends.invariant ∙ body_more f x d ends ss p e ∙ rw (h, k) refl ∙ ap (λ us. reads (rest_of_body f x d ends us) r) pushed
 
@@ -49,7 +50,7 @@ returns-in_err-token g c =
     let ends = ends_view c.args.ends in
     let p = g.S.Input.Tokens.place c.loop-ends.tokens in
     let ss = map g.S.StmtBuilder.stmt c.loop-ends.parts.items in
-    let e : comes begins_part p.tokens ≡ true = sym c.begins.ensures ∙ c.loop-ends-test.true in
+    let e : comes is_any p.tokens ≡ true = sym c.begins.ensures ∙ c.loop-ends-test.true in
     let i = body_is f x d ends (g.S.Input.Tokens.place c.args.tokens.now) ∙ c.loop-ends.invariant ∙ body_more f x d ends ss p e in
     rw i (search rules)
 
@@ -63,7 +64,7 @@ returns-in_err-part g c =
     let q = g.S.Input.Tokens.place c.take.new.self in
     let t : SpannedTok = (g.S.Input.Tokens.tok c.in_ok-token.token, c.in_ok-token.span) in
     let ss = map g.S.StmtBuilder.stmt c.loop-ends.parts.items in
-    let e : comes begins_part p.tokens ≡ true = sym c.begins.ensures ∙ c.loop-ends-test.true in
+    let e : comes is_any p.tokens ≡ true = sym c.begins.ensures ∙ c.loop-ends-test.true in
     let h : reads (one Some) p ≡ got t q = c.in_ok-token.ensures in
     let i = body_is f x d ends (g.S.Input.Tokens.place c.args.tokens.now) ∙ c.loop-ends.invariant ∙ body_more f x d ends ss p e in
     rw (i, h) (search rules)
@@ -80,9 +81,9 @@ returns-in-None g c =
     let r = g.S.Input.Tokens.place c.part.new.tokens in
     let t : SpannedTok = (g.S.Input.Tokens.tok c.in_ok-token.token, c.in_ok-token.span) in
     let ss = map v c.loop-ends.parts.items in
-    let e : comes begins_part p.tokens ≡ true = sym c.begins.ensures ∙ c.loop-ends-test.true in
+    let e : comes is_any p.tokens ≡ true = sym c.begins.ensures ∙ c.loop-ends-test.true in
     let h : reads (one Some) p ≡ got t q = c.in_ok-token.ensures in
-    let k : part_at f x d ends t q ≡ got None r = c.in_ok-part.ensures ∙ ap (λ o. got (option_map v o) r) c.in-None.is in
+    let k : piece f x d ends t q ≡ got None r = c.in_ok-part.ensures ∙ ap (λ o. got (option_map v o) r) c.in-None.is in
     let i = body_is f x d ends (g.S.Input.Tokens.place c.args.tokens.now) ∙ c.loop-ends.invariant ∙ body_more f x d ends ss p e in
     rw (i, h, k) refl
 
@@ -94,5 +95,5 @@ returns g c =
     let ends = ends_view c.args.ends in
     let p = g.S.Input.Tokens.place c.loop-ends.tokens in
     let ss = map g.S.StmtBuilder.stmt c.loop-ends.parts.items in
-    let e : comes begins_part p.tokens ≡ false = sym c.begins.ensures ∙ c.loop-ends-test.false in
+    let e : comes is_any p.tokens ≡ false = sym c.begins.ensures ∙ c.loop-ends-test.false in
     body_is f x d ends (g.S.Input.Tokens.place c.args.tokens.now) ∙ c.loop-ends.invariant ∙ body_done f x d ends ss p e

@@ -1,5 +1,5 @@
 use Rattle.std.proofs.Common.{◌≡◌, [], length, map}
-use Rattle.minijinja_grammar.specs.Forms.{reads}
+use Rattle.minijinja_grammar.specs.internal.Forms.{reads}
 use Rattle.minijinja_parser_tokens.specs.internal.Marks.{ends_view}
 use Rattle.minijinja_parser_stmt.specs.private.Bodies.{rest_of_body}
 use Rattle.minijinja_parser_stmt.specs.private.Parses.{context_of}

@@ -1,6 +1,6 @@
 use Rattle.std.proofs.Common.{rules, refl}
-use Rattle.minijinja_grammar.specs.Grammar.{expr_at}
-use Rattle.minijinja_grammar.specs.Statements.{parts_at}
+use Rattle.minijinja_grammar.specs.internal.ExprForms.{expr_at}
+use Rattle.minijinja_grammar.specs.internal.StmtForms.{parts_at}
 use Rattle.minijinja_parser_stmt.specs.internal.Made.{HasParts, statement_tree}
 use Rattle.minijinja_parser_stmt.specs.private.Parses.{context_of}
 use Rattle.minijinja_parser_stmt.proofs.Calls.{call_block_is, call_read}

@@ -1,5 +1,5 @@
 use Rattle.std.proofs.Common.{rules, refl}
-use Rattle.minijinja_grammar.specs.Statements.{parts_at}
+use Rattle.minijinja_grammar.specs.internal.StmtForms.{parts_at}
 use Rattle.minijinja_parser_stmt.specs.internal.Made.{statement_tree}
 use Rattle.minijinja_parser_stmt.specs.private.Parses.{context_of}
 use Rattle.minijinja_parser_stmt.proofs.Blocks.{block_is}

@@ -1,7 +1,7 @@
 use Rattle.std.proofs.Common.{rules, ◌≡◌, ◌∙◌, true, false, Some, refl, sym, ap}
 use Rattle.std.specs.Option.{option_map}
 use Rattle.minijinja_syntax.specs.Tokens.{template_data, variable_start, block_start}
-use Rattle.minijinja_grammar.specs.Forms.{comes}
+use Rattle.minijinja_grammar.specs.Ahead.{comes}
 use Rattle.minijinja_grammar.specs.Statements.{ends_body}
 use Rattle.minijinja_parser_tokens.specs.internal.Marks.{ends_view}
 use Rattle.minijinja_parser_stmt.specs.internal.Made.{opening_tok}

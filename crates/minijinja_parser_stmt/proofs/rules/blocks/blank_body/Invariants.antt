@@ -1,5 +1,5 @@
 use Rattle.std.proofs.Common.{◌≡◌, [], length, map}
-use Rattle.minijinja_grammar.specs.Forms.{reads}
+use Rattle.minijinja_grammar.specs.internal.Forms.{reads}
 use Rattle.minijinja_parser_stmt.specs.private.Blanks.{rest_of_blank}
 use Rattle.minijinja_parser_stmt.proofs.rules.blocks.blank_body.Given as goal
 

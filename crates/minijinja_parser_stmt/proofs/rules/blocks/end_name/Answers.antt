@@ -1,5 +1,5 @@
 use Rattle.std.proofs.Common.{rules, ◌≡◌, ◌∙◌, true, false, refl, sym}
-use Rattle.minijinja_grammar.specs.Forms.{comes}
+use Rattle.minijinja_grammar.specs.Ahead.{comes}
 use Rattle.minijinja_grammar.specs.Words.{is_identifier}
 use Rattle.minijinja_parser_stmt.proofs.Blocks.{end_name_is}
 use Rattle.minijinja_parser_stmt.proofs.rules.blocks.end_name.Goals as goal

@@ -4,9 +4,10 @@ use Rattle.std.specs.Prelude.{◌||◌, Option, Some, None, is_some}
 use Rattle.std.specs.Option.{option_map}
 use Rattle.minijinja_syntax.specs.Tokens.{comma}
 use Rattle.minijinja_grammar.specs.Words.{is_identifier}
-use Rattle.minijinja_grammar.specs.Forms.{comes, got, reads}
-use Rattle.minijinja_grammar.specs.Grammar.{expr_at}
-use Rattle.minijinja_grammar.specs.Statements as form
+use Rattle.minijinja_grammar.specs.Ahead.{comes}
+use Rattle.minijinja_grammar.specs.internal.Forms.{got, reads}
+use Rattle.minijinja_grammar.specs.internal.ExprForms.{expr_at}
+use Rattle.minijinja_grammar.specs.internal.StmtForms as form
 use Rattle.minijinja_parser_tokens.specs.internal.Reads.{eaten}
 use Rattle.minijinja_parser_tokens.proofs.Turned.{eaten_shorter, read_no_longer}
 use Rattle.minijinja_parser_stmt.specs.private.Macros.{param_at, param_items}

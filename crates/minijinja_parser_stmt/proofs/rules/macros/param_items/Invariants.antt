@@ -1,7 +1,7 @@
 use Rattle.std.proofs.Common.{◌≡◌, [], length, map}
-use Rattle.minijinja_grammar.specs.Forms.{reads}
-use Rattle.minijinja_grammar.specs.Grammar.{expr_at}
-use Rattle.minijinja_grammar.specs.Statements as form
+use Rattle.minijinja_grammar.specs.internal.Forms.{reads}
+use Rattle.minijinja_grammar.specs.internal.ExprForms.{expr_at}
+use Rattle.minijinja_grammar.specs.internal.StmtForms as form
 use Rattle.minijinja_parser_stmt.specs.private.Macros.{param_items}
 use Rattle.minijinja_parser_stmt.specs.internal.Made.{param_of}
 use Rattle.minijinja_parser_stmt.proofs.rules.macros.param_items.Given as goal

@@ -1,6 +1,6 @@
 use Rattle.std.proofs.Common.{rules, refl}
 use Rattle.minijinja_parser_stmt.specs.internal.Made.{statement_tree}
-use Rattle.minijinja_grammar.specs.Grammar.{expr_at}
+use Rattle.minijinja_grammar.specs.internal.ExprForms.{expr_at}
 use Rattle.minijinja_parser_stmt.proofs.Imports.{import_is}
 use Rattle.minijinja_parser_stmt.proofs.rules.modules.import_stmt.Goals as goal
 

@@ -1,6 +1,6 @@
 use Rattle.std.proofs.Common.{◌≡◌, length, map}
-use Rattle.minijinja_grammar.specs.Forms.{reads}
-use Rattle.minijinja_grammar.specs.Statements as form
+use Rattle.minijinja_grammar.specs.internal.Forms.{reads}
+use Rattle.minijinja_grammar.specs.internal.StmtForms as form
 use Rattle.minijinja_parser_stmt.specs.internal.Made.{name_of}
 use Rattle.minijinja_parser_stmt.proofs.Imports.{more_imports}
 use Rattle.minijinja_parser_stmt.proofs.rules.modules.imports.Given as goal

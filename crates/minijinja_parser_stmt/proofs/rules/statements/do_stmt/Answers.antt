@@ -1,4 +1,4 @@
-use Rattle.minijinja_grammar.specs.Grammar.{expr_at}
+use Rattle.minijinja_grammar.specs.internal.ExprForms.{expr_at}
 use Rattle.minijinja_parser_stmt.specs.internal.Made.{HasParts}
 use Rattle.minijinja_parser_stmt.proofs.Calls.{call_read}
 use Rattle.minijinja_parser_stmt.proofs.rules.statements.do_stmt.Goals as goal

@@ -1,8 +1,8 @@
 use Rattle.std.proofs.Common.{rules, ◌≡◌, true, false, arith, refl, sym, ap, ◌∙◌}
 use Rattle.minijinja_syntax.specs.Tokens.{dot}
-use Rattle.minijinja_grammar.specs.Forms.{got, one, reads}
-use Rattle.minijinja_grammar.specs.Grammar.{ident_and_span}
-use Rattle.minijinja_grammar.specs.Targets.{attributes}
+use Rattle.minijinja_grammar.specs.internal.Forms.{got, one, reads}
+use Rattle.minijinja_grammar.specs.internal.ExprForms.{ident_and_span}
+use Rattle.minijinja_grammar.specs.internal.TargetForms.{attributes}
 use Rattle.minijinja_parser_tokens.specs.internal.Reads.{eaten}
 use Rattle.minijinja_parser_tokens.proofs.Turned.{eaten_shorter, read_no_longer}
 use Rattle.minijinja_parser_stmt.proofs.Names.{attributes_is}

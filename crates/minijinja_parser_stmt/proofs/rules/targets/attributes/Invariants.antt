@@ -1,6 +1,6 @@
 use Rattle.std.proofs.Common.{◌≡◌, length}
-use Rattle.minijinja_grammar.specs.Forms.{reads}
-use Rattle.minijinja_grammar.specs.Targets as form
+use Rattle.minijinja_grammar.specs.internal.Forms.{reads}
+use Rattle.minijinja_grammar.specs.internal.TargetForms as form
 use Rattle.minijinja_parser_stmt.proofs.rules.targets.attributes.Given as goal
 
 -- reading the attributes after those so far comes to what reading all comes to
