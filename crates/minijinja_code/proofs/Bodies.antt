@@ -6,12 +6,7 @@ use Rattle.minijinja_value.specs.Values.{Functions}
 use Rattle.minijinja_tree.specs.Erasure.{stmt_tree}
 use Rattle.minijinja_tree.specs.Tree.{Stmt as Tree, template, done, also, are_any}
 use Rattle.minijinja_tree.specs.WellFormed.{IsInner, AreInner, IsWellFormed}
-use Rattle.minijinja_tree.specs.Nodes.{node_of}
-use Rattle.minijinja_tree.specs.declared.ast.IfCond.{IfCond, size-IfCond, the_lemmas as if_lemmas}
-use Rattle.minijinja_tree.specs.declared.ast.Stmt.{Stmt, size-Stmt, the_lemmas}
-use Rattle.minijinja_tree.specs.declared.ast.Stmt.TheVariants as stmt
-use Rattle.minijinja_code_parts.specs.internal.IfParts.{IsOnly}
-use denote.Param.Weighed.{most, at_most}
+use Rattle.minijinja_tree.specs.declared.ast.Stmt.{Stmt}
 use Rattle.minijinja_semantics.specs.Layout.{stmts}
 use Rattle.minijinja_semantics.specs.Pieces.{Open}
 use Rattle.minijinja_code_parts.specs.Hint.{all_data_bytes}
@@ -56,14 +51,6 @@ inner_stands l s w = w
 pub root_stands : {C L : Type 0} (l : Bool) (s : Tree C L) → l ≡ false → IsWellFormed s → MayStand l s
 root_stands l (template ss) e w = subst (λ b. AreInner b ss) (sym e) w.0
 root_stands l s e w = subst (λ b. IsInner b s) (sym e) w.0
-
--- an if statement that a false body is, is smaller than the one that it belongs to
-pub elif_size : {V K : Type 0} (part next : IfCond V K) → IsOnly part.false_body.items next → size-IfCond V K next < size-IfCond V K part
-elif_size {V} {K} part next o =
-    let inner : size-IfCond V K (node_of o.node) < size-Stmt V K (stmt.IfCond o.node) = search (rules, the_lemmas) in
-    let outer : most (size-Stmt V K) part.false_body.items < size-IfCond V K part = search (rules, if_lemmas) in
-    let one : size-Stmt V K (stmt.IfCond o.node) ≤ most (size-Stmt V K) part.false_body.items = subst (λ xs. size-Stmt V K (stmt.IfCond o.node) ≤ most (size-Stmt V K) xs) (sym o.is) (at_most (size-Stmt V K) (stmt.IfCond o.node ∷ []) 0 (stmt.IfCond o.node) (omega arith)) in
-    subst (λ n. size-IfCond V K n < size-IfCond V K part) (sym o.at) (omega (arith, inner, one, outer))
 
 module _ {V K C F : Type 0} (f : Functions C F) (c : V → C) where
   pub body_as : {t u : Around} {a b : Made C} (os : List Open) {xs ys : List (Stmt V K)} → xs ≡ ys → Follows t a u b (all_data_bytes (body_of c xs)) (stmts f os (body_of c xs)) → Follows t a u b (all_data_bytes (body_of c ys)) (stmts f os (body_of c ys))

@@ -3,18 +3,17 @@ use Rattle.std.proofs.Common.{◌≡◌, ℕ, ◌+◌, ◌<◌, ◌≤◌, List,
 use Rattle.std.specs.Prelude.{true, false}
 use Rattle.std.proofs.lemmas.List.{length-set}
 use Rattle.minijinja_value.specs.Values.{Functions}
-use Rattle.minijinja_tree.specs.Tree.{Expr, if_cond, Stmt, Stmts, done, also, are_any}
+use Rattle.minijinja_tree.specs.Tree.{Expr, if_cond, Stmts, done, also, are_any}
 use Rattle.minijinja_semantics.specs.Code.{Jump, JumpIfFalse}
-use Rattle.minijinja_semantics.specs.Layout.{expr, stmt, stmts, either}
+use Rattle.minijinja_semantics.specs.Layout.{expr, stmts, either}
 use Rattle.minijinja_semantics.specs.Pieces.{Piece, Leading, Exits, nothing, one, ◌▸◌, plain, ◌▹◌, leading_to, branches, branches_out, skipping_out}
-use Rattle.minijinja_code_parts.specs.Hint.{data_bytes, all_data_bytes}
-use Rattle.minijinja_code_expr.specs.internal.Branching.{leading_on}
-use Rattle.minijinja_code_parts.specs.internal.IfParts.{JumpsPast, Tests}
+use Rattle.minijinja_code_parts.specs.Hint.{all_data_bytes}
+use Rattle.minijinja_code_expr.specs.internal.Branching.{BeginsElse, Opened, ending_at, set_at}
+use Rattle.minijinja_code_parts.specs.internal.IfParts.{Tests}
 use Rattle.minijinja_code_expr.specs.internal.Leading.{Tested}
 use Rattle.minijinja_code_expr.specs.internal.Making.{Made, Adds, hole, reach}
 use Rattle.minijinja_code_parts.specs.internal.EnclosingLoops.{Around, AreBefore, AreOthers, Follows, FollowsStmt, FollowsStmts, exits, ending}
-use Rattle.minijinja_code_expr.proofs.Adding.{adds_nothing}
-use Rattle.minijinja_code_expr.proofs.Branching.{set_at, ending_at, leads_more, Opened, choice_added}
+use Rattle.minijinja_code_expr.proofs.Branching.{choice_added}
 use Rattle.minijinja_code_parts.proofs.Filling.{before_later, before_others, ends_length, ends_apart, filled_adds, adds_on}
 use Rattle.minijinja_code_parts.proofs.Rounds.{follows_plain, follows_then, follows_bytes, follows_skipping}
 
@@ -79,50 +78,23 @@ module _ {C : Type 0} where
       }
 
 module _ {C L F : Type 0} (f : Functions C F) where
-  -- whoever adds the rest of a row of if statements, which ends there, has added all of it once
-  -- these places lead to its end
-  pub record Choosing (t : Around) (a : Made C) (ends : List ℕ) (u : Around) (b : Made C) (rest whole : Stmt C L) : Type 0 where
-    pub in_loop : u.in_loop ≡ t.in_loop
-    pub choosing : (v : Around) (c : Made C) → FollowsStmt f u b v c rest → FollowsStmt f t a v (leading_on ends c) whole
+  -- a true body, and a false one with statements
+  pub else_follows : {t u v : Around} {a held c jumped d new : Made C} {place end : ℕ} (e : Expr C) (true_body false_body : Stmts C L) →
+      Tests f e place a held → FollowsStmts f t held u c true_body → BeginsElse place end c jumped → are_any false_body ≡ true → FollowsStmts f u jumped v d false_body → new ≡ ending_at end d →
+      FollowsStmt f t a v new (if_cond e true_body false_body)
+  else_follows {t} {u} {v} {a} {jumped = jumped} {d = d} {end = end} e true_body false_body tests r begun some s ends =
+      let rest = subst (λ os. Follows u jumped v d (all_data_bytes false_body) (stmts f os false_body)) r.opened s in
+      let room = begun.opened in
+      let all = follows_branches (expr f e) (stmts f t.opened true_body) (stmts f t.opened false_body) tests.test_added tests.at tests.hole_added r room.at room.added room.filled refl rest in
+      let whole : FollowsStmt f t a v (ending_at end d) (if_cond e true_body false_body) = subst (λ has. Follows t a v (ending_at end d) (all_data_bytes true_body + all_data_bytes false_body) (plain (expr f e) ▹ either has (stmts f t.opened true_body) (stmts f t.opened false_body))) (sym some) all in
+      subst (λ m. FollowsStmt f t a v m (if_cond e true_body false_body)) (sym ends) whole
 
-  pub choosing_start : (t : Around) (a : Made C) (s : Stmt C L) → Choosing t a [] t a s s
-  choosing_start t a s = record { in_loop = refl; choosing = λ v c r. r }
-
-  -- a false body that is one if statement
-  pub choosing_next : {t u v : Around} {a b c jumped held : Made C} {ends places : List ℕ} {place : ℕ} {whole : Stmt C L} (e : Expr C) (true_body false_body : Stmts C L) (other : Stmt C L) →
-      Choosing t a ends u b (if_cond e true_body false_body) whole → Tests f e place b held → FollowsStmts f u held v c true_body → JumpsPast place ends places c jumped → false_body ≡ also other done →
-      Choosing t a places v jumped other whole
-  choosing_next {t} {u} {v} {a} {b} {c} {jumped = jumped} {ends = ends} {places} {whole = whole} e true_body false_body other g tests r past is = record {
-    in_loop = r.in_loop ∙ g.in_loop;
-    choosing = λ w d s.
-        let last : ℕ = length c.code in
-        let rest = subst (λ os. Follows v jumped w d (data_bytes other) (stmt f os other)) r.opened s in
-        let one_more = follows_then (stmt f u.opened other) (plain nothing) rest (follows_plain w nothing (adds_nothing d)) in
-        let all = follows_branches (expr f e) (stmts f u.opened true_body) (stmts f u.opened (also other done)) tests.test_added tests.at tests.hole_added r refl past.room_added past.filled refl one_more in
-        let part : FollowsStmt f u b w (ending_at last d) (if_cond e true_body false_body) = subst (λ ss. FollowsStmt f u b w (ending_at last d) (if_cond e true_body ss)) (sym is) all in
-        let led = g.choosing w (ending_at last d) part in
-        subst (λ m. FollowsStmt f t a w m whole) (sym (leads_more ends last d) ∙ ap (λ ps. leading_on ps d) (sym past.noted)) led;
-  }
-
-  -- any other false body
-  pub choosing_last : {t u v w : Around} {a b c jumped held d done' : Made C} {ends places : List ℕ} {place : ℕ} {whole : Stmt C L} (e : Expr C) (true_body false_body : Stmts C L) →
-      Choosing t a ends u b (if_cond e true_body false_body) whole → Tests f e place b held → FollowsStmts f u held v c true_body → JumpsPast place ends places c jumped → are_any false_body ≡ true → FollowsStmts f v jumped w d false_body → done' ≡ leading_on places d →
-      FollowsStmt f t a w done' whole
-  choosing_last {t} {u} {v} {w} {a} {b} {c} {jumped = jumped} {d = d} {done'} {ends} {places} {whole = whole} e true_body false_body g tests r past some s ed =
-      let last : ℕ = length c.code in
-      let rest = subst (λ os. Follows v jumped w d (all_data_bytes false_body) (stmts f os false_body)) r.opened s in
-      let all = follows_branches (expr f e) (stmts f u.opened true_body) (stmts f u.opened false_body) tests.test_added tests.at tests.hole_added r refl past.room_added past.filled refl rest in
-      let part : FollowsStmt f u b w (ending_at last d) (if_cond e true_body false_body) = subst (λ has. Follows u b w (ending_at last d) (all_data_bytes true_body + all_data_bytes false_body) (plain (expr f e) ▹ either has (stmts f u.opened true_body) (stmts f u.opened false_body))) (sym some) all in
-      let led = g.choosing w (ending_at last d) part in
-      subst (λ m. FollowsStmt f t a w m whole) (sym (leads_more ends last d) ∙ ap (λ ps. leading_on ps d) (sym past.noted) ∙ sym ed) led
-
-  -- no false body
-  pub choosing_none : {t u v : Around} {a b c jumped held done' : Made C} {ends : List ℕ} {place k : ℕ} {whole : Stmt C L} (e : Expr C) (true_body false_body : Stmts C L) →
-      Choosing t a ends u b (if_cond e true_body false_body) whole → Tests f e place b held → FollowsStmts f u held v c true_body → jumped ≡ set_at c place (JumpIfFalse k) → k ≡ reach (length c.code) → are_any false_body ≡ false → done' ≡ leading_on ends jumped →
-      FollowsStmt f t a v done' whole
-  choosing_none {t} {u} {v} {a} {b} {jumped = jumped} {ends = ends} {whole = whole} e true_body false_body g tests r ej ek none ed =
-      let skips = follows_skipping (stmts f u.opened true_body) tests.hole_added tests.at r ej ek in
-      let both = follows_then (plain (expr f e)) (skipping_out JumpIfFalse (stmts f u.opened true_body)) (follows_plain u (expr f e) tests.test_added) skips in
+  -- a true body alone
+  pub alone_follows : {t u : Around} {a held c jumped : Made C} {place k : ℕ} (e : Expr C) (true_body false_body : Stmts C L) →
+      Tests f e place a held → FollowsStmts f t held u c true_body → jumped ≡ set_at c place (JumpIfFalse k) → k ≡ reach (length c.code) → are_any false_body ≡ false →
+      FollowsStmt f t a u jumped (if_cond e true_body false_body)
+  alone_follows {t} {u} {a} {jumped = jumped} e true_body false_body tests r ej ek none =
+      let skips = follows_skipping (stmts f t.opened true_body) tests.hole_added tests.at r ej ek in
+      let both = follows_then (plain (expr f e)) (skipping_out JumpIfFalse (stmts f t.opened true_body)) (follows_plain t (expr f e) tests.test_added) skips in
       let all = follows_bytes (omega (arith, none_bytes false_body none)) both in
-      let part : FollowsStmt f u b v jumped (if_cond e true_body false_body) = subst (λ has. Follows u b v jumped (all_data_bytes true_body + all_data_bytes false_body) (plain (expr f e) ▹ either has (stmts f u.opened true_body) (stmts f u.opened false_body))) (sym none) all in
-      subst (λ m. FollowsStmt f t a v m whole) (sym ed) (g.choosing v jumped part)
+      subst (λ has. Follows t a u jumped (all_data_bytes true_body + all_data_bytes false_body) (plain (expr f e) ▹ either has (stmts f t.opened true_body) (stmts f t.opened false_body))) (sym none) all

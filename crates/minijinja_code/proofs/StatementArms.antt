@@ -23,7 +23,6 @@ use Rattle.minijinja_tree.specs.declared.ast.FromImport.{FromImport}
 use Rattle.minijinja_tree.specs.declared.ast.Import.{Import}
 use Rattle.minijinja_tree.specs.declared.ast.Include.{Include}
 use Rattle.minijinja_tree.specs.declared.ast.Macro.{Macro}
-use Rattle.minijinja_code_parts.specs.internal.IfParts.{IsOnly}
 use Rattle.minijinja_tree.proofs.Rows.{body_of, for_loop_is, if_cond_is, with_block_is, set_block_is, auto_escape_is, filter_block_is, block_is, declare_is, call_block_tree, call_block_is}
 
 module _ {V F C : Type 0} (c : V → C) where
@@ -77,7 +76,3 @@ module _ {V F C : Type 0} (c : V → C) where
 
   pub call_block_arm : (s : Stmt V F) (p : Spanned (CallBlock V F)) (n : CallBlock V F) → s ≡ stmt.CallBlock p → n ≡ node_of p → stmt_tree c s ≡ call_block_tree c n
   call_block_arm s p n is at = ap (stmt_tree c) is ∙ call_block_is c p ∙ ap (call_block_tree c) (sym at)
-
-  -- a body that is one if statement
-  pub only_is : (xs : List (Stmt V F)) (n : IfCond V F) → IsOnly xs n → body_of c xs ≡ tree.also (tree.if_cond (expr_tree c n.expr) (body_of c n.true_body.items) (body_of c n.false_body.items)) tree.done
-  only_is xs n o = ap (body_of c) o.is ∙ ap (λ s. tree.also s tree.done) (if_arm (stmt.IfCond o.node) o.node n refl o.at)

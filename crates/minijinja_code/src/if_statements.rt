@@ -9,17 +9,16 @@ ghost use Rattle.minijinja_code_expr.specs.internal.Making.{made_of};
 ghost use Rattle.minijinja_code_parts.specs.internal.EnclosingLoops.{FollowsStmt};
 
 use crate::stmt::statements;
-use minijinja_code_expr::branches::lead_on;
+use minijinja_code_expr::branches::{begin_else, end_else};
 use minijinja_code_expr::emit::Emitter;
 use minijinja_code_expr::memory::OutOfMemory;
 use minijinja_code_parts::enclosing_loop::EnclosingLoop;
-use minijinja_code_parts::if_parts::{begin, elif, has_elif, jump_past};
+use minijinja_code_parts::if_parts::begin;
 use minijinja_instructions::instructions::Instruction;
 use minijinja_tree::ast::IfCond;
 use minijinja_value::value::TemplateValue;
 
-/// Adds an `if` statement. A false body that is one `if` statement itself, such as an `elif`, is
-/// compiled in the same loop, so that a row of them takes no more stack than one.
+/// Adds an `if` statement: its test, its true body, and its false body if it has any statement.
 #[cycle(stmt)]
 pub(crate) fn condition<'s, V: TemplateValue>(
     code: &mut Emitter<'s, V>,
@@ -38,22 +37,14 @@ pub(crate) fn condition<'s, V: TemplateValue>(
         (stmts_of (map (stmt_tree V.contents) choice.now.true_body.items))
         (stmts_of (map (stmt_tree V.contents) choice.now.false_body.items)))) }
 {
-    let mut ends = Vec::new(code.alloc());
-    let mut part = choice;
-    loop {
-        let test = begin(code, &part.expr)?;
-        statements(code, enclosing, &part.true_body)?;
-        if part.false_body.is_empty() {
-            code.fill(test, Instruction::JumpIfFalse(code.here()));
-            lead_on(code, &ends);
-            return Ok(());
-        }
-        jump_past(code, &mut ends, test)?;
-        if !has_elif(part) {
-            statements(code, enclosing, &part.false_body)?;
-            lead_on(code, &ends);
-            return Ok(());
-        }
-        part = elif(part);
+    let test = begin(code, &choice.expr)?;
+    statements(code, enclosing, &choice.true_body)?;
+    if choice.false_body.is_empty() {
+        code.fill(test, Instruction::JumpIfFalse(code.here()));
+        return Ok(());
     }
+    let end = begin_else(code, test)?;
+    statements(code, enclosing, &choice.false_body)?;
+    end_else(code, end);
+    Ok(())
 }

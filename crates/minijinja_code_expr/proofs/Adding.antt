@@ -50,6 +50,14 @@ module _ {C : Type 0} where
         past = s.past;
       }
 
+  pub adds_nested : {a b : Made C} (p q r : Piece C) → Adds a b (p ▸ q ▸ r) → Adds a b ((p ▸ q) ▸ r)
+  adds_nested {a} {b} p q r s =
+      let h = here_of a in
+      record {
+        code = s.code ∙ ap (λ l. a.code ++ map capped l) (sym (append_assoc (p.code h) (q.code (p.past h)) (r.code (q.past (p.past h)))));
+        past = s.past;
+      }
+
   pub adds_as : {a b : Made C} {p q : Piece C} → p ≡ q → Adds a b p → Adds a b q
   adds_as {a} {b} e s = subst (λ r. Adds a b r) e s
 

@@ -12,6 +12,7 @@ pub mod ChainTurns
 pub mod Constants
 pub mod FilterChains
 pub mod Finishing
+pub mod LiteralNodes
 pub mod FoundNames
 pub mod InOrder
 pub mod OperatorCode

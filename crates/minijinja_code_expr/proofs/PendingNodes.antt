@@ -1,5 +1,5 @@
 -- Nodes that wait for their leading operand, while the code of an expression is being made.
-use Rattle.std.proofs.Common.{◌≡◌, ℕ, ◌≤◌, List, [], ◌∷◌, ◌++◌, length, Option, Some, None, false, sym, subst}
+use Rattle.std.proofs.Common.{◌≡◌, ℕ, ◌≤◌, List, [], ◌∷◌, ◌++◌, length, Option, Some, None, false, sym, ap, subst}
 use Rattle.std.specs.Prelude.{is_some, reverse}
 use Rattle.std.proofs.lemmas.List.{reverse-append}
 use Rattle.minijinja_value.specs.Values.{Functions}
@@ -8,10 +8,11 @@ use Rattle.minijinja_tree.specs.Tree.{Expr, if_expr}
 use Rattle.minijinja_tree.specs.WellFormed.{IsWhole}
 use Rattle.minijinja_tree_expr.specs.declared.ast.Expr.{size-Expr}
 use Rattle.minijinja_semantics.specs.Layout.{expr}
-use Rattle.minijinja_code_expr.specs.internal.Making.{Made, Adds}
-use Rattle.minijinja_code_expr.specs.internal.Leading.{leading, piece_of, Ready, Begins, Finishes}
+use Rattle.minijinja_semantics.specs.Pieces.{one}
+use Rattle.minijinja_code_expr.specs.internal.Making.{Made, Adds, hole}
+use Rattle.minijinja_code_expr.specs.internal.Leading.{After, Tested, leading, piece_of, test_in, Ready, Finishes}
 use Rattle.minijinja_code_expr.specs.declared.pending.PendingNode.{PendingNode}
-use Rattle.minijinja_code_expr.proofs.Adding.{adds_nothing}
+use Rattle.minijinja_code_expr.proofs.Adding.{adds_as, adds_nothing}
 
 module _ {C F : Type 0} (f : Functions C F) where
   none_added : (m : Made C) (o : Option (Expr C)) → is_some o ≡ false → Adds m m (piece_of f o)
@@ -22,6 +23,22 @@ module _ {C F : Type 0} (f : Functions C F) where
   pub leaf_ready : (e : Expr C) (m : Made C) (place : ℕ) → is_some (leading e) ≡ false → place ≡ length m.code → Ready f e place m m
   leaf_ready (if_expr t a b) m place h at = absurd (cc)
   leaf_ready e m place h at = record { at = at; added = none_added m (leading e) h }
+
+  -- what comes before the leading operand was added
+  abbrev pub Begins : Expr C → (place : ℕ) (old new : Made C) → Type 0
+  Begins e place old new = (later : Made C) → Adds new later (piece_of f (leading e)) → Ready f e place old later
+
+  -- of an if expression its test, and a hole for the jump of the test
+  pub begun_test : (e t : Expr C) {place : ℕ} {old tested held : Made C} → test_in e ≡ Some t → Adds old tested (expr f t) → place ≡ length tested.code → Adds tested held (one hole) → Begins e place old held
+  begun_test (if_expr t' a b) t is s at h later more =
+      let same : t ≡ t' = cc in
+      record { tested = _; held = _; test_added = adds_as (ap (expr f) same) s; at = at; hole_added = h; added = more }
+  begun_test e t is s at h later more = absurd (cc)
+
+  -- of any other nothing
+  pub begun_none : (e : Expr C) {place : ℕ} {old : Made C} → test_in e ≡ None → place ≡ length old.code → Begins e place old old
+  begun_none (if_expr t a b) is at later more = absurd (cc)
+  begun_none e is at later more = record { at = at; added = more }
 
 module _ {V K C F : Type 0} (f : Functions C F) (c : V → C) (old : Made C) (whole : Expr C) (bound : ℕ) where
   -- with this made, what is left of the nodes that wait, the last one first, makes the whole

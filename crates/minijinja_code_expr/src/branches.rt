@@ -1,71 +1,30 @@
-//! Instructions of if expressions.
-ghost use Rattle.std.specs.Prelude.{◌≡◌, OnOk};
-ghost use Rattle.minijinja_tree.specs.Erasure.{expr_tree, optional_of};
-ghost use Rattle.minijinja_tree.specs.Tree as tree;
-ghost use Rattle.minijinja_tree.specs.WellFormed.{IsWhole, IsWholeIfAny};
-ghost use Rattle.minijinja_code_expr.specs.internal.Branching.{leading_on};
-ghost use Rattle.minijinja_code_expr.specs.internal.Leading.{Finishes};
+//! Jumps around the part that a test does not choose.
+ghost use Rattle.std.specs.Prelude.{◌≡◌, IfOk};
+ghost use Rattle.minijinja_code_expr.specs.internal.Branching.{BeginsElse, ending_at};
 ghost use Rattle.minijinja_code_expr.specs.internal.Making.{made_of};
-ghost use Rattle.minijinja_semantics.specs.Code.{Jump};
 
 use crate::emit::Emitter;
-use crate::expr::expression;
-use crate::literals::load_undefined;
 use crate::memory::OutOfMemory;
 use minijinja_instructions::instructions::Instruction;
-use minijinja_tree::ast::{Expr, IfExpr};
 use minijinja_value::value::TemplateValue;
 
-/// Adds what comes after the true part of an if expression; the jump of its test is at `place`. An
-/// else part that is an if expression itself is compiled in the same loop, so that a row of them
-/// takes no more stack than one.
-#[cycle(expr)]
-pub(crate) fn otherwise<'s, V: TemplateValue>(
-    code: &mut Emitter<'s, V>,
-    choice: &IfExpr<'s, V>,
-    place: usize,
-) -> Result<(), OutOfMemory>
-    requires test { IsWhole (expr_tree V.contents choice.now.test_expr) }
-    requires yes { IsWhole (expr_tree V.contents choice.now.true_expr) }
-    requires no { IsWholeIfAny (optional_of V.contents choice.now.false_expr) }
-    ensures { OnOk result (Finishes V.functions
-        (tree.if_expr (expr_tree V.contents choice.now.test_expr)
-        (expr_tree V.contents choice.now.true_expr) (optional_of V.contents choice.now.false_expr))
-        place (made_of V.contents code.old) (made_of V.contents code.new)) }
+/// Begins what comes where a test is false, after what comes where it is true: the jump of the
+/// test, whose place is `test`, leads there. Returns the reserved place of the jump past it.
+pub fn begin_else<V: TemplateValue>(
+    code: &mut Emitter<'_, V>,
+    test: usize,
+) -> Result<usize, OutOfMemory>
+    ensures { IfOk result (λ end. BeginsElse test end (made_of V.contents code.old)
+        (made_of V.contents code.new)) }
 {
-    let mut ends = Vec::new(code.alloc());
-    let mut part = choice;
-    let mut jump = place;
-    loop {
-        ends.push(code.reserve()?)?;
-        code.fill(jump, Instruction::JumpIfFalse(code.here()));
-        match &part.false_expr {
-            Some(Expr::IfExpr(other)) => {
-                part = other.node();
-                expression(code, &part.test_expr)?;
-                jump = code.reserve()?;
-                expression(code, &part.true_expr)?;
-            }
-            Some(other) => {
-                expression(code, other)?;
-                break;
-            }
-            None => {
-                load_undefined(code)?;
-                break;
-            }
-        }
-    }
-    lead_on(code, &ends);
-    Ok(())
+    let end = code.reserve()?;
+    code.fill(test, Instruction::JumpIfFalse(code.here()));
+    Ok(end)
 }
 
-/// Puts a jump to the end of the instructions at each of these places.
-pub fn lead_on<V: TemplateValue>(code: &mut Emitter<'_, V>, places: &[usize])
-    ensures { made_of V.contents code.new ≡ leading_on places.now (made_of V.contents code.old) }
+/// Ends what comes where a test is false: the jump past it leads to the end of the instructions.
+pub fn end_else<V: TemplateValue>(code: &mut Emitter<'_, V>, end: usize)
+    ensures { made_of V.contents code.new ≡ ending_at end (made_of V.contents code.old) }
 {
-    let end = code.here();
-    for place in places {
-        code.fill(*place, Instruction::Jump(end));
-    }
+    code.fill(end, Instruction::Jump(code.here()));
 }

@@ -1,28 +1,29 @@
 //! Instructions of expressions.
-ghost use Rattle.std.specs.Prelude.{◌≡◌, ◌≤◌, ℕ, OnOk, IfOk};
-ghost use Rattle.minijinja_tree.specs.Erasure.{expr_tree, exprs_of, optional_of, args_of};
-ghost use Rattle.minijinja_tree.specs.WellFormed.{IsWhole, IsWholeIfAny, AreWhole, AreArguments, arg_count, expr_count, most_arguments};
+ghost use Rattle.std.specs.Prelude.{◌≤◌, ℕ, OnOk};
+ghost use Rattle.minijinja_tree.specs.Erasure.{expr_tree, optional_of, args_of, bin_op};
+ghost use Rattle.minijinja_tree.specs.WellFormed.{IsWhole, IsWholeIfAny, AreArguments, arg_count, most_arguments};
 ghost use Rattle.minijinja_tree.specs.Tree as tree;
 ghost use Rattle.minijinja_semantics.specs.Layout as layout;
 ghost use Rattle.minijinja_code_expr.specs.internal.Calling.{captured};
-ghost use Rattle.minijinja_code_expr.specs.internal.Leading.{Begins, Finishes};
+ghost use Rattle.minijinja_code_expr.specs.internal.Leading.{Finishes, IsLiteral};
 ghost use Rattle.minijinja_code_expr.specs.internal.Making.{made_of, Adds};
 
 use crate::arguments::arguments;
-use crate::branches::otherwise;
+use crate::branches::{begin_else, end_else};
 use crate::chain::compare;
 use crate::emit::Emitter;
 use crate::leading::{has_leading_operand, leading_operand, test_of};
-use crate::literals::{load_constant, load_list, load_map, load_none, load_tuple};
+use crate::literals::{load_constant, load_list, load_map, load_tuple};
 use crate::memory::OutOfMemory;
 use crate::operators::{begin_right, end_binary, end_unary, join_constant};
 use crate::pending::{PendingNode, PendingNodes};
 use minijinja_instructions::instructions::{CaptureMode, Instruction};
-use minijinja_tree::ast::{Call, CallType, Expr, List, Map, Slice, Tuple};
+use minijinja_tree::ast::{BinOp, Call, CallType, Expr};
 use minijinja_value::value::TemplateValue;
 
 /// Adds the code of an expression. A loop goes down the operands that nodes begin with, so that a
-/// row of operators, attributes, filters or calls takes no more stack than one of them.
+/// row of operators, attributes, filters or calls takes no more stack than one of them. Before the
+/// leading operand of an if expression stand its test and the reserved place of the test's jump.
 #[cycle(expr)]
 pub fn expression<'s, V: TemplateValue>(
     code: &mut Emitter<'s, V>,
@@ -35,7 +36,13 @@ pub fn expression<'s, V: TemplateValue>(
     let mut pending = PendingNodes::new(code.alloc());
     let mut part = expr;
     while has_leading_operand(part) {
-        let place = begin(code, part)?;
+        let place = match test_of(part) {
+            Some(test) => {
+                expression(code, test)?;
+                code.reserve()?
+            }
+            None => code.place(),
+        };
         pending.push(PendingNode { node: part, place })?;
         part = leading_operand(part);
     }
@@ -45,26 +52,6 @@ pub fn expression<'s, V: TemplateValue>(
         finish(code, last.node, last.place)?;
     }
     Ok(())
-}
-
-/// Adds what comes before the leading operand of a node: for an if expression its test, and the
-/// reserved place of the test's jump. Returns the node's place.
-#[cycle(expr)]
-fn begin<'s, V: TemplateValue>(
-    code: &mut Emitter<'s, V>,
-    node: &Expr<'s, V>,
-) -> Result<usize, OutOfMemory>
-    requires { IsWhole (expr_tree V.contents node.now) }
-    ensures { IfOk result (λ place. Begins V.functions (expr_tree V.contents node.now) place
-        (made_of V.contents code.old) (made_of V.contents code.new)) }
-{
-    match test_of(node) {
-        Some(test) => {
-            expression(code, test)?;
-            code.reserve()
-        }
-        None => Ok(code.place()),
-    }
 }
 
 /// Adds what comes after the leading operand of a node, or all of its code if it has none.
@@ -81,20 +68,25 @@ fn finish<'s, V: TemplateValue>(
     match node {
         Expr::Var(variable) => code.add(Instruction::Lookup(variable.node().id)),
         Expr::Const(constant) => load_constant(code, constant.node()),
-        Expr::Slice(slice) => finish_slice(code, slice.node()),
-        Expr::UnaryOp(operation) => end_unary(code, operation.node().op, place),
-        Expr::BinOp(operation) => {
-            let operation = operation.node();
-            let joined = join_constant(code, operation, place)?;
-            if joined {
-                return Ok(());
-            }
-            let middle = begin_right(code, operation.op)?;
-            expression(code, &operation.right)?;
-            end_binary(code, operation.op, place, middle)
+        Expr::List(_) => literal(code, node),
+        Expr::Tuple(_) => literal(code, node),
+        Expr::Map(_) => literal(code, node),
+        Expr::Slice(slice) => {
+            let slice = slice.node();
+            optional(code, &slice.start, V::none())?;
+            optional(code, &slice.stop, V::none())?;
+            optional(code, &slice.step, V::none())?;
+            code.add(Instruction::Slice)
         }
+        Expr::UnaryOp(operation) => end_unary(code, operation.node().op, place),
+        Expr::BinOp(operation) => finish_binary(code, operation.node(), place),
         Expr::Compare(chain) => compare(code, chain.node(), place),
-        Expr::IfExpr(choice) => otherwise(code, choice.node(), place),
+        Expr::IfExpr(choice) => {
+            let end = begin_else(code, place)?;
+            optional(code, &choice.node().false_expr, V::silent_undefined())?;
+            end_else(code, end);
+            Ok(())
+        }
         Expr::Filter(filter) => {
             let filter = filter.node();
             let count = arguments(code, &filter.args, 1)?;
@@ -111,30 +103,30 @@ fn finish<'s, V: TemplateValue>(
             code.add(Instruction::GetItem)
         }
         Expr::Call(call) => finish_call(code, call.node()),
-        Expr::List(list) => finish_list(code, list.node()),
-        Expr::Tuple(tuple) => finish_tuple(code, tuple.node()),
-        Expr::Map(map) => finish_map(code, map.node()),
     }
 }
 
-/// Adds the bounds of a slice after the operand that it is taken of, and the slice.
+/// Adds the right side of an operator after its left side, whose code is at `place`, and the
+/// operator. With two constants it folds.
 #[cycle(expr)]
-fn finish_slice<'s, V: TemplateValue>(
+fn finish_binary<'s, V: TemplateValue>(
     code: &mut Emitter<'s, V>,
-    slice: &Slice<'s, V>,
+    operation: &BinOp<'s, V>,
+    place: usize,
 ) -> Result<(), OutOfMemory>
-    requires start { IsWholeIfAny (optional_of V.contents slice.now.start) }
-    requires stop { IsWholeIfAny (optional_of V.contents slice.now.stop) }
-    requires step { IsWholeIfAny (optional_of V.contents slice.now.step) }
-    ensures { OnOk result ((place : ℕ) → Finishes V.functions (tree.slice
-        (expr_tree V.contents slice.now.expr) (optional_of V.contents slice.now.start)
-        (optional_of V.contents slice.now.stop) (optional_of V.contents slice.now.step)) place
+    requires left { IsWhole (expr_tree V.contents operation.now.left) }
+    requires right { IsWhole (expr_tree V.contents operation.now.right) }
+    ensures { OnOk result (Finishes V.functions (tree.binary (bin_op operation.now.op)
+        (expr_tree V.contents operation.now.left) (expr_tree V.contents operation.now.right)) place
         (made_of V.contents code.old) (made_of V.contents code.new)) }
 {
-    bound(code, &slice.start)?;
-    bound(code, &slice.stop)?;
-    bound(code, &slice.step)?;
-    code.add(Instruction::Slice)
+    let joined = join_constant(code, operation, place)?;
+    if joined {
+        return Ok(());
+    }
+    let middle = begin_right(code, operation.op)?;
+    expression(code, &operation.right)?;
+    end_binary(code, operation.op, place, middle)
 }
 
 /// Adds the arguments of a call after what it is made on, and the call.
@@ -166,98 +158,68 @@ fn finish_call<'s, V: TemplateValue>(
     }
 }
 
-/// Adds a list: one constant where all its items are constants, otherwise its items and what makes
-/// a list of them.
+/// Adds a list, a tuple or a map: one constant where all its parts are constants, otherwise its
+/// parts, of a map in pairs, and what puts them together.
 #[cycle(expr)]
-fn finish_list<'s, V: TemplateValue>(
+fn literal<'s, V: TemplateValue>(
     code: &mut Emitter<'s, V>,
-    list: &List<'s, V>,
+    node: &Expr<'s, V>,
 ) -> Result<(), OutOfMemory>
-    requires { AreWhole (exprs_of V.contents list.now.items.items) }
-    ensures { OnOk result ((place : ℕ) → Finishes V.functions
-        (tree.list (exprs_of V.contents list.now.items.items)) place
+    requires literal { IsLiteral (expr_tree V.contents node.now) }
+    requires whole { IsWhole (expr_tree V.contents node.now) }
+    ensures { OnOk result ((place : ℕ) → Finishes V.functions (expr_tree V.contents node.now) place
         (made_of V.contents code.old) (made_of V.contents code.new)) }
 {
-    if load_list(code, list)? {
-        return Ok(());
+    match node {
+        Expr::List(list) => {
+            let list = list.node();
+            if load_list(code, list)? {
+                return Ok(());
+            }
+            for item in &list.items {
+                expression(code, item)?;
+            }
+            code.add(Instruction::BuildList(Some(list.items.len())))
+        }
+        Expr::Tuple(tuple) => {
+            let tuple = tuple.node();
+            if load_tuple(code, tuple)? {
+                return Ok(());
+            }
+            for item in &tuple.items {
+                expression(code, item)?;
+            }
+            code.add(Instruction::BuildTuple(Some(tuple.items.len())))
+        }
+        Expr::Map(map) => {
+            let map = map.node();
+            if load_map(code, map)? {
+                return Ok(());
+            }
+            for i in 0..map.keys.len() {
+                expression(code, &map.keys[i])?;
+                expression(code, &map.values[i])?;
+            }
+            code.add(Instruction::BuildMap(map.keys.len()))
+        }
+        _ => unreachable!(),
     }
-    items(code, &list.items)?;
-    code.add(Instruction::BuildList(Some(list.items.len())))
 }
 
-/// Adds a tuple: one constant where all its items are constants, otherwise its items and what makes
-/// a tuple of them.
+/// Adds the code of an expression, or loads what stands for one that is absent.
 #[cycle(expr)]
-fn finish_tuple<'s, V: TemplateValue>(
+fn optional<'s, V: TemplateValue>(
     code: &mut Emitter<'s, V>,
-    tuple: &Tuple<'s, V>,
+    expr: &Option<Expr<'s, V>>,
+    absent: V,
 ) -> Result<(), OutOfMemory>
-    requires { AreWhole (exprs_of V.contents tuple.now.items.items) }
-    ensures { OnOk result ((place : ℕ) → Finishes V.functions
-        (tree.tuple (exprs_of V.contents tuple.now.items.items)) place
-        (made_of V.contents code.old) (made_of V.contents code.new)) }
-{
-    if load_tuple(code, tuple)? {
-        return Ok(());
-    }
-    items(code, &tuple.items)?;
-    code.add(Instruction::BuildTuple(Some(tuple.items.len())))
-}
-
-/// Adds a map: one constant where all its keys and values are constants, otherwise these in pairs
-/// and what makes a map of them.
-#[cycle(expr)]
-fn finish_map<'s, V: TemplateValue>(
-    code: &mut Emitter<'s, V>,
-    map: &Map<'s, V>,
-) -> Result<(), OutOfMemory>
-    requires keys { AreWhole (exprs_of V.contents map.now.keys.items) }
-    requires values { AreWhole (exprs_of V.contents map.now.values.items) }
-    requires pairs { expr_count (exprs_of V.contents map.now.keys.items)
-        ≡ expr_count (exprs_of V.contents map.now.values.items) }
-    ensures { OnOk result ((place : ℕ) → Finishes V.functions (tree.map
-        (exprs_of V.contents map.now.keys.items) (exprs_of V.contents map.now.values.items)) place
-        (made_of V.contents code.old) (made_of V.contents code.new)) }
-{
-    if load_map(code, map)? {
-        return Ok(());
-    }
-    for i in 0..map.keys.len() {
-        expression(code, &map.keys[i])?;
-        expression(code, &map.values[i])?;
-    }
-    code.add(Instruction::BuildMap(map.keys.len()))
-}
-
-/// Adds the code of expressions in order.
-#[cycle(expr)]
-fn items<'s, V: TemplateValue>(
-    code: &mut Emitter<'s, V>,
-    exprs: &[Expr<'s, V>],
-) -> Result<(), OutOfMemory>
-    requires { AreWhole (exprs_of V.contents exprs.now) }
+    requires { IsWholeIfAny (optional_of V.contents expr.now) }
     ensures { OnOk result (Adds (made_of V.contents code.old) (made_of V.contents code.new)
-        (layout.items V.functions (exprs_of V.contents exprs.now))) }
+        (layout.optional V.functions (V.contents absent) (optional_of V.contents expr.now))) }
 {
-    for expr in exprs {
-        expression(code, expr)?;
-    }
-    Ok(())
-}
-
-/// Adds the code of a bound of a slice; a bound that is absent is none.
-#[cycle(expr)]
-fn bound<'s, V: TemplateValue>(
-    code: &mut Emitter<'s, V>,
-    bound: &Option<Expr<'s, V>>,
-) -> Result<(), OutOfMemory>
-    requires { IsWholeIfAny (optional_of V.contents bound.now) }
-    ensures { OnOk result (Adds (made_of V.contents code.old) (made_of V.contents code.new)
-        (layout.optional V.functions V.functions.none (optional_of V.contents bound.now))) }
-{
-    match bound {
-        Some(bound) => expression(code, bound),
-        None => load_none(code),
+    match expr {
+        Some(expr) => expression(code, expr),
+        None => code.add(Instruction::LoadConst(absent)),
     }
 }
 

@@ -24,22 +24,6 @@ pub(crate) fn load_constant<V: TemplateValue>(
     code.add(Instruction::LoadConst(constant.value.try_clone()?))
 }
 
-/// Loads the value none.
-pub(crate) fn load_none<V: TemplateValue>(code: &mut Emitter<'_, V>) -> Result<(), OutOfMemory>
-    ensures { OnOk result (Adds (made_of V.contents code.old) (made_of V.contents code.new)
-        (one (Load V.functions.none))) }
-{
-    code.add(Instruction::LoadConst(V::none()))
-}
-
-/// Loads the value of an if expression whose test is false and that has no else part.
-pub(crate) fn load_undefined<V: TemplateValue>(code: &mut Emitter<'_, V>) -> Result<(), OutOfMemory>
-    ensures { OnOk result (Adds (made_of V.contents code.old) (made_of V.contents code.new)
-        (one (Load V.functions.silent_undefined))) }
-{
-    code.add(Instruction::LoadConst(V::silent_undefined()))
-}
-
 /// Loads a list if all its items are constants, and returns whether it did.
 pub(crate) fn load_list<V: TemplateValue>(
     code: &mut Emitter<'_, V>,

@@ -4,9 +4,8 @@ use Rattle.std.specs.Prelude.{slice_set}
 use Rattle.std.proofs.lemmas.List.{length-set, set-append_left}
 use Rattle.minijinja_semantics.specs.Code.{Instr, Jump}
 use Rattle.minijinja_semantics.specs.Pieces.{Piece}
-use Rattle.minijinja_code_expr.specs.internal.Branching.{with_ends}
 use Rattle.minijinja_code_expr.specs.internal.Making.{Made, here_of, capped, Adds}
-use Rattle.minijinja_code_parts.specs.internal.EnclosingLoops.{AreBefore, AreOthers}
+use Rattle.minijinja_code_parts.specs.internal.EnclosingLoops.{AreBefore, AreOthers, with_ends}
 
 -- two places that are not one may be set in either order
 pub sets_apart : {X : Type 0} (xs : List X) (p q : ℕ) (x y : X) → (p ≡ q → ⊥) → slice_set (slice_set xs p x) q y ≡ slice_set (slice_set xs q y) p x

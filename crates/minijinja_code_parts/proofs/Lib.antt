@@ -2,9 +2,8 @@ pub mod Filling
 pub mod Leaving
 pub mod LoopSteps
 pub mod Rounds
-pub mod TargetRows
+pub mod TargetLists
 pub mod LoopParts
 pub mod Assigning
 pub mod MacroParts
 pub mod ImportParts
-pub mod OnlyRows

@@ -8,13 +8,12 @@ ghost use Rattle.minijinja_semantics.specs.Layout as layout;
 ghost use Rattle.minijinja_semantics.specs.Meaning.{loop_flags};
 ghost use Rattle.minijinja_semantics.specs.Pieces.{one, ◌▸◌, leaving};
 ghost use Rattle.minijinja_code_parts.specs.internal.AtEnclosingLoop.{around_of, opened_in};
-ghost use Rattle.minijinja_code_parts.specs.internal.Loops.{Begins, EndsBeforeElse, closed, turned};
+ghost use Rattle.minijinja_code_parts.specs.internal.Loops.{Begins, EndsBeforeElse, closed, leading_on, turned};
 ghost use Rattle.minijinja_code_expr.specs.internal.Making.{made_of, Adds};
 ghost use Rattle.minijinja_code_parts.specs.internal.EnclosingLoops.{Follows};
 
 use crate::enclosing_loop::{EnclosingLoop, Open};
 use crate::targets::assign;
-use minijinja_code_expr::branches::lead_on;
 use minijinja_code_expr::emit::Emitter;
 use minijinja_code_expr::expr::expression;
 use minijinja_code_expr::memory::OutOfMemory;
@@ -150,6 +149,16 @@ pub fn turn_back<V: TemplateValue>(
     lead_on(code, breaks);
     code.fill(iterate, Instruction::Iterate(code.here()));
     Ok(())
+}
+
+/// Puts a jump to the end of the instructions at each of these places.
+fn lead_on<V: TemplateValue>(code: &mut Emitter<'_, V>, places: &[usize])
+    ensures { made_of V.contents code.new ≡ leading_on places.now (made_of V.contents code.old) }
+{
+    let end = code.here();
+    for place in places {
+        code.fill(*place, Instruction::Jump(end));
+    }
 }
 
 /// Ends a loop before its else body, and reserves the place of the jump past that body, which is

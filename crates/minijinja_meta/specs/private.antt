@@ -2,4 +2,3 @@
 pub mod FoundNames
 pub mod Mentions
 pub mod Ways
-pub mod TargetRows

@@ -1,5 +1,5 @@
 //! Finds the names that a macro needs from outside of it.
-ghost use Rattle.std.specs.Prelude.{◌≡◌, ◌+◌, ◌-◌, ◌<◌, ◌||◌, ◌++◌, IfErr, IfOk, IsSome, OnOk, None, [], ◌∷◌, bytes_eq, drop, length, map, option_map, reverse, slice_get, take};
+ghost use Rattle.std.specs.Prelude.{◌≡◌, ◌+◌, ◌-◌, ◌||◌, IfErr, IfOk, OnOk, [], ◌∷◌, bytes_eq, drop, length, map, option_map, reverse, slice_get, take};
 ghost use Rattle.std.specs.BTreeSet.{IsOrdered, keys};
 ghost use Rattle.std.specs.Cmp.Lexicographic.{slice_cmp};
 ghost use Rattle.std.specs.Ordering.{nat_cmp};
@@ -10,18 +10,15 @@ ghost use Rattle.minijinja_tree.specs.FreeNames.{closure, in_row, through, throu
 ghost use Rattle.minijinja_tree.specs.Tree as tree;
 ghost use Rattle.minijinja_tree.specs.Tree.{stmts_of};
 ghost use Rattle.minijinja_meta.specs.private.FoundNames.{IsLogged, Notes, Walking, Walks, log};
-ghost use Rattle.minijinja_meta.specs.private.TargetRows.{rows_count, rows_to};
 ghost use Rattle.minijinja_meta.specs.private.Mentions.{mentions, mentions_all, mentions_any, mentions_args, mentions_beside, mentions_compared};
-ghost use Rattle.minijinja_tree.specs.internal.WellFormedTests as tests;
-ghost use Rattle.minijinja_meta.specs.private.Ways.{beside_way, in_region, way_of, within_macro};
+ghost use Rattle.minijinja_meta.specs.private.Ways.{in_region, way_of, within_macro};
 
 use minijinja_syntax::error::Error;
 use minijinja_tree::ast::{
     Block, Call, CallArg, CallBlock, CompareOp, Expr, ForLoop, FromImport, IfCond, IfExpr, Import,
     Macro, Map, Set, SetBlock, Slice, Stmt, WithBlock,
 };
-use minijinja_tree::well_formed::{only, otherwise};
-use minijinja_tree_expr::well_formed::{list_of, long_side};
+use minijinja_tree_expr::well_formed::long_side;
 use minijinja_value::value::TemplateValue;
 use std::alloc::{AllocError, Global};
 use std::collections::BTreeSet;
@@ -191,23 +188,18 @@ fn bounds<'s, V: TemplateValue>(
     if_any(names, &slice.step)
 }
 
-/// Notes the names in the test of an if expression, and in the true part unless it is the long
-/// side.
+/// Notes the names in the test of an if expression, and in the false part if it has one.
 #[cycle(walk)]
 fn choice_beside<'s, V: TemplateValue>(
     names: &mut Names<'s>,
     choice: &IfExpr<'s, V>,
 ) -> Result<(), AllocError>
     ensures { OnOk result (Notes names.old names.new
-        (λ y. mentions_beside y (tree.if_expr (expr_tree V.contents choice.now.test_expr)
-        (expr_tree V.contents choice.now.true_expr)
-        (optional_of V.contents choice.now.false_expr)))) }
+        (λ y. mentions y (expr_tree V.contents choice.now.test_expr)
+        || mentions_any y (optional_of V.contents choice.now.false_expr))) }
 {
     expression(names, &choice.test_expr)?;
-    match choice.false_expr {
-        Some(_) => expression(names, &choice.true_expr),
-        None => Ok(()),
-    }
+    if_any(names, &choice.false_expr)
 }
 
 #[cycle(walk)]
@@ -306,19 +298,21 @@ fn called<'s, V: TemplateValue>(names: &mut Names<'s>, call: &Call<'s, V>) -> Re
 }
 
 /// Stores the variables of a target.
+#[cycle(targets)]
 fn target<'s, V: TemplateValue>(names: &mut Names<'s>, expr: &Expr<'s, V>) -> Result<(), AllocError>
     requires { IsLogged names.old }
     ensures { OnOk result (Walks names.old names.new
         (to_target (expr_tree V.contents expr.now))) }
 {
-    match list_of(expr) {
-        Some(list) => targets(names, &list.items),
-        None => single_target(names, expr),
+    match expr {
+        Expr::Var(variable) => names.stores(variable.node().id),
+        Expr::List(list) => targets(names, &list.node().items),
+        _ => expression(names, expr),
     }
 }
 
-/// Stores the variables of targets, in order. Lists of targets nest without a bound, so the rest of
-/// each list is kept in a vector.
+/// Stores the variables of targets, in order.
+#[cycle(targets)]
 fn targets<'s, V: TemplateValue>(
     names: &mut Names<'s>,
     exprs: &[Expr<'s, V>],
@@ -327,55 +321,10 @@ fn targets<'s, V: TemplateValue>(
     ensures { OnOk result (Walks names.old names.new
         (to_targets (exprs_of V.contents exprs.now))) }
 {
-    let mut rows = Vec::new(names.alloc);
-    rows.push(exprs)?;
-    while let Some(row) = rows.pop() {
-        next_target(names, &mut rows, row)?;
+    for expr in exprs {
+        target(names, expr)?;
     }
     Ok(())
-}
-
-/// Stores the first target of a row. The rest of the row is pushed onto the rows, and so are the
-/// items of the target if it is a list.
-fn next_target<'a, 's, V: TemplateValue>(
-    names: &mut Names<'s>,
-    rows: &mut Vec<&'a [Expr<'s, V>]>,
-    row: &'a [Expr<'s, V>],
-) -> Result<(), AllocError>
-    requires { IsLogged names.old }
-    ensures walks { OnOk result (Walking names.old names.new
-        (λ w. to_targets (exprs_of V.contents row.now) (rows_to V.contents rows.old.items w))
-        (rows_to V.contents rows.new.items)) }
-    ensures fewer { OnOk result (rows_count V.contents rows.new.items < rows_count V.contents
-        (rows.old.items ++ row.entry ∷ [])) }
-{
-    let Some((expr, rest)) = row.split_first() else {
-        return Ok(());
-    };
-    rows.push(rest)?;
-    match list_of(expr) {
-        Some(list) => {
-            rows.push(list.items.as_slice())?;
-            Ok(())
-        }
-        None => single_target(names, expr),
-    }
-}
-
-/// Stores a target that is no list.
-fn single_target<'s, V: TemplateValue>(
-    names: &mut Names<'s>,
-    expr: &Expr<'s, V>,
-) -> Result<(), AllocError>
-    requires logged { IsLogged names.old }
-    requires single { tests.items_of (expr_tree V.contents expr.now) ≡ None }
-    ensures { OnOk result (Walks names.old names.new
-        (to_target (expr_tree V.contents expr.now))) }
-{
-    match expr {
-        Expr::Var(variable) => names.stores(variable.node().id),
-        _ => expression(names, expr),
-    }
 }
 
 /// Notes the names in assignments, each value before its target.
@@ -519,36 +468,6 @@ fn statement<'s, V: TemplateValue>(
     ensures { OnOk result (Walks names.old names.new
         (way_of (stmt_tree V.contents stmt.now))) }
 {
-    match otherwise(stmt) {
-        Some(_) => row(names, stmt),
-        None => single(names, stmt),
-    }
-}
-
-/// Goes down false bodies in a loop, so that a row of `elif` takes no more stack than one of them.
-/// The regions of these bodies end together, at the end of the row.
-#[cycle(statements)]
-fn row<'s, V: TemplateValue>(names: &mut Names<'s>, stmt: &Stmt<'s, V>) -> Result<(), AllocError>
-    requires logged { IsLogged names.old }
-    requires goes_down { IsSome (tests.otherwise (stmt_tree V.contents stmt.now)) }
-    ensures { OnOk result (Walks names.old names.new (way_of (stmt_tree V.contents stmt.now))) }
-{
-    let mark = names.mark();
-    let mut rest = Some(stmt);
-    while let Some(part) = rest {
-        single(names, part)?;
-        rest = otherwise(part);
-    }
-    names.end(mark);
-    Ok(())
-}
-
-/// Goes through a statement, except the only statement of a false body.
-#[cycle(statements)]
-fn single<'s, V: TemplateValue>(names: &mut Names<'s>, stmt: &Stmt<'s, V>) -> Result<(), AllocError>
-    requires { IsLogged names.old }
-    ensures { OnOk result (Walks names.old names.new (beside_way (stmt_tree V.contents stmt.now))) }
-{
     match stmt {
         Stmt::Template(template) => {
             names.stores("self")?;
@@ -591,8 +510,7 @@ fn single<'s, V: TemplateValue>(names: &mut Names<'s>, stmt: &Stmt<'s, V>) -> Re
     }
 }
 
-/// Goes through the test and the bodies of a condition, except a false body that holds one
-/// statement.
+/// Goes through the test and the bodies of a condition.
 #[cycle(statements)]
 fn branches<'s, V: TemplateValue>(
     names: &mut Names<'s>,
@@ -600,16 +518,13 @@ fn branches<'s, V: TemplateValue>(
 ) -> Result<(), AllocError>
     requires { IsLogged names.old }
     ensures { OnOk result (Walks names.old names.new
-        (beside_way (tree.if_cond (expr_tree V.contents condition.now.expr)
+        (way_of (tree.if_cond (expr_tree V.contents condition.now.expr)
         (stmts_of (map (stmt_tree V.contents) condition.now.true_body.items))
         (stmts_of (map (stmt_tree V.contents) condition.now.false_body.items))))) }
 {
     expression(names, &condition.expr)?;
     body(names, &condition.true_body)?;
-    match only(&condition.false_body) {
-        Some(_) => Ok(()),
-        None => body(names, &condition.false_body),
-    }
+    body(names, &condition.false_body)
 }
 
 /// Goes through a body that is a region of its own.

@@ -83,22 +83,6 @@ impl<'s, V: TemplateValue> Drop for Stmt<'s, V> {
     }
 }
 
-impl<'s, V: TemplateValue> Stmt<'s, V> {
-    ghost use Rattle.std.specs.Prelude.{◌≡◌, IfErr, IfOk};
-    ghost use Rattle.minijinja_tree.specs.declared.ast.Stmt.TheVariants as kinds;
-
-    /// The condition, if the statement is one; otherwise the statement.
-    fn into_condition(self) -> Result<Spanned<IfCond<'s, V>>, Self>
-        ensures condition { IfOk result (λ condition. self.entry ≡ kinds.IfCond condition) }
-        ensures other { IfErr result (λ other. other ≡ self.entry) }
-    {
-        match self {
-            Stmt::IfCond(condition) => Ok(condition),
-            other => Err(other),
-        }
-    }
-}
-
 /// A whole template.
 #[cycle(stmt)]
 #[derive(Drop)]
@@ -133,32 +117,11 @@ pub struct ForLoop<'s, V: TemplateValue = Value> {
 
 /// A condition: `{% if expr %}`. An `elif` is a false body that holds one condition.
 #[cycle(stmt)]
+#[derive(Drop)]
 pub struct IfCond<'s, V: TemplateValue = Value> {
     pub expr: Expr<'s, V>,
     pub true_body: Vec<Stmt<'s, V>>,
     pub false_body: Vec<Stmt<'s, V>>,
-}
-
-/// Drops a condition that ends a false body in a loop, so that a row of `elif` takes no more stack
-/// than one of them.
-impl<'s, V: TemplateValue> Drop for IfCond<'s, V> {
-    #[cycle(stmt)]
-    fn drop(mut self) {
-        loop {
-            let IfCond {
-                expr: _test,
-                true_body: _true_body,
-                mut false_body,
-            } = self;
-            let Some(last) = false_body.pop() else {
-                return;
-            };
-            match last.into_condition() {
-                Ok(condition) => self = condition.into_node(),
-                Err(_other) => return,
-            }
-        }
-    }
 }
 
 /// A scope with variables of its own: `{% with target = expr %}`.

@@ -1,5 +1,5 @@
 //! Tests that no two blocks of a tree have the same name.
-ghost use Rattle.std.specs.Prelude.{◌≡◌, ◌<◌, ◌≤◌, ◌&&◌, bytes_eq, count_by, map, min};
+ghost use Rattle.std.specs.Prelude.{◌≡◌, ◌<◌, bytes_eq, count_by, map, min};
 ghost use Rattle.minijinja_tree.specs.Erasure.{stmt_tree};
 ghost use Rattle.minijinja_tree.specs.Tree.{all_block_names, block_names, stmts_of};
 ghost use Rattle.minijinja_tree.specs.internal.BlockNames as names;
@@ -7,7 +7,6 @@ ghost use Rattle.minijinja_tree.specs.internal.Sizes.{body_size, stmt_size};
 ghost use Rattle.minijinja_tree.specs.internal.WellFormedTests as tests;
 
 use crate::ast::Stmt;
-use crate::well_formed::otherwise;
 use minijinja_value::value::TemplateValue;
 
 /// Whether no two blocks have the same name. It allocates nothing: it counts each name in the whole
@@ -18,45 +17,15 @@ pub(crate) fn has_distinct_blocks<V: TemplateValue>(root: &Stmt<'_, V>) -> bool
     is_named_once(root, root)
 }
 
-/// Whether the name of each block within a statement occurs once in the root. Goes down false
-/// bodies in a loop.
+/// Whether the name of each block within a statement occurs once in the root.
 #[cycle(named)]
 fn is_named_once<'s, V: TemplateValue>(stmt: &Stmt<'s, V>, root: &Stmt<'s, V>) -> bool
     ensures { result ≡ tests.are_single (block_names (stmt_tree V.contents stmt.now))
         (block_names (stmt_tree V.contents root.now)) }
 {
-    let mut rest = Some(stmt);
-    while let Some(part) = rest {
-        if !is_named_once_beside(part, root) {
-            return false;
-        }
-        rest = otherwise(part);
-    }
-    true
-}
-
-/// Whether each name occurs once in the root, except those of the only statement of a false body.
-#[cycle(named)]
-fn is_named_once_beside<'s, V: TemplateValue>(stmt: &Stmt<'s, V>, root: &Stmt<'s, V>) -> bool
-    ensures { result ≡ (tests.are_single (names.own (stmt_tree V.contents stmt.now))
-        (block_names (stmt_tree V.contents root.now))
-        && (tests.are_single (all_block_names (names.first_body (stmt_tree V.contents stmt.now)))
-        (block_names (stmt_tree V.contents root.now))
-        && tests.are_single (all_block_names (names.second_body (stmt_tree V.contents stmt.now)))
-        (block_names (stmt_tree V.contents root.now)))) }
-{
-    is_single(stmt, root) && has_single_bodies(stmt, root)
-}
-
-#[cycle(named)]
-fn has_single_bodies<'s, V: TemplateValue>(stmt: &Stmt<'s, V>, root: &Stmt<'s, V>) -> bool
-    ensures { result ≡
-        (tests.are_single (all_block_names (names.first_body (stmt_tree V.contents stmt.now)))
-        (block_names (stmt_tree V.contents root.now))
-        && tests.are_single (all_block_names (names.second_body (stmt_tree V.contents stmt.now)))
-        (block_names (stmt_tree V.contents root.now))) }
-{
-    are_named_once(first_body(stmt), root) && are_named_once(second_body(stmt), root)
+    is_single(stmt, root)
+        && are_named_once(first_body(stmt), root)
+        && are_named_once(second_body(stmt), root)
 }
 
 #[cycle(named)]
@@ -84,26 +53,11 @@ fn is_single<'s, V: TemplateValue>(stmt: &Stmt<'s, V>, root: &Stmt<'s, V>) -> bo
     }
 }
 
-/// The number of blocks of a name, at most `usize::MAX`. Goes down false bodies in a loop.
+/// The number of blocks of a name, at most `usize::MAX`.
 #[cycle(counted)]
 fn times<V: TemplateValue>(stmt: &Stmt<'_, V>, name: &str) -> usize
     ensures { result ≡ min (count_by (bytes_eq name.now)
         (block_names (stmt_tree V.contents stmt.now))) usize.MAX }
-{
-    let mut count: usize = 0;
-    let mut rest = Some(stmt);
-    while let Some(part) = rest {
-        count = count.saturating_add(times_beside(part, name));
-        rest = otherwise(part);
-    }
-    count
-}
-
-/// The number of blocks of a name, except those in the only statement of a false body.
-#[cycle(counted)]
-fn times_beside<V: TemplateValue>(stmt: &Stmt<'_, V>, name: &str) -> usize
-    ensures { result ≡ min (count_by (bytes_eq name.now)
-        (names.beside (stmt_tree V.contents stmt.now))) usize.MAX }
 {
     own_times(stmt, name)
         .saturating_add(all_times(first_body(stmt), name))
@@ -162,7 +116,7 @@ fn first_body<'a, 's, V: TemplateValue>(stmt: &'a Stmt<'s, V>) -> &'a [Stmt<'s, 
     }
 }
 
-/// The second body of a statement, except a false body that holds one statement.
+/// The second body of a statement, if it has two.
 fn second_body<'a, 's, V: TemplateValue>(stmt: &'a Stmt<'s, V>) -> &'a [Stmt<'s, V>]
     ensures body { stmts_of (map (stmt_tree V.contents) result.now) ≡ names.second_body
         (stmt_tree V.contents stmt.now) }
@@ -170,19 +124,7 @@ fn second_body<'a, 's, V: TemplateValue>(stmt: &'a Stmt<'s, V>) -> &'a [Stmt<'s,
 {
     match stmt {
         Stmt::ForLoop(repeated) => repeated.node().else_body.as_slice(),
-        Stmt::IfCond(condition) => unless_alone(&condition.node().false_body),
+        Stmt::IfCond(condition) => condition.node().false_body.as_slice(),
         _ => &[],
-    }
-}
-
-/// The statements, unless there is exactly one.
-fn unless_alone<'a, 's, V: TemplateValue>(stmts: &'a [Stmt<'s, V>]) -> &'a [Stmt<'s, V>]
-    ensures body { stmts_of (map (stmt_tree V.contents) result.now) ≡ names.many
-        (stmts_of (map (stmt_tree V.contents) stmts.now)) }
-    ensures smaller { body_size result.now ≤ body_size stmts.now }
-{
-    match stmts {
-        [_] => &[],
-        _ => stmts,
     }
 }

@@ -1,11 +1,9 @@
 //! Tests that a tree is well formed, so that code can be generated from it.
-ghost use Rattle.std.specs.Prelude.{◌≡◌, ◌↔◌, ◌<◌, ◌&&◌, IfSome, IsTrue, map, option_map, true};
+ghost use Rattle.std.specs.Prelude.{◌≡◌, ◌↔◌, ◌&&◌, IsTrue, map, true};
 ghost use Rattle.minijinja_tree.specs.Erasure.{expr_tree, optional_of, macro_tree, stmt_tree};
 ghost use Rattle.minijinja_tree.specs.Tree.{stmts_of};
 ghost use Rattle.minijinja_tree.specs.WellFormed.{IsWellFormed};
-ghost use Rattle.minijinja_tree.specs.internal.Sizes.{stmt_size};
 ghost use Rattle.minijinja_tree.specs.internal.WellFormedTests as tests;
-ghost use Rattle.minijinja_tree.specs.internal.WellFormedTests.{only_item};
 
 use crate::ast::{ForLoop, IfCond, Macro, Stmt};
 use crate::distinct::has_distinct_blocks;
@@ -58,54 +56,15 @@ fn are_inner<V: TemplateValue>(stmts: &[Stmt<'_, V>], in_loop: bool, in_macro: b
     true
 }
 
-/// Whether a statement is well formed where it stands. Goes down false bodies in a loop, so that a
-/// row of `elif` takes no more stack than one of them.
+/// Whether a statement is well formed where it stands.
 #[cycle(inner)]
 fn is_inner<V: TemplateValue>(stmt: &Stmt<'_, V>, in_loop: bool, in_macro: bool) -> bool
     ensures { result ≡ tests.is_inner in_loop in_macro (stmt_tree V.contents stmt.now) }
 {
-    let mut rest = Some(stmt);
-    while let Some(part) = rest {
-        if !is_inner_beside(part, in_loop, in_macro) {
-            return false;
-        }
-        rest = otherwise(part);
-    }
-    true
-}
-
-/// The only statement of a false body, in which rows of `elif` nest without a bound.
-pub fn otherwise<'a, 's, V: TemplateValue>(stmt: &'a Stmt<'s, V>) -> Option<&'a Stmt<'s, V>>
-    ensures part { option_map (λ s. stmt_tree V.contents s.now) result ≡ tests.otherwise
-        (stmt_tree V.contents stmt.now) }
-    ensures smaller { IfSome result (λ s. stmt_size s.now < stmt_size stmt.now) }
-{
-    match stmt {
-        Stmt::IfCond(condition) => only(&condition.node().false_body),
-        _ => None,
-    }
-}
-
-/// The statement, if there is exactly one.
-pub fn only<'a, 's, V: TemplateValue>(stmts: &'a [Stmt<'s, V>]) -> Option<&'a Stmt<'s, V>>
-    ensures { option_map (λ s. s.now) result ≡ only_item stmts.now }
-{
-    match stmts {
-        [stmt] => Some(stmt),
-        _ => None,
-    }
-}
-
-/// Whether a statement is well formed, except the only statement of a false body.
-#[cycle(inner)]
-fn is_inner_beside<V: TemplateValue>(stmt: &Stmt<'_, V>, in_loop: bool, in_macro: bool) -> bool
-    ensures { result ≡ (tests.is_headed in_loop in_macro (stmt_tree V.contents stmt.now)
-        && tests.has_bodies in_loop in_macro (stmt_tree V.contents stmt.now)) }
-{
     is_headed(stmt, in_loop, in_macro) && has_bodies(stmt, in_loop, in_macro)
 }
 
-/// Whether the bodies are well formed, except the only statement of a false body.
+/// Whether the bodies are well formed.
 #[cycle(inner)]
 fn has_bodies<V: TemplateValue>(stmt: &Stmt<'_, V>, in_loop: bool, in_macro: bool) -> bool
     ensures { result ≡ tests.has_bodies in_loop in_macro (stmt_tree V.contents stmt.now) }
@@ -151,22 +110,11 @@ fn has_branches<V: TemplateValue>(condition: &IfCond<'_, V>, in_loop: bool, in_m
     ensures { result ≡
         (tests.are_inner in_loop in_macro
         (stmts_of (map (stmt_tree V.contents) condition.now.true_body.items))
-        && tests.are_inner_but_one in_loop in_macro
+        && tests.are_inner in_loop in_macro
         (stmts_of (map (stmt_tree V.contents) condition.now.false_body.items))) }
 {
     are_inner(&condition.true_body, in_loop, in_macro)
-        && are_inner_but_one(&condition.false_body, in_loop, in_macro)
-}
-
-#[cycle(inner)]
-fn are_inner_but_one<V: TemplateValue>(stmts: &[Stmt<'_, V>], in_loop: bool, in_macro: bool) -> bool
-    ensures { result ≡ tests.are_inner_but_one in_loop in_macro
-        (stmts_of (map (stmt_tree V.contents) stmts.now)) }
-{
-    match only(stmts) {
-        Some(_) => true,
-        None => are_inner(stmts, in_loop, in_macro),
-    }
+        && are_inner(&condition.false_body, in_loop, in_macro)
 }
 
 /// Whether a statement is well formed, except its bodies.

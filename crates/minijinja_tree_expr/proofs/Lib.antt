@@ -1,6 +1,5 @@
 pub mod SpannedNodes
 pub mod Sizes
-pub mod Lists
 pub mod FilterChains
 pub mod Targets
 pub mod Descriptions

@@ -6,7 +6,7 @@ use Rattle.std.proofs.lemmas.Bool.Decides.{nat_tests}
 use Rattle.minijinja_tree_expr.specs.Tree.{Args, no_args}
 use Rattle.minijinja_tree_expr.specs.Erasure.{expr_tree, compare_tree, arg_tree, exprs_of, args_of, comparisons_of}
 use Rattle.minijinja_tree_expr.specs.WellFormed.{expr_count, arg_count}
-use Rattle.minijinja_tree_expr.specs.WellFormedTests.{is_chain, is_whole, are_whole, are_all_whole, are_arguments, is_name, is_variable}
+use Rattle.minijinja_tree_expr.specs.WellFormedTests.{is_chain, is_whole, are_whole, are_all_whole, are_arguments, is_variable}
 use Rattle.minijinja_tree_expr.specs.declared.ast.CallArg.TheBlock as block
 use Rattle.minijinja_tree_expr.specs.declared.ast.Expr.TheVariants as expr
 use Rattle.minijinja_tree_expr.specs.declared.ast.CallArg.{CallArg, Pos, Kwarg, PosSplat, KwargSplat}
@@ -54,9 +54,6 @@ next-argument c xs i x b within h k =
     ∙ split-argument c x (args_of c (drop (i + 1) xs))
     ∙ ap (λ b. b && are_arguments (args_of c (drop (i + 1) xs))) (sym k)
 
-compare-name : {V F C : Type 0} (c : V → C) (q : block.the_data-4 V F) → is_name (compare_tree c q) ≡ false
-compare-name c (block.struct-Compare e k ops) = refl
-
 compare-variable : {V F C : Type 0} (c : V → C) (q : block.the_data-4 V F) → is_variable (compare_tree c q) ≡ false
 compare-variable c (block.struct-Compare e k ops) = refl
 
@@ -70,10 +67,3 @@ other-variable c _ n = refl
 pub all_whole_is : {V F C : Type 0} (c : V → C) (xs : List (Expr V F)) → are_whole (exprs_of c xs) ≡ are_all_whole (map (expr_tree c) xs)
 all_whole_is c [] = refl
 all_whole_is c (x ∷ xs) = ap (λ b. is_whole (expr_tree c x) && b) (all_whole_is c xs)
-
--- what is no variable and no attribute is no name
-pub other-name : {V F C : Type 0} (c : V → C) (e : Expr V F) → ((s : _) → e ≡ expr.Var s → ⊥) → ((s : _) → e ≡ expr.GetAttr s → ⊥) → is_name (expr_tree c e) ≡ false
-other-name c (expr.Var s) n m = absurd (n s refl)
-other-name c (expr.GetAttr' p e x s) n m = absurd (m (record { place = record { value = record { node = record { expr = e; name = x }; span = s }; ptr = p.ptr; alloc = p.alloc } }) refl)
-other-name c (expr.Compare' p q s) n m = compare-name c q
-other-name c _ n m = refl

@@ -63,8 +63,7 @@ long_side (slice e start stop step) = Some e
 long_side (unary o e) = Some e
 long_side (binary o a b) = Some a
 long_side (compare e cs) = Some e
-long_side (if_expr t a absent) = Some a
-long_side (if_expr t a (present b)) = Some b
+long_side (if_expr t a b) = Some a
 long_side (filter absent x args) = None
 long_side (filter (present e) x args) = Some e
 long_side (test e x args) = Some e
@@ -87,8 +86,7 @@ is_whole_beside (slice e start stop step) = is_whole_if_any start && (is_whole_i
 is_whole_beside (unary o e) = true
 is_whole_beside (binary o a b) = is_whole b
 is_whole_beside (compare e cs) = is_chain cs && are_compared cs
-is_whole_beside (if_expr t a absent) = is_whole t
-is_whole_beside (if_expr t a (present b)) = is_whole t && is_whole a
+is_whole_beside (if_expr t a b) = is_whole t && is_whole_if_any b
 is_whole_beside (filter absent x args) = false
 is_whole_beside (filter (present e) x args) = takes_arguments args
 is_whole_beside (test e x args) = takes_arguments args
@@ -110,17 +108,6 @@ abbrev mutual
   pub are_targets : {C : Type 0} → Exprs C → Bool
   are_targets no_more = true
   are_targets (more e es) = is_target e && are_targets es
-
--- the items, if it is a list
-abbrev pub items_of : {C : Type 0} → Expr C → Option (Exprs C)
-items_of (list es) = Some es
-items_of _ = None
-
--- a target that is no list
-abbrev pub is_name : {C : Type 0} → Expr C → Bool
-is_name (variable x) = true
-is_name (attribute e x) = is_whole e
-is_name _ = false
 
 -- targets with their values
 abbrev pub are_assignments : {C : Type 0} → List (Expr C × Expr C) → Bool

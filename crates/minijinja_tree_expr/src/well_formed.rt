@@ -1,19 +1,13 @@
 //! Tests that an expression is well formed, or may be assigned to.
-ghost use Rattle.std.specs.Prelude.{◌≡◌, ◌==◌, ◌↔◌, ◌<◌, ◌≤◌, ◌&&◌, IfSome, IsTrue, length, map, nat_le, option_map};
+ghost use Rattle.std.specs.Prelude.{◌≡◌, ◌==◌, ◌↔◌, ◌<◌, ◌&&◌, IfSome, IsTrue, length, map, nat_le, option_map};
 ghost use Rattle.minijinja_tree_expr.specs.Erasure.{expr_tree, optional_of, exprs_of, arg_tree, args_of, comparisons_of, assignments_of, names_of};
-ghost use Rattle.minijinja_tree_expr.specs.Sizes.{size_of, list_size};
-ghost use Rattle.minijinja_tree_expr.specs.SpannedErasure.{expr_node, trees};
-ghost use Rattle.minijinja_tree_expr.specs.SpannedLists as lists;
-ghost use Rattle.minijinja_tree_expr.specs.SpannedTrees as spanned;
+ghost use Rattle.minijinja_tree_expr.specs.Sizes.{size_of};
 ghost use Rattle.minijinja_tree_expr.specs.Tree as tree;
 ghost use Rattle.minijinja_tree_expr.specs.WellFormed.{IsWhole, most_arguments, arg_count, expr_count};
 ghost use Rattle.minijinja_tree_expr.specs.WellFormedTests as tests;
 ghost use Rattle.minijinja_tree_expr.specs.private.FilterParts.{filter_tree, only_filter};
-ghost use Rattle.minijinja_tree_expr.specs.private.TargetRests.{rest_decides, rest_size, are_targets_if_some};
 
-use crate::ast::{
-    Call, CallArg, CompareOp, Expr, Filter, IfExpr, List, MOST_ARGUMENTS, Map, Slice,
-};
+use crate::ast::{Call, CallArg, CompareOp, Expr, Filter, IfExpr, MOST_ARGUMENTS, Map, Slice};
 use minijinja_value::value::TemplateValue;
 
 impl<'s, V: TemplateValue> Expr<'s, V> {
@@ -109,112 +103,28 @@ pub fn are_assignments<V: TemplateValue>(assignments: &[(Expr<'_, V>, Expr<'_, V
 }
 
 /// Whether it may be assigned to.
+#[cycle(targets)]
 pub fn is_target<V: TemplateValue>(expr: &Expr<'_, V>) -> bool
     ensures { result ≡ tests.is_target (expr_tree V.contents expr.now) }
-{
-    match list_of(expr) {
-        Some(list) => are_targets(list),
-        None => is_name(expr),
-    }
-}
-
-/// The expression, if it is a list.
-pub fn list_of<'a, 's, V: TemplateValue>(expr: &'a Expr<'s, V>) -> Option<&'a List<'s, V>>
-    ensures items { option_map (λ l. exprs_of V.contents l.now.items.items) result ≡ tests.items_of
-        (expr_tree V.contents expr.now) }
-    ensures nodes { option_map
-        (λ l. spanned.exprs_of (trees V.contents l.now.items.items)) result ≡ lists.items_of
-        (expr_node V.contents expr.now) }
-    ensures smaller { IfSome result (λ l. list_size l.now < size_of expr.now) }
-{
-    match expr {
-        Expr::List(list) => Some(list.node()),
-        Expr::Var(_) => None,
-        Expr::Const(_) => None,
-        Expr::Slice(_) => None,
-        Expr::UnaryOp(_) => None,
-        Expr::BinOp(_) => None,
-        Expr::Compare(_) => None,
-        Expr::IfExpr(_) => None,
-        Expr::Filter(_) => None,
-        Expr::Test(_) => None,
-        Expr::GetAttr(_) => None,
-        Expr::GetItem(_) => None,
-        Expr::Call(_) => None,
-        Expr::Tuple(_) => None,
-        Expr::Map(_) => None,
-    }
-}
-
-/// Whether it is a target, but no list.
-fn is_name<V: TemplateValue>(expr: &Expr<'_, V>) -> bool
-    ensures { result ≡ tests.is_name (expr_tree V.contents expr.now) }
 {
     match expr {
         Expr::Var(_) => true,
         Expr::GetAttr(attribute) => is_whole(&attribute.node().expr),
+        Expr::List(list) => are_targets(&list.node().items),
         _ => false,
     }
 }
 
-/// Whether the items of a list are targets. Goes down the last list in a loop, so that lists which
-/// hold one list each take no more stack than one of them.
 #[cycle(targets)]
-fn are_targets<V: TemplateValue>(list: &List<'_, V>) -> bool
-    ensures { result ≡ tests.are_targets (exprs_of V.contents list.now.items.items) }
+fn are_targets<V: TemplateValue>(exprs: &[Expr<'_, V>]) -> bool
+    ensures { result ≡ tests.are_targets (exprs_of V.contents exprs.now) }
 {
-    let mut rest = Rest::List(list);
-    while let Rest::List(list) = rest {
-        rest = last_list(list);
-    }
-    matches!(rest, Rest::Over)
-}
-
-/// What is left to look at of the items of a list.
-#[derive(Drop)]
-enum Rest<'a, 's, V: TemplateValue> {
-    /// Nothing, since one of them is no target.
-    Refused,
-    /// Nothing, since all are targets.
-    Over,
-    /// The last list among them; the others are targets.
-    List(&'a List<'s, V>),
-}
-
-/// Checks all items except the last list.
-#[cycle(targets)]
-fn last_list<'a, 's, V: TemplateValue>(list: &'a List<'s, V>) -> Rest<'a, 's, V>
-    ensures decides { rest_decides V.contents result ≡ tests.are_targets
-        (exprs_of V.contents list.now.items.items) }
-    ensures smaller { rest_size result ≤ list_size list.now }
-{
-    let mut last = None;
-    for expr in &list.items {
-        let Some(items) = list_of(expr) else {
-            if !is_name(expr) {
-                return Rest::Refused;
-            }
-            continue;
-        };
-        if !are_targets_if_any(last) {
-            return Rest::Refused;
+    for expr in exprs {
+        if !is_target(expr) {
+            return false;
         }
-        last = Some(items);
     }
-    match last {
-        Some(list) => Rest::List(list),
-        None => Rest::Over,
-    }
-}
-
-#[cycle(targets)]
-fn are_targets_if_any<V: TemplateValue>(list: Option<&List<'_, V>>) -> bool
-    ensures { result ≡ are_targets_if_some V.contents list.entry }
-{
-    match list {
-        Some(list) => are_targets(list),
-        None => true,
-    }
+    true
 }
 
 /// Whether it is a chain of filters, or absent.
@@ -271,7 +181,7 @@ fn filter_of<'a, 's, V: TemplateValue>(expr: &'a Expr<'s, V>) -> Option<&'a Filt
 }
 
 /// Whether it is well formed. Goes down the long side in a loop, so that a row of operators, calls
-/// or else parts takes no more stack than one of them.
+/// or if expressions takes no more stack than one of them.
 #[cycle(well_formed)]
 pub fn is_whole<V: TemplateValue>(expr: &Expr<'_, V>) -> bool
     ensures { result ≡ tests.is_whole (expr_tree V.contents expr.now) }
@@ -286,8 +196,8 @@ pub fn is_whole<V: TemplateValue>(expr: &Expr<'_, V>) -> bool
     true
 }
 
-/// The part that nests without a bound, if the expression has one: the operand on its left, or the
-/// last part of an if expression.
+/// The part that nests without a bound, if the expression has one: what stands on its left, as the
+/// true part of an if expression does.
 pub fn long_side<'a, 's, V: TemplateValue>(expr: &'a Expr<'s, V>) -> Option<&'a Expr<'s, V>>
     ensures side { option_map (λ e. expr_tree V.contents e.now) result ≡ tests.long_side
         (expr_tree V.contents expr.now) }
@@ -300,13 +210,7 @@ pub fn long_side<'a, 's, V: TemplateValue>(expr: &'a Expr<'s, V>) -> Option<&'a 
         Expr::UnaryOp(operation) => Some(&operation.node().expr),
         Expr::BinOp(operation) => Some(&operation.node().left),
         Expr::Compare(chain) => Some(&chain.node().expr),
-        Expr::IfExpr(choice) => {
-            let choice = choice.node();
-            match &choice.false_expr {
-                Some(expr) => Some(expr),
-                None => Some(&choice.true_expr),
-            }
-        }
+        Expr::IfExpr(choice) => Some(&choice.node().true_expr),
         Expr::Filter(filter) => filter.node().expr.as_ref(),
         Expr::Test(test) => Some(&test.node().expr),
         Expr::GetAttr(attribute) => Some(&attribute.node().expr),
@@ -359,11 +263,10 @@ fn are_bounds<V: TemplateValue>(slice: &Slice<'_, V>) -> bool
 
 #[cycle(well_formed)]
 fn is_choice<V: TemplateValue>(choice: &IfExpr<'_, V>) -> bool
-    ensures { result ≡ tests.is_whole_beside (tree.if_expr
-        (expr_tree V.contents choice.now.test_expr) (expr_tree V.contents choice.now.true_expr)
-        (optional_of V.contents choice.now.false_expr)) }
+    ensures { result ≡ (tests.is_whole (expr_tree V.contents choice.now.test_expr)
+        && tests.is_whole_if_any (optional_of V.contents choice.now.false_expr)) }
 {
-    is_whole(&choice.test_expr) && (choice.false_expr.is_none() || is_whole(&choice.true_expr))
+    is_whole(&choice.test_expr) && is_whole_if_any(&choice.false_expr)
 }
 
 #[cycle(well_formed)]

@@ -18,20 +18,19 @@ use Rattle.minijinja_semantics.specs.Events as event
 use Rattle.minijinja_semantics.specs.Layout as layout
 use Rattle.minijinja_semantics.specs.Pieces.{one, ◌▸◌, OpenScope, OpenAutoEscape, OpenCapture}
 use Rattle.minijinja_code_parts.specs.internal.AtEnclosingLoop.{around_of, open_of}
-use Rattle.minijinja_code_expr.specs.internal.Branching.{leading_on}
 use Rattle.minijinja_code_expr.specs.internal.Callers.{BeginsCall}
 use Rattle.minijinja_code_parts.specs.internal.Loops.{Begins, turned}
 use Rattle.minijinja_code_expr.specs.internal.Making.{made_of}
 use Rattle.minijinja_code.specs.private.Statements.{MayStand}
 use Rattle.minijinja_code_parts.specs.internal.EnclosingLoops.{Around, FollowsStmts}
 use Rattle.minijinja_code_expr.proofs.Adding.{adds_then}
-use Rattle.minijinja_code.proofs.Bodies.{inner_as, inner_in, inner_here, body_as, body_next, body_end, none_any, some_any, elif_size, inner_stands}
-use Rattle.minijinja_code.proofs.ConditionSteps.{Choosing, none_bytes, choosing_start, choosing_next, choosing_last, choosing_none}
+use Rattle.minijinja_code.proofs.Bodies.{inner_as, inner_in, inner_here, body_as, body_next, body_end, none_any, some_any, inner_stands}
+use Rattle.minijinja_code.proofs.ConditionSteps.{alone_follows, else_follows, none_bytes}
 use Rattle.minijinja_code_parts.proofs.LoopSteps.{loop_follows, loop_else_follows}
 use Rattle.minijinja_code_expr.proofs.Results.{ok_gives}
 use Rattle.minijinja_code.proofs.MacroSteps.{block_call_follows, call_block_follows, counted_inside, declare_follows, macro_added, macro_bytes_as, take_as}
 use Rattle.minijinja_code_parts.proofs.Rounds.{follows_plain, follows_within, follows_closed, stmt_as, onward_start, onward_next, onward_end}
-use Rattle.minijinja_code.proofs.StatementArms.{data_arm, output_arm, set_arm, for_arm, if_arm, with_arm, set_block_arm, escape_arm, filter_block_arm, block_arm, extends_arm, include_arm, import_arm, from_arm, macro_arm, call_block_arm, do_arm, only_is}
+use Rattle.minijinja_code.proofs.StatementArms.{data_arm, output_arm, set_arm, for_arm, if_arm, with_arm, set_block_arm, escape_arm, filter_block_arm, block_arm, extends_arm, include_arm, import_arm, from_arm, macro_arm, call_block_arm, do_arm}
 use Rattle.minijinja_code.proofs.Templates.{tree_is}
 use Rattle.minijinja_code.proofs.+stmt.Goals as goal
 
@@ -291,85 +290,33 @@ loop_statements::for_loop-returns g t c =
     c.in_ok-items.ensures begins (body_as f v inner.opened c.deref.ensures.value c.in_ok-statements.ensures) back on some c.in_ok-came.ensures
     (body_as f v (around_of c.go_on.new.self).opened c.deref-2.ensures.value c.in_ok-statements-2.ensures) c.fill.ensures c.here.ensures
 
-pub if_statements::condition-loop-ends-init : goal.if_statements::condition-loop-ends-init
-if_statements::condition-loop-ends-init g t c =
-    let v = g.V.TemplateValue.contents in
-    let f = g.V.TemplateValue.functions in
-    let n = c.args.choice.now in
-    let around = around_of c.args.enclosing.now in
-    let made = made_of v c.args.code.now in
-    let whole = tree.if_cond (expr_tree v n.expr) (body_of v n.true_body.items) (body_of v n.false_body.items) in
-    record {
-      choosing = subst (λ ends. Choosing f around made ends around made whole whole) (sym c.new-ends.ensures.items) (choosing_start f around made whole);
-      test = c.requires.test;
-      first = c.requires.yes;
-      second = c.requires.no;
-      smaller = omega arith;
-    }
-
-pub if_statements::condition-elif-part-requires : goal.if_statements::condition-elif-part-requires
-if_statements::condition-elif-part-requires g t c = c.has_elif.ensures.0 c.if-not-has_elif.false
-
 pub if_statements::condition-statements-requires : goal.if_statements::condition-statements-requires
 if_statements::condition-statements-requires g t c =
-    let v = g.V.TemplateValue.contents in
-    let small = c.loop-ends.invariant.smaller in
-    λ κs live. (search (rules, if_lemmas, small), (search rules, (search rules, inner_as v _ c.deref.ensures.value c.loop-ends.invariant.first)))
+    λ κs live. (search (rules, if_lemmas), (search rules, (search rules, inner_as g.V.TemplateValue.contents _ c.deref.ensures.value c.requires.yes)))
 
-pub if_statements::condition-statements-requires-then-not-has_elif : goal.if_statements::condition-statements-requires-then-not-has_elif
-if_statements::condition-statements-requires-then-not-has_elif g t c =
+pub if_statements::condition-statements-requires-2 : goal.if_statements::condition-statements-requires-2
+if_statements::condition-statements-requires-2 g t c =
     let v = g.V.TemplateValue.contents in
-    let small = c.loop-ends.invariant.smaller in
-    λ κs live. (search (rules, if_lemmas, small), (search rules, (search rules, inner_in v _ _ c.deref-then-not-has_elif.result.now c.in_ok-statements.ensures.in_loop (inner_as v _ c.deref-then-not-has_elif.ensures.value c.loop-ends.invariant.second))))
-
-pub if_statements::condition-loop-ends-smaller : goal.if_statements::condition-loop-ends-smaller
-if_statements::condition-loop-ends-smaller g t c = elif_size c.loop-ends.part.now c.elif-part.result.now c.elif-part.ensures
-
-pub if_statements::condition-loop-ends-preserved : goal.if_statements::condition-loop-ends-preserved
-if_statements::condition-loop-ends-preserved g t c =
-    let v = g.V.TemplateValue.contents in
-    let f = g.V.TemplateValue.functions in
-    let l = c.loop-ends in
-    let part = l.part.now in
-    let next = c.elif-part.result.now in
-    let false_body = body_of v next.false_body.items in
-    let other = tree.if_cond (expr_tree v next.expr) (body_of v next.true_body.items) false_body in
-    let is = only_is v part.false_body.items next c.elif-part.ensures in
-    let r = body_as f v (around_of l.enclosing).opened c.deref.ensures.value c.in_ok-statements.ensures in
-    let inner = subst (AreInner (around_of l.enclosing).in_loop) is l.invariant.second in
-    let under = elif_size part next c.elif-part.ensures in
-    record {
-      choosing = choosing_next f (expr_tree v part.expr) (body_of v part.true_body.items) (body_of v part.false_body.items) other l.invariant.choosing c.in_ok-test.ensures r c.in_ok-jump_past.ensures is;
-      test = inner.0.0;
-      first = inner_in v _ _ next.true_body.items r.in_loop inner.0.1;
-      second = inner_in v _ _ next.false_body.items r.in_loop inner.0.2;
-      smaller = omega (arith, under, l.invariant.smaller);
-    }
+    λ κs live. (search (rules, if_lemmas), (search rules, (search rules, inner_in v _ _ c.deref-2.result.now c.in_ok-statements.ensures.in_loop (inner_as v _ c.deref-2.ensures.value c.requires.no))))
 
 pub if_statements::condition-returns-then-is_empty : goal.if_statements::condition-returns-then-is_empty
 if_statements::condition-returns-then-is_empty g t c =
     let v = g.V.TemplateValue.contents in
     let f = g.V.TemplateValue.functions in
-    let l = c.loop-ends in
-    let part = l.part.now in
-    let r = body_as f v (around_of l.enclosing).opened c.deref.ensures.value c.in_ok-statements.ensures in
-    let zero : length part.false_body.items ≡ 0 = grind (arith, c.is_empty.ensures, c.if-is_empty.true, part.false_body.ok.0) in
-    choosing_none f (expr_tree v part.expr) (body_of v part.true_body.items) (body_of v part.false_body.items) l.invariant.choosing c.in_ok-test.ensures r
-    c.fill.ensures c.here.ensures (none_any v part.false_body.items zero)
-    (c.lead_on.ensures ∙ ap (λ ps. leading_on ps (made_of v c.fill.new.self)) c.deref-then-is_empty.ensures.value)
+    let n = c.args.choice.now in
+    let r = body_as f v (around_of c.args.enclosing.now).opened c.deref.ensures.value c.in_ok-statements.ensures in
+    let zero : length n.false_body.items ≡ 0 = grind (arith, c.is_empty.ensures, c.if-is_empty.true, n.false_body.ok.0) in
+    alone_follows f (expr_tree v n.expr) (body_of v n.true_body.items) (body_of v n.false_body.items) c.in_ok-test.ensures r c.fill.ensures c.here.ensures (none_any v n.false_body.items zero)
 
-pub if_statements::condition-returns-then-not-has_elif : goal.if_statements::condition-returns-then-not-has_elif
-if_statements::condition-returns-then-not-has_elif g t c =
+pub if_statements::condition-returns : goal.if_statements::condition-returns
+if_statements::condition-returns g t c =
     let v = g.V.TemplateValue.contents in
     let f = g.V.TemplateValue.functions in
-    let l = c.loop-ends in
-    let part = l.part.now in
-    let r = body_as f v (around_of l.enclosing).opened c.deref.ensures.value c.in_ok-statements.ensures in
-    let other = body_as f v (around_of c.statements.new.enclosing).opened c.deref-then-not-has_elif.ensures.value c.in_ok-statements-2.ensures in
-    let some = some_any v part.false_body.items (λ zero. absurd (grind (arith, c.is_empty.ensures, c.if-is_empty.false, part.false_body.ok.0, zero))) in
-    choosing_last f (expr_tree v part.expr) (body_of v part.true_body.items) (body_of v part.false_body.items) l.invariant.choosing c.in_ok-test.ensures r
-    c.in_ok-jump_past.ensures some other
-    (c.lead_on-then-not-has_elif.ensures ∙ ap (λ ps. leading_on ps (made_of v c.statements-then-not-has_elif.new.code)) c.deref-then-not-has_elif-2.ensures.value)
+    let n = c.args.choice.now in
+    let r = body_as f v (around_of c.args.enclosing.now).opened c.deref.ensures.value c.in_ok-statements.ensures in
+    let other = body_as f v (around_of c.statements.new.enclosing).opened c.deref-2.ensures.value c.in_ok-statements-2.ensures in
+    let some = some_any v n.false_body.items (λ zero. absurd (grind (arith, c.is_empty.ensures, c.if-is_empty.false, n.false_body.ok.0, zero))) in
+    else_follows f (expr_tree v n.expr) (body_of v n.true_body.items) (body_of v n.false_body.items) c.in_ok-test.ensures r c.in_ok-end.ensures some other c.end_else.ensures
 
 pub stmt::statement-returns-in-Block : goal.stmt::statement-returns-in-Block
 stmt::statement-returns-in-Block g t c =

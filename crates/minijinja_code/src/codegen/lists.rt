@@ -1,13 +1,14 @@
 //! The lists of instructions of blocks.
-ghost use Rattle.std.specs.Prelude.{IsTrue, ◌≡◌, ◌≤◌, ◌^◌, ◌∷◌, [], ◌++◌, false, length, map, IfErr, IfOk, OnOk};
+ghost use Rattle.std.specs.Prelude.{◌≡◌, ◌<◌, ◌≤◌, ◌^◌, ◌∷◌, [], false, length, map, All, IfErr, IfOk, OnOk};
 ghost use Rattle.minijinja_tree.specs.Erasure.{stmt_tree};
-ghost use Rattle.minijinja_tree.specs.Tree.{blocks, stmts_of};
-ghost use Rattle.minijinja_tree.specs.WellFormed.{AreInner, IsWellFormed};
+ghost use Rattle.minijinja_tree.specs.Tree.{block_names, blocks, stmts_of};
+ghost use Rattle.minijinja_tree.specs.WellFormed.{AreDistinct, AreInner};
+ghost use Rattle.minijinja_tree.specs.declared.ast.Stmt.{size-Stmt};
 ghost use Rattle.minijinja_instructions.specs.Instructions.{instr_of};
 ghost use Rattle.minijinja_code.specs.BlockLists.{AddsLists};
 ghost use Rattle.minijinja_code.specs.Generator.{HaveTooLong};
 ghost use Rattle.minijinja_code.specs.declared.codegen.lists.ListError.TheVariants.{TooMany};
-ghost use Rattle.minijinja_code.specs.private.Lists.{block_tree, bodies_of, from_nesting, is_nesting, own_block, rows_of};
+ghost use Rattle.minijinja_code.specs.private.Lists.{block_tree, bodies_of, own_block};
 ghost use Rattle.minijinja_code.specs.private.Statements.{StandsSomewhere};
 ghost use Rattle.minijinja_code_expr.specs.internal.Making.{capped};
 ghost use Rattle.minijinja_semantics.specs.Layout as layout;
@@ -75,135 +76,91 @@ impl From<memory::OutOfMemory> for ListError {
     }
 }
 
-/// Adds the list of each block of a statement. A loop goes through the bodies, so that nested
-/// bodies take no more stack than one.
+/// Adds the list of each block of a statement: its own, if it is one, and those in its bodies.
 pub(super) fn add_lists<'s, V: TemplateValue>(
     lists: &mut Lists<'s, V>,
     alloc: Global,
     source: Source<'s>,
     stmt: &Stmt<'s, V>,
 ) -> Result<(), ListError>
-    requires { IsWellFormed (stmt_tree V.contents stmt.now) }
+    requires stands { StandsSomewhere (stmt_tree V.contents stmt.now) }
+    requires names { AreDistinct (block_names (stmt_tree V.contents stmt.now)) }
     ensures added { OnOk result (AddsLists V.functions V.contents source.entry.text.now
         source.entry.name.now (blocks (stmt_tree V.contents stmt.now)) lists.old lists.new) }
     ensures too_many { IfErr result (λ error. error ≡ TooMany → HaveTooLong V.functions
         (blocks (stmt_tree V.contents stmt.now))) }
 {
-    if is_flat(stmt) {
-        return Ok(());
-    }
-    let mut rows = Vec::new(alloc);
     add_list_of(lists, alloc, source, stmt)?;
-    push_bodies(&mut rows, stmt)?;
-    while let Some(row) = rows.pop() {
-        if let Some((stmt, rest)) = nesting(row).split_first() {
-            push_row(&mut rows, rest)?;
-            add_list_of(lists, alloc, source, stmt)?;
-            push_bodies(&mut rows, stmt)?;
-        }
+    let first = body(stmt);
+    let second = else_body(stmt);
+    for inner in first {
+        add_lists(lists, alloc, source, inner)?;
+    }
+    for inner in second {
+        add_lists(lists, alloc, source, inner)?;
     }
     Ok(())
 }
 
-/// Whether a statement is a template without nested statements, which has no blocks.
-fn is_flat<V: TemplateValue>(stmt: &Stmt<'_, V>) -> bool
-    ensures { IsTrue result → blocks (stmt_tree V.contents stmt.now) ≡ [] }
+/// The statements of a template, or the body of a statement: of an `if` the part for a true condition,
+/// of a loop what runs for each item. It is empty where there is none.
+fn body<'a, 's, V: TemplateValue>(stmt: &'a Stmt<'s, V>) -> &'a [Stmt<'s, V>]
+    ensures is { stmts_of (map (stmt_tree V.contents) result.now)
+        ≡ (bodies_of (stmt_tree V.contents stmt.now)).0 }
+    ensures smaller { All (λ inner. size-Stmt _ _ inner < size-Stmt _ _ stmt.now) result.now }
 {
     match stmt {
-        Stmt::Template(template) => nesting(&template.node().children).is_empty(),
-        _ => false,
+        Stmt::Template(template) => &template.node().children,
+        Stmt::ForLoop(each) => &each.node().body,
+        Stmt::IfCond(choice) => &choice.node().true_body,
+        Stmt::WithBlock(block) => &block.node().body,
+        Stmt::SetBlock(block) => &block.node().body,
+        Stmt::AutoEscape(block) => &block.node().body,
+        Stmt::FilterBlock(block) => &block.node().body,
+        Stmt::Block(block) => &block.node().body,
+        Stmt::Macro(declared) => &declared.node().body,
+        Stmt::CallBlock(block) => &block.node().macro_decl.node().body,
+        Stmt::EmitExpr(_) => &[],
+        Stmt::EmitRaw(_) => &[],
+        Stmt::Set(_) => &[],
+        Stmt::Import(_) => &[],
+        Stmt::FromImport(_) => &[],
+        Stmt::Extends(_) => &[],
+        Stmt::Include(_) => &[],
+        Stmt::Continue(_) => &[],
+        Stmt::Break(_) => &[],
+        Stmt::Do(_) => &[],
     }
 }
 
-/// The statements of a row from the first one on that has nested statements. Most have none, and
-/// are skipped here.
-fn nesting<'a, 's, V: TemplateValue>(row: &'a [Stmt<'s, V>]) -> &'a [Stmt<'s, V>]
-    ensures { stmts_of (map (stmt_tree V.contents) result.now)
-        ≡ from_nesting (stmts_of (map (stmt_tree V.contents) row.now)) }
-{
-    let mut first = 0;
-    while first < row.len() && !nests(&row[first]) {
-        first += 1;
-    }
-    &row[first..]
-}
-
-/// Whether a statement has nested statements.
-fn nests<V: TemplateValue>(stmt: &Stmt<'_, V>) -> bool
-    ensures { result ≡ is_nesting (stmt_tree V.contents stmt.now) }
-{
-    match stmt {
-        Stmt::Template(_) => true,
-        Stmt::ForLoop(_) => true,
-        Stmt::IfCond(_) => true,
-        Stmt::WithBlock(_) => true,
-        Stmt::SetBlock(_) => true,
-        Stmt::AutoEscape(_) => true,
-        Stmt::FilterBlock(_) => true,
-        Stmt::Block(_) => true,
-        Stmt::Macro(_) => true,
-        Stmt::CallBlock(_) => true,
-        Stmt::EmitExpr(_) => false,
-        Stmt::EmitRaw(_) => false,
-        Stmt::Set(_) => false,
-        Stmt::Import(_) => false,
-        Stmt::FromImport(_) => false,
-        Stmt::Extends(_) => false,
-        Stmt::Include(_) => false,
-        Stmt::Continue(_) => false,
-        Stmt::Break(_) => false,
-        Stmt::Do(_) => false,
-    }
-}
-
-/// Adds the bodies of a statement to the rows that are still to do, the first one last.
-fn push_bodies<'a, 's, V: TemplateValue>(
-    rows: &mut Vec<&'a [Stmt<'s, V>]>,
-    stmt: &'a Stmt<'s, V>,
-) -> Result<(), AllocError>
-    ensures { OnOk result (rows_of V.contents rows.new.items
-        ≡ bodies_of (stmt_tree V.contents stmt.now) ++ rows_of V.contents rows.old.items) }
+/// The else body of a loop or of an `if`. It is empty where there is none.
+fn else_body<'a, 's, V: TemplateValue>(stmt: &'a Stmt<'s, V>) -> &'a [Stmt<'s, V>]
+    ensures is { stmts_of (map (stmt_tree V.contents) result.now)
+        ≡ (bodies_of (stmt_tree V.contents stmt.now)).1 }
+    ensures smaller { All (λ inner. size-Stmt _ _ inner < size-Stmt _ _ stmt.now) result.now }
 {
     match stmt {
-        Stmt::Template(template) => push_row(rows, &template.node().children),
-        Stmt::ForLoop(each) => {
-            push_row(rows, &each.node().else_body)?;
-            push_row(rows, &each.node().body)
-        }
-        Stmt::IfCond(choice) => {
-            push_row(rows, &choice.node().false_body)?;
-            push_row(rows, &choice.node().true_body)
-        }
-        Stmt::WithBlock(block) => push_row(rows, &block.node().body),
-        Stmt::SetBlock(block) => push_row(rows, &block.node().body),
-        Stmt::AutoEscape(block) => push_row(rows, &block.node().body),
-        Stmt::FilterBlock(block) => push_row(rows, &block.node().body),
-        Stmt::Block(block) => push_row(rows, &block.node().body),
-        Stmt::Macro(declared) => push_row(rows, &declared.node().body),
-        Stmt::CallBlock(block) => push_row(rows, &block.node().macro_decl.node().body),
-        Stmt::EmitExpr(_) => Ok(()),
-        Stmt::EmitRaw(_) => Ok(()),
-        Stmt::Set(_) => Ok(()),
-        Stmt::Import(_) => Ok(()),
-        Stmt::FromImport(_) => Ok(()),
-        Stmt::Extends(_) => Ok(()),
-        Stmt::Include(_) => Ok(()),
-        Stmt::Continue(_) => Ok(()),
-        Stmt::Break(_) => Ok(()),
-        Stmt::Do(_) => Ok(()),
+        Stmt::Template(_) => &[],
+        Stmt::ForLoop(each) => &each.node().else_body,
+        Stmt::IfCond(choice) => &choice.node().false_body,
+        Stmt::WithBlock(_) => &[],
+        Stmt::SetBlock(_) => &[],
+        Stmt::AutoEscape(_) => &[],
+        Stmt::FilterBlock(_) => &[],
+        Stmt::Block(_) => &[],
+        Stmt::Macro(_) => &[],
+        Stmt::CallBlock(_) => &[],
+        Stmt::EmitExpr(_) => &[],
+        Stmt::EmitRaw(_) => &[],
+        Stmt::Set(_) => &[],
+        Stmt::Import(_) => &[],
+        Stmt::FromImport(_) => &[],
+        Stmt::Extends(_) => &[],
+        Stmt::Include(_) => &[],
+        Stmt::Continue(_) => &[],
+        Stmt::Break(_) => &[],
+        Stmt::Do(_) => &[],
     }
-}
-
-/// Adds a row of statements to those that are still to do.
-fn push_row<'a, 's, V: TemplateValue>(
-    rows: &mut Vec<&'a [Stmt<'s, V>]>,
-    row: &'a [Stmt<'s, V>],
-) -> Result<(), AllocError>
-    ensures { OnOk result (rows_of V.contents rows.new.items
-        ≡ stmts_of (map (stmt_tree V.contents) row.now) ∷ rows_of V.contents rows.old.items) }
-{
-    rows.push(row)?;
-    Ok(())
 }
 
 /// Adds the list of a statement, if it is a block.

@@ -1,33 +1,33 @@
 use Rattle.std.proofs.Common.{rules, arith, ◌≡◌, ◌<◌, ◌≤◌, [], ◌∙◌, Some, length, refl, sym, ap, subst}
 use Rattle.std.specs.Prelude.{reverse, IfOk}
+use denote.Param.Weighed.{most}
 use Rattle.minijinja_tree.specs.Erasure.{bin_op, expr_tree, exprs_of, args_of, optional_of}
 use Rattle.minijinja_tree.specs.WellFormed.{AreWhole, IsWhole, AreArguments, arg_count, most_arguments}
 use Rattle.minijinja_tree_expr.specs.declared.ast.Expr.{size-Expr, the_lemmas}
 use Rattle.minijinja_semantics.specs.Layout.{argument_count, Count, map_count}
 use Rattle.minijinja_semantics.specs.Pieces.{one}
-use Rattle.minijinja_code_expr.specs.internal.Leading.{test_in}
+use Rattle.minijinja_code_expr.specs.internal.Leading.{IsLiteral, test_in}
 use Rattle.minijinja_code_expr.specs.internal.Making.{made_of, count_of}
 use Rattle.minijinja_code_expr.specs.private.PendingNodes.{pending_of}
 use Rattle.minijinja_code_expr.proofs.Adding.{adds_as}
-use Rattle.minijinja_code_expr.proofs.Arms.{whole_if_test, whole_if_true, whole_if_false, compare_arm, attribute_arm, item_arm, whole_slice_start, whole_right, whole_key, whole_compare, slice_arm, unary_arm, binary_arm, if_arm, filter_arm, test_arm, call_arm, list_arm, tuple_arm, map_arm, whole_slice_stop, whole_slice_step, whole_filter, whole_test_args, whole_test_few, whole_call_args, whole_call_few, whole_list, whole_tuple, whole_pairs, whole_keys, whole_values}
+use Rattle.minijinja_code_expr.proofs.Arms.{whole_if_false, compare_arm, attribute_arm, item_arm, whole_slice_start, whole_left, whole_right, whole_key, whole_compare, slice_arm, unary_arm, binary_arm, if_arm, filter_arm, test_arm, call_arm, list_arm, tuple_arm, map_arm, whole_slice_stop, whole_slice_step, whole_filter, whole_test_args, whole_test_few, whole_call_args, whole_call_few, whole_list, whole_tuple, whole_pairs, whole_keys, whole_values}
 use Rattle.minijinja_code_expr.proofs.Finishing.{constant_finishes, variable_finishes, attribute_finishes, item_finishes, block_finishes, finishes_as, slice_finishes, binary_finishes, binary_joined, binary_unjoined, filter_finishes, filter_arguments, test_finishes, function_finishes, method_finishes, object_finishes, list_loaded, list_finishes, tuple_loaded, tuple_finishes, map_loaded, map_finishes, leading_whole, test_whole}
 use Rattle.minijinja_code_expr.proofs.InOrder.{count_length, leads_whole, leads_on, leads_end, whole_here, whole_after, items_next, items_end, pairs, pairs_next, pairs_end}
-use Rattle.minijinja_code_expr.proofs.PendingNodes.{Rest, rest_more, rest_less, rest_whole, rest_size, rest_leaf}
+use Rattle.minijinja_code_expr.proofs.PendingNodes.{Begins, begun_none, begun_test, Rest, rest_more, rest_less, rest_whole, rest_size, rest_leaf}
 use Rattle.minijinja_tree_expr.specs.declared.ast.Compare.{out-Compare}
 use Rattle.minijinja_code_expr.specs.private.Comparing.{places_of}
 use Rattle.minijinja_code_expr.proofs.ChainTurns.{turning_first, turn, turn_held, turn_holds, turn_stops}
 use Rattle.minijinja_code_expr.proofs.ChainEnds.{whole_parts, compare_fails, compare_holds, compare_closes}
-use Rattle.minijinja_code_expr.proofs.+expr.Goals.{chain::compare-in-Some-true, chain::compare-in-None, arguments::positional_arguments-in-Pos+in_ok-expression-in-Pos, arguments::positional_arguments-in-PosSplat+in_ok-close_list-in-PosSplat+in_ok-expression-in-PosSplat, arguments::keyword_pairs-in-Kwarg+in_ok-load_name-in-Kwarg+in_ok-expression-in-Kwarg, arguments::keyword_pairs-in-KwargSplat+in_ok-close_map-in-KwargSplat+in_ok-expression-in-KwargSplat, branches::otherwise-in-Some+in_ok-expression-in-Some, branches::otherwise-in-None+in_ok-load_undefined-in-None}
-use Rattle.minijinja_tree_expr.specs.declared.ast.Slice.{the_lemmas as slice_lemmas}
+use Rattle.minijinja_code_expr.proofs.+expr.Goals.{expr::expression-in-Some+in_ok-expression-in-Some+in_ok-place-in-Some, expr::expression-in-None, chain::compare-in-Some-true, chain::compare-in-None, arguments::positional_arguments-in-Pos+in_ok-expression-in-Pos, arguments::positional_arguments-in-PosSplat+in_ok-close_list-in-PosSplat+in_ok-expression-in-PosSplat, arguments::keyword_pairs-in-Kwarg+in_ok-load_name-in-Kwarg+in_ok-expression-in-Kwarg, arguments::keyword_pairs-in-KwargSplat+in_ok-close_map-in-KwargSplat+in_ok-expression-in-KwargSplat}
 use Rattle.minijinja_tree_expr.specs.declared.ast.Call.{the_lemmas as call_lemmas}
-use Rattle.minijinja_tree_expr.specs.declared.ast.List.{the_lemmas as list_lemmas}
-use Rattle.minijinja_tree_expr.specs.declared.ast.Tuple.{the_lemmas as tuple_lemmas}
-use Rattle.minijinja_tree_expr.specs.declared.ast.Map.{the_lemmas as map_lemmas}
 use Rattle.minijinja_tree_expr.specs.declared.ast.CallArg.{size-CallArg}
 use Rattle.minijinja_code_expr.proofs.CallArguments.{positional_bound, keyword_bound, map_count_few, keywords_loaded, keywords_merged, counted_all, adds_given, element_size, args_length, taken_none, taken_all, positional_walk, pos_whole, pos_splat_whole, taken_pos, taken_pos_splat, passed_keyword, keyword_walk, kwarg_whole, kwarg_splat_whole, taken_kwarg, taken_kwarg_splat, passed_positional}
-use Rattle.minijinja_tree_expr.specs.declared.ast.IfExpr.{size-IfExpr, the_lemmas as if_lemmas}
-use Rattle.minijinja_tree.specs.Tree.{if_expr, absent, present}
-use Rattle.minijinja_code_expr.proofs.Branching.{opened, chosen_next, chosen_last}
+use Rattle.minijinja_tree_expr.specs.declared.ast.BinOp.{the_lemmas as binary_lemmas}
+use Rattle.minijinja_tree_expr.specs.declared.ast.List.{size-List, the_lemmas as list_lemmas}
+use Rattle.minijinja_tree_expr.specs.declared.ast.Tuple.{size-Tuple, the_lemmas as tuple_lemmas}
+use Rattle.minijinja_tree_expr.specs.declared.ast.Map.{size-Map, the_lemmas as map_lemmas}
+use Rattle.minijinja_code_expr.proofs.LiteralNodes.{no_literal}
+use Rattle.minijinja_code_expr.proofs.Branching.{if_finishes}
 use Rattle.minijinja_code_expr.proofs.Results.{ok_gives}
 use Rattle.minijinja_tree.specs.Tree as tree
 use Rattle.minijinja_semantics.specs.Layout as layout
@@ -35,105 +35,113 @@ use Rattle.minijinja_semantics.specs.Code as code
 use Rattle.minijinja_semantics.specs.Events as event
 use Rattle.minijinja_code_expr.proofs.+expr.Goals as goal
 
-pub expr::begin-expression-requires : goal.expr::begin-expression-requires
-expr::begin-expression-requires g t c =
+pub expr::expression-expression-requires : goal.expr::expression-expression-requires
+expr::expression-expression-requires g t c =
     let v = g.V.TemplateValue.contents in
-    let f = g.V.TemplateValue.functions in
-    let e = expr_tree v c.args.node.now in
+    let e = expr_tree v c.loop-test.part.now in
     let is : test_in e ≡ Some (expr_tree v c.in-Some.test.now) = sym c.in-Some.ensures.test in
-    λ κs live. (omega (arith, c.in-Some.ensures.smaller, c.decreases), (search rules, (search rules, test_whole e (expr_tree v c.in-Some.test.now) is c.requires)))
-
-pub expr::expression-begin-requires : goal.expr::expression-begin-requires
-expr::expression-begin-requires g t c =
-    let small = c.loop-code.invariant.small in
-    λ κs live. (omega (arith, small, c.decreases), (search rules, (search rules, c.loop-code.invariant.whole)))
+    let small = c.loop-test.invariant.small in
+    λ κs live. (omega (arith, c.in-Some.ensures.smaller, small, c.decreases), (search rules, (search rules, test_whole e (expr_tree v c.in-Some.test.now) is c.loop-test.invariant.whole)))
 
 pub expr::expression-finish-requires : goal.expr::expression-finish-requires
 expr::expression-finish-requires g t c =
-    let small = c.loop-code.invariant.small in
-    λ κs live. (omega (arith, small, c.decreases), (search rules, (search rules, c.loop-code.invariant.whole)))
+    let small = c.loop-test.invariant.small in
+    λ κs live. (omega (arith, small, c.decreases), (search rules, (search rules, c.loop-test.invariant.whole)))
 
-pub expr::expression-finish-requires-in-Some : goal.expr::expression-finish-requires-in-Some
-expr::expression-finish-requires-in-Some g t c =
+pub expr::expression-finish-requires-in-Some-pop : goal.expr::expression-finish-requires-in-Some-pop
+expr::expression-finish-requires-in-Some-pop g t c =
     let v = g.V.TemplateValue.contents in
     let f = g.V.TemplateValue.functions in
-    let r = subst (λ l. Rest f v (made_of v c.args.code.now) (expr_tree v c.args.expr.now) (size-Expr g.row.V.Denot g.row.V-Fault.Denot c.args.expr.now) (reverse l) (made_of v c.loop-last.code)) c.in-Some.ensures.last c.loop-last.invariant in
-    let n = rest_size f v (made_of v c.args.code.now) (expr_tree v c.args.expr.now) _ (pending_of c.pop.new.self) c.in-Some.last (made_of v c.loop-last.code) r in
-    λ κs live. (omega (arith, n, c.decreases), (search rules, (search rules, rest_whole f v (made_of v c.args.code.now) (expr_tree v c.args.expr.now) _ (pending_of c.pop.new.self) c.in-Some.last (made_of v c.loop-last.code) r)))
+    let r = subst (λ l. Rest f v (made_of v c.args.code.now) (expr_tree v c.args.expr.now) (size-Expr g.row.V.Denot g.row.V-Fault.Denot c.args.expr.now) (reverse l) (made_of v c.loop-last.code)) c.in-Some-pop.ensures.last c.loop-last.invariant in
+    let n = rest_size f v (made_of v c.args.code.now) (expr_tree v c.args.expr.now) _ (pending_of c.pop.new.self) c.in-Some-pop.last (made_of v c.loop-last.code) r in
+    λ κs live. (omega (arith, n, c.decreases), (search rules, (search rules, rest_whole f v (made_of v c.args.code.now) (expr_tree v c.args.expr.now) _ (pending_of c.pop.new.self) c.in-Some-pop.last (made_of v c.loop-last.code) r)))
 
-pub expr::expression-loop-code-preserved : goal.expr::expression-loop-code-preserved
-expr::expression-loop-code-preserved g t c =
+pub expr::expression-loop-test-preserved : goal.expr::expression-loop-test-preserved
+expr::expression-loop-test-preserved g t c =
     let v = g.V.TemplateValue.contents in
     let f = g.V.TemplateValue.functions in
-    let e = expr_tree v c.loop-code.part.now in
+    let e = expr_tree v c.loop-test.part.now in
     let leads = c.leading_operand-part.ensures.operand in
+    let begun : Begins f e c.match-test_of.place (made_of v c.loop-test.code) (made_of v c.match-test_of.code) = elim c.match-test_of.branch [
+      | expr::expression-in-Some+in_ok-expression-in-Some+in_ok-place-in-Some w ↦ rw (w.code-is, w.place-is) (begun_test f e (expr_tree v w.in-Some.test.now) (sym w.in-Some.ensures.test) w.in_ok-expression-in-Some.ensures w.in_ok-place-in-Some.ensures.place w.in_ok-place-in-Some.ensures.added)
+      | expr::expression-in-None w ↦ rw (w.code-is, w.place-is) (begun_none f e (sym w.in-None.ensures.test) w.place-place.ensures)
+    ] in
     record {
-      whole = leading_whole e (expr_tree v c.leading_operand-part.result.now) leads c.loop-code.invariant.whole;
-      small = omega (arith, c.loop-code.invariant.small, c.leading_operand-part.ensures.smaller);
+      whole = leading_whole e (expr_tree v c.leading_operand-part.result.now) leads c.loop-test.invariant.whole;
+      small = omega (arith, c.loop-test.invariant.small, c.leading_operand-part.ensures.smaller);
       rest = λ later s. subst (λ l. Rest f v (made_of v c.args.code.now) (expr_tree v c.args.expr.now) (size-Expr g.row.V.Denot g.row.V-Fault.Denot c.args.expr.now) (reverse l) later) (sym c.in_ok-push.ensures)
-          (rest_more f v (made_of v c.args.code.now) (expr_tree v c.args.expr.now) _ (pending_of c.loop-code.pending) (record { node = c.loop-code.part; place = c.in_ok-place.place }) (expr_tree v c.leading_operand-part.result.now) (made_of v c.loop-code.code) (made_of v c.begin.new.code) c.in_ok-place.ensures leads c.loop-code.invariant.whole c.loop-code.invariant.small c.loop-code.invariant.rest later s);
+          (rest_more f v (made_of v c.args.code.now) (expr_tree v c.args.expr.now) _ (pending_of c.loop-test.pending) (record { node = c.loop-test.part; place = c.match-test_of.place }) (expr_tree v c.leading_operand-part.result.now) (made_of v c.loop-test.code) (made_of v c.match-test_of.code) begun leads c.loop-test.invariant.whole c.loop-test.invariant.small c.loop-test.invariant.rest later s);
     }
 
 pub expr::expression-loop-last-init : goal.expr::expression-loop-last-init
 expr::expression-loop-last-init g t c =
     let v = g.V.TemplateValue.contents in
     let f = g.V.TemplateValue.functions in
-    rest_leaf f v (made_of v c.args.code.now) (expr_tree v c.args.expr.now) _ (reverse (pending_of c.loop-code.pending)) (expr_tree v c.loop-code.part.now) (made_of v c.loop-code.code) (made_of v c.finish.new.code) c.place-place.result
-    (sym c.has_leading_operand.ensures ∙ c.loop-code-test.false) c.place-place.ensures c.in_ok-finish.ensures c.loop-code.invariant.rest
+    rest_leaf f v (made_of v c.args.code.now) (expr_tree v c.args.expr.now) _ (reverse (pending_of c.loop-test.pending)) (expr_tree v c.loop-test.part.now) (made_of v c.loop-test.code) (made_of v c.finish.new.code) c.place-place-2.result
+    (sym c.has_leading_operand.ensures ∙ c.loop-test-test.false) c.place-place-2.ensures c.in_ok-finish.ensures c.loop-test.invariant.rest
 
 pub expr::expression-loop-last-preserved : goal.expr::expression-loop-last-preserved
 expr::expression-loop-last-preserved g t c =
     let v = g.V.TemplateValue.contents in
     let f = g.V.TemplateValue.functions in
-    rest_less f v (made_of v c.args.code.now) (expr_tree v c.args.expr.now) _ (pending_of c.pop.new.self) c.in-Some.last (made_of v c.loop-last.code) (made_of v c.finish-in-Some.new.code) c.in_ok-finish-2.ensures
-    (subst (λ l. Rest f v (made_of v c.args.code.now) (expr_tree v c.args.expr.now) (size-Expr g.row.V.Denot g.row.V-Fault.Denot c.args.expr.now) (reverse l) (made_of v c.loop-last.code)) c.in-Some.ensures.last c.loop-last.invariant)
+    rest_less f v (made_of v c.args.code.now) (expr_tree v c.args.expr.now) _ (pending_of c.pop.new.self) c.in-Some-pop.last (made_of v c.loop-last.code) (made_of v c.finish-in-Some-pop.new.code) c.in_ok-finish-2.ensures
+    (subst (λ l. Rest f v (made_of v c.args.code.now) (expr_tree v c.args.expr.now) (size-Expr g.row.V.Denot g.row.V-Fault.Denot c.args.expr.now) (reverse l) (made_of v c.loop-last.code)) c.in-Some-pop.ensures.last c.loop-last.invariant)
 
-pub expr::finish_slice-bound-requires-2 : goal.expr::finish_slice-bound-requires-2
-expr::finish_slice-bound-requires-2 g t c =
-    λ κs live. (search (rules, slice_lemmas), (search rules, (search rules, c.requires.stop)))
-
-pub expr::finish_slice-bound-requires-3 : goal.expr::finish_slice-bound-requires-3
-expr::finish_slice-bound-requires-3 g t c =
-    λ κs live. (search (rules, slice_lemmas), (search rules, (search rules, c.requires.step)))
-
-pub expr::finish_slice-returns : goal.expr::finish_slice-returns
-expr::finish_slice-returns g t c =
+pub expr::finish-optional-requires : goal.expr::finish-optional-requires
+expr::finish-optional-requires g t c =
     let v = g.V.TemplateValue.contents in
-    let n = c.args.slice.now in
-    ok_gives c.add.result (λ s place. slice_finishes g.V.TemplateValue.functions (expr_tree v n.expr) (optional_of v n.start) (optional_of v n.stop) (optional_of v n.step) c.in_ok-bound.ensures c.in_ok-bound-2.ensures c.in_ok-bound-3.ensures s) c.add.ensures
+    λ κs live. (search (rules, the_lemmas), (search rules, (search rules, whole_slice_start v c.args.node.now c.in-Slice.slice c.node-slice.result.now c.in-Slice.is c.node-slice.ensures c.requires)))
 
-pub expr::finish-returns-in-Slice : goal.expr::finish-returns-in-Slice
-expr::finish-returns-in-Slice g t c =
+pub expr::finish-optional-requires-in-Slice : goal.expr::finish-optional-requires-in-Slice
+expr::finish-optional-requires-in-Slice g t c =
     let v = g.V.TemplateValue.contents in
-    ok_gives c.finish_slice.result (λ s. finishes_as g.V.TemplateValue.functions c.args.place (made_of v c.args.code.now) (made_of v c.finish_slice.new.code) (slice_arm v c.args.node.now c.in-Slice.slice c.node-in-Slice.result.now c.in-Slice.is c.node-in-Slice.ensures) (s c.args.place)) c.finish_slice.ensures
+    λ κs live. (search (rules, the_lemmas), (search rules, (search rules, whole_slice_stop v c.args.node.now c.in-Slice.slice c.node-slice.result.now c.in-Slice.is c.node-slice.ensures c.requires)))
 
-pub expr::finish-finish_slice-requires : goal.expr::finish-finish_slice-requires
-expr::finish-finish_slice-requires g t c =
+pub expr::finish-optional-requires-in-Slice-2 : goal.expr::finish-optional-requires-in-Slice-2
+expr::finish-optional-requires-in-Slice-2 g t c =
     let v = g.V.TemplateValue.contents in
-    let e = c.args.node.now in
-    let n = c.node-in-Slice.result.now in
-    λ κs live. (search (rules, the_lemmas), (search rules, (search rules, (whole_slice_start v e c.in-Slice.slice n c.in-Slice.is c.node-in-Slice.ensures c.requires, (whole_slice_stop v e c.in-Slice.slice n c.in-Slice.is c.node-in-Slice.ensures c.requires, whole_slice_step v e c.in-Slice.slice n c.in-Slice.is c.node-in-Slice.ensures c.requires)))))
+    λ κs live. (search (rules, the_lemmas), (search rules, (search rules, whole_slice_step v c.args.node.now c.in-Slice.slice c.node-slice.result.now c.in-Slice.is c.node-slice.ensures c.requires)))
 
-pub expr::finish-returns-in_ok-expression-in-BinOp : goal.expr::finish-returns-in_ok-expression-in-BinOp
-expr::finish-returns-in_ok-expression-in-BinOp g t c =
+pub expr::finish-returns-in_ok-optional-in-Slice-3 : goal.expr::finish-returns-in_ok-optional-in-Slice-3
+expr::finish-returns-in_ok-optional-in-Slice-3 g t c =
     let v = g.V.TemplateValue.contents in
     let f = g.V.TemplateValue.functions in
-    let n = c.node-operation.result.now in
-    let is = binary_arm v c.args.node.now c.in-BinOp.operation n c.in-BinOp.is c.node-operation.ensures in
-    let w = subst IsWhole is c.requires in
-    ok_gives c.end_binary.result (λ s. finishes_as f c.args.place (made_of v c.args.code.now) (made_of v c.end_binary.new.code) is
-    (binary_unjoined f (bin_op n.op) (expr_tree v n.left) (expr_tree v n.right) c.in_ok-joined-in-BinOp.joined c.if-joined.false w.0 c.in_ok-joined-in-BinOp.ensures
-    (binary_finishes f (bin_op n.op) (expr_tree v n.left) (expr_tree v n.right) w.0 w.1 c.in_ok-middle-in-BinOp.ensures.middle c.in_ok-middle-in-BinOp.ensures.added c.in_ok-expression-in-BinOp.ensures s))) c.end_binary.ensures
+    let n = c.node-slice.result.now in
+    ok_gives c.add-in-Slice.result (λ s. finishes_as f c.args.place (made_of v c.args.code.now) (made_of v c.add-in-Slice.new.self) (slice_arm v c.args.node.now c.in-Slice.slice n c.in-Slice.is c.node-slice.ensures)
+    (slice_finishes f (expr_tree v n.expr) (optional_of v n.start) (optional_of v n.stop) (optional_of v n.step)
+    (adds_as (ap (λ d. layout.optional f d (optional_of v n.start)) c.none.ensures) c.in_ok-optional-in-Slice.ensures)
+    (adds_as (ap (λ d. layout.optional f d (optional_of v n.stop)) c.none-in-Slice.ensures) c.in_ok-optional-in-Slice-2.ensures)
+    (adds_as (ap (λ d. layout.optional f d (optional_of v n.step)) c.none-in-Slice-2.ensures) c.in_ok-optional-in-Slice-3.ensures) s)) c.add-in-Slice.ensures
 
-pub expr::finish-returns-then-joined : goal.expr::finish-returns-then-joined
-expr::finish-returns-then-joined g t c =
+pub expr::finish-optional-requires-in-IfExpr : goal.expr::finish-optional-requires-in-IfExpr
+expr::finish-optional-requires-in-IfExpr g t c =
+    let v = g.V.TemplateValue.contents in
+    λ κs live. (search (rules, the_lemmas), (search rules, (search rules, whole_if_false v c.args.node.now c.in-IfExpr.choice c.node-in-IfExpr.result.now c.in-IfExpr.is c.node-in-IfExpr.ensures c.requires)))
+
+pub expr::finish-returns-in_ok-optional-in-IfExpr : goal.expr::finish-returns-in_ok-optional-in-IfExpr
+expr::finish-returns-in_ok-optional-in-IfExpr g t c =
     let v = g.V.TemplateValue.contents in
     let f = g.V.TemplateValue.functions in
-    let n = c.node-operation.result.now in
-    let is = binary_arm v c.args.node.now c.in-BinOp.operation n c.in-BinOp.is c.node-operation.ensures in
-    let w = subst IsWhole is c.requires in
-    finishes_as f c.args.place (made_of v c.args.code.now) (made_of v c.join_constant.new.code) is
-    (binary_joined f (bin_op n.op) (expr_tree v n.left) (expr_tree v n.right) c.in_ok-joined-in-BinOp.joined c.if-joined.true w.0 c.in_ok-joined-in-BinOp.ensures)
+    let n = c.node-in-IfExpr.result.now in
+    finishes_as f c.args.place (made_of v c.args.code.now) (made_of v c.end_else.new.code) (if_arm v c.args.node.now c.in-IfExpr.choice n c.in-IfExpr.is c.node-in-IfExpr.ensures)
+    (if_finishes f (expr_tree v n.test_expr) (expr_tree v n.true_expr) (optional_of v n.false_expr) c.in_ok-end-in-IfExpr.ensures
+    (adds_as (ap (λ d. layout.optional f d (optional_of v n.false_expr)) c.silent_undefined.ensures) c.in_ok-optional-in-IfExpr.ensures) c.end_else.ensures)
+
+pub expr::finish_binary-returns : goal.expr::finish_binary-returns
+expr::finish_binary-returns g t c =
+    let v = g.V.TemplateValue.contents in
+    let f = g.V.TemplateValue.functions in
+    let n = c.args.operation.now in
+    ok_gives c.end_binary.result (λ s.
+    binary_unjoined f (bin_op n.op) (expr_tree v n.left) (expr_tree v n.right) c.in_ok-joined.joined c.if-joined.false c.requires.left c.in_ok-joined.ensures
+    (binary_finishes f (bin_op n.op) (expr_tree v n.left) (expr_tree v n.right) c.requires.left c.requires.right c.in_ok-middle.ensures.middle c.in_ok-middle.ensures.added c.in_ok-expression.ensures s)) c.end_binary.ensures
+
+pub expr::finish_binary-returns-then-joined : goal.expr::finish_binary-returns-then-joined
+expr::finish_binary-returns-then-joined g t c =
+    let v = g.V.TemplateValue.contents in
+    let f = g.V.TemplateValue.functions in
+    let n = c.args.operation.now in
+    binary_joined f (bin_op n.op) (expr_tree v n.left) (expr_tree v n.right) c.in_ok-joined.joined c.if-joined.true c.requires.left c.in_ok-joined.ensures
 
 pub expr::finish-returns-in-UnaryOp : goal.expr::finish-returns-in-UnaryOp
 expr::finish-returns-in-UnaryOp g t c =
@@ -142,13 +150,6 @@ expr::finish-returns-in-UnaryOp g t c =
     let n = c.node-in-UnaryOp.result.now in
     let is = unary_arm v c.args.node.now c.in-UnaryOp.operation n c.in-UnaryOp.is c.node-in-UnaryOp.ensures in
     ok_gives c.end_unary.result (λ ends. finishes_as f c.args.place (made_of v c.args.code.now) (made_of v c.end_unary.new.code) is (ends (expr_tree v n.expr) (subst IsWhole is c.requires))) c.end_unary.ensures
-
-pub expr::finish-returns-in-IfExpr : goal.expr::finish-returns-in-IfExpr
-expr::finish-returns-in-IfExpr g t c =
-    let v = g.V.TemplateValue.contents in
-    let f = g.V.TemplateValue.functions in
-    let n = c.node-in-IfExpr.result.now in
-    ok_gives c.otherwise.result (finishes_as f c.args.place (made_of v c.args.code.now) (made_of v c.otherwise.new.code) (if_arm v c.args.node.now c.in-IfExpr.choice n c.in-IfExpr.is c.node-in-IfExpr.ensures)) c.otherwise.ensures
 
 pub expr::finish-returns-in_ok-count-in-Filter : goal.expr::finish-returns-in_ok-count-in-Filter
 expr::finish-returns-in_ok-count-in-Filter g t c =
@@ -198,186 +199,234 @@ expr::finish_call-returns-in_ok-count-in-Object g t c =
     (object_finishes f e args (expr_tree v c.in-Object.field-0.now) (sym c.in-Object.ensures.callee) c.in_ok-count-in-Object.ensures.added
     (adds_as (ap (λ m. one (code.Call event.CallObject [] m)) c.in_ok-count-in-Object.ensures.count) s))) c.add-in-Object.ensures
 
-pub expr::finish_list-returns-then-branch : goal.expr::finish_list-returns-then-branch
-expr::finish_list-returns-then-branch g t c =
+pub expr::finish-literal-requires : goal.expr::finish-literal-requires
+expr::finish-literal-requires g t c =
     let v = g.V.TemplateValue.contents in
-    λ place. list_loaded g.V.TemplateValue.functions (exprs_of v c.args.list.now.items.items) c.in_ok-load_list.field-0 c.if-branch.true c.in_ok-load_list.ensures
-
-pub expr::finish_list-items-requires : goal.expr::finish_list-items-requires
-expr::finish_list-items-requires g t c =
-    let v = g.V.TemplateValue.contents in
-    λ κs live. (search (rules, list_lemmas), (search rules, (search rules, subst (λ xs. AreWhole (exprs_of v xs)) (sym c.deref.ensures.value) c.requires)))
-
-pub expr::finish_list-returns : goal.expr::finish_list-returns
-expr::finish_list-returns g t c =
-    let v = g.V.TemplateValue.contents in
-    let f = g.V.TemplateValue.functions in
-    let xs = c.args.list.now.items in
-    ok_gives c.add.result (λ s place. list_finishes f (exprs_of v xs.items) c.len.result c.in_ok-load_list.field-0 c.if-branch.false c.in_ok-load_list.ensures (adds_as (ap (λ ys. layout.items f (exprs_of v ys)) c.deref.ensures.value) c.in_ok-items.ensures) (omega (arith, count_length v xs.items, c.len.ensures, xs.ok.0)) s) c.add.ensures
+    let is = list_arm v c.args.node.now c.in-List.field-0 _ c.in-List.is refl in
+    λ κs live. (omega (arith, c.decreases), (search rules, (search rules, (subst IsLiteral (sym is) tt, c.requires))))
 
 pub expr::finish-returns-in-List : goal.expr::finish-returns-in-List
-expr::finish-returns-in-List g t c =
-    let v = g.V.TemplateValue.contents in
-    ok_gives c.finish_list.result (λ s. finishes_as g.V.TemplateValue.functions c.args.place (made_of v c.args.code.now) (made_of v c.finish_list.new.code) (list_arm v c.args.node.now c.in-List.list c.node-in-List.result.now c.in-List.is c.node-in-List.ensures) (s c.args.place)) c.finish_list.ensures
+expr::finish-returns-in-List g t c = ok_gives c.literal.result (λ s. s c.args.place) c.literal.ensures
 
-pub expr::finish-finish_list-requires : goal.expr::finish-finish_list-requires
-expr::finish-finish_list-requires g t c =
+pub expr::finish-literal-requires-in-Tuple : goal.expr::finish-literal-requires-in-Tuple
+expr::finish-literal-requires-in-Tuple g t c =
     let v = g.V.TemplateValue.contents in
-    let n = c.node-in-List.result.now in
-    λ κs live. (search (rules, the_lemmas), (search rules, (search rules, whole_list v c.args.node.now c.in-List.list n n.items.items c.in-List.is c.node-in-List.ensures refl c.requires)))
-
-pub expr::finish_tuple-returns-then-branch : goal.expr::finish_tuple-returns-then-branch
-expr::finish_tuple-returns-then-branch g t c =
-    let v = g.V.TemplateValue.contents in
-    λ place. tuple_loaded g.V.TemplateValue.functions (exprs_of v c.args.tuple.now.items.items) c.in_ok-load_tuple.field-0 c.if-branch.true c.in_ok-load_tuple.ensures
-
-pub expr::finish_tuple-items-requires : goal.expr::finish_tuple-items-requires
-expr::finish_tuple-items-requires g t c =
-    let v = g.V.TemplateValue.contents in
-    λ κs live. (search (rules, tuple_lemmas), (search rules, (search rules, subst (λ xs. AreWhole (exprs_of v xs)) (sym c.deref.ensures.value) c.requires)))
-
-pub expr::finish_tuple-returns : goal.expr::finish_tuple-returns
-expr::finish_tuple-returns g t c =
-    let v = g.V.TemplateValue.contents in
-    let f = g.V.TemplateValue.functions in
-    let xs = c.args.tuple.now.items in
-    ok_gives c.add.result (λ s place. tuple_finishes f (exprs_of v xs.items) c.len.result c.in_ok-load_tuple.field-0 c.if-branch.false c.in_ok-load_tuple.ensures (adds_as (ap (λ ys. layout.items f (exprs_of v ys)) c.deref.ensures.value) c.in_ok-items.ensures) (omega (arith, count_length v xs.items, c.len.ensures, xs.ok.0)) s) c.add.ensures
+    let is = tuple_arm v c.args.node.now c.in-Tuple.field-0 _ c.in-Tuple.is refl in
+    λ κs live. (omega (arith, c.decreases), (search rules, (search rules, (subst IsLiteral (sym is) tt, c.requires))))
 
 pub expr::finish-returns-in-Tuple : goal.expr::finish-returns-in-Tuple
-expr::finish-returns-in-Tuple g t c =
-    let v = g.V.TemplateValue.contents in
-    ok_gives c.finish_tuple.result (λ s. finishes_as g.V.TemplateValue.functions c.args.place (made_of v c.args.code.now) (made_of v c.finish_tuple.new.code) (tuple_arm v c.args.node.now c.in-Tuple.tuple c.node-in-Tuple.result.now c.in-Tuple.is c.node-in-Tuple.ensures) (s c.args.place)) c.finish_tuple.ensures
+expr::finish-returns-in-Tuple g t c = ok_gives c.literal-in-Tuple.result (λ s. s c.args.place) c.literal-in-Tuple.ensures
 
-pub expr::finish-finish_tuple-requires : goal.expr::finish-finish_tuple-requires
-expr::finish-finish_tuple-requires g t c =
+pub expr::finish-literal-requires-in-Map : goal.expr::finish-literal-requires-in-Map
+expr::finish-literal-requires-in-Map g t c =
     let v = g.V.TemplateValue.contents in
-    let n = c.node-in-Tuple.result.now in
-    λ κs live. (search (rules, the_lemmas), (search rules, (search rules, whole_tuple v c.args.node.now c.in-Tuple.tuple n n.items.items c.in-Tuple.is c.node-in-Tuple.ensures refl c.requires)))
+    let is = map_arm v c.args.node.now c.in-Map.field-0 _ c.in-Map.is refl in
+    λ κs live. (omega (arith, c.decreases), (search rules, (search rules, (subst IsLiteral (sym is) tt, c.requires))))
 
-pub expr::finish_map-returns-then-branch : goal.expr::finish_map-returns-then-branch
-expr::finish_map-returns-then-branch g t c =
-    let v = g.V.TemplateValue.contents in
-    let n = c.args.map.now in
-    λ place. map_loaded g.V.TemplateValue.functions (exprs_of v n.keys.items) (exprs_of v n.values.items) c.in_ok-load_map.field-0 c.if-branch.true c.in_ok-load_map.ensures
+pub expr::finish-returns-in-Map : goal.expr::finish-returns-in-Map
+expr::finish-returns-in-Map g t c = ok_gives c.literal-in-Map.result (λ s. s c.args.place) c.literal-in-Map.ensures
 
-pub expr::finish_map-loop-i-init : goal.expr::finish_map-loop-i-init
-expr::finish_map-loop-i-init g t c =
+pub expr::literal-unreachable-requires : goal.expr::literal-unreachable-requires
+expr::literal-unreachable-requires g t c = no_literal g.V.TemplateValue.contents c.args.node.now c.in_default.not-List c.in_default.not-Tuple c.in_default.not-Map c.requires.literal
+
+pub expr::literal-returns-then-branch : goal.expr::literal-returns-then-branch
+expr::literal-returns-then-branch g t c =
     let v = g.V.TemplateValue.contents in
     let f = g.V.TemplateValue.functions in
-    let n = c.args.map.now in
+    let n = c.node-list.result.now in
+    λ place. finishes_as f place (made_of v c.args.code.now) (made_of v c.load_list.new.code) (list_arm v c.args.node.now c.in-List.list n c.in-List.is c.node-list.ensures)
+    (list_loaded f (exprs_of v n.items.items) c.in_ok-load_list-in-List.field-0 c.if-branch.true c.in_ok-load_list-in-List.ensures)
+
+pub expr::literal-loop-item-init : goal.expr::literal-loop-item-init
+expr::literal-loop-item-init g t c =
+    let v = g.V.TemplateValue.contents in
+    let all = layout.items g.V.TemplateValue.functions (exprs_of v c.deref-item-items.result.now) in
     record {
-      leads = leads_whole (made_of v c.load_map.new.code) (pairs f v n.keys.items n.values.items) (pairs f v n.keys.items n.values.items) refl;
-      keys = c.requires.keys;
-      values = c.requires.values;
+      whole = whole_list v c.args.node.now c.in-List.list c.node-list.result.now c.deref-item-items.result.now c.in-List.is c.node-list.ensures c.deref-item-items.ensures.value c.requires.whole;
+      leads = leads_whole (made_of v c.load_list.new.code) all all refl;
     }
 
-pub expr::finish_map-expression-requires : goal.expr::finish_map-expression-requires
-expr::finish_map-expression-requires g t c =
+pub expr::literal-loop-item-preserved : goal.expr::literal-loop-item-preserved
+expr::literal-loop-item-preserved g t c =
     let v = g.V.TemplateValue.contents in
     let f = g.V.TemplateValue.functions in
-    let n = c.args.map.now in
-    let ks = n.keys.items in
-    let vs = n.values.items in
-    let l = c.loop-i in
-    let same : length ks ≡ length vs = sym (count_length v ks) ∙ c.requires.pairs ∙ count_length v vs in
-    let within : l.i < length ks = omega (arith, n.keys.ok.0) in
-    λ κs live. (search (rules, map_lemmas, within), (search rules, (search rules, whole_here v ks l.i c.index.result.now within c.index.ensures l.invariant.keys)))
+    let l = c.loop-item in
+    let xs = c.deref-item-items.result.now in
+    let x = c.item-item.result in
+    let within : l.item-index < length xs = omega arith in
+    record {
+      whole = whole_after v xs l.item-index x within l.invariant.whole;
+      leads = leads_on (layout.expr f (expr_tree v x)) _ (items_next f v xs l.item-index x within c.item-item.is) c.in_ok-expression-in-List.ensures l.invariant.leads;
+    }
 
-pub expr::finish_map-index-requires-in-loop-i : goal.expr::finish_map-index-requires-in-loop-i
-expr::finish_map-index-requires-in-loop-i g t c =
+pub expr::literal-expression-requires : goal.expr::literal-expression-requires
+expr::literal-expression-requires g t c =
+    let v = g.V.TemplateValue.contents in
+    let l = c.loop-item in
+    let n = c.node-list.result.now in
+    let xs = c.deref-item-items.result.now in
+    let x = c.item-item.result in
+    let within : l.item-index < length xs = omega arith in
+    let one = element_size (size-Expr g.row.V.Denot g.row.V-Fault.Denot) xs l.item-index x within c.item-item.is in
+    let some : most (size-Expr g.row.V.Denot g.row.V-Fault.Denot) xs < size-List g.row.V.Denot g.row.V-Fault.Denot n = search (rules, list_lemmas) in
+    let all : size-List g.row.V.Denot g.row.V-Fault.Denot n < size-Expr g.row.V.Denot g.row.V-Fault.Denot c.args.node.now = search (rules, the_lemmas) in
+    λ κs live. (omega (arith, one, some, all, c.decreases), (search rules, (search rules, whole_here v xs l.item-index x within c.item-item.is l.invariant.whole)))
+
+pub expr::literal-returns-after-loop-item : goal.expr::literal-returns-after-loop-item
+expr::literal-returns-after-loop-item g t c =
     let v = g.V.TemplateValue.contents in
     let f = g.V.TemplateValue.functions in
-    let n = c.args.map.now in
+    let n = c.node-list.result.now in
+    let xs = n.items in
+    let added = adds_as (ap (λ ys. layout.items f (exprs_of v ys)) c.deref-item-items.ensures.value) (leads_end (items_end f v c.deref-item-items.result.now c.loop-item.item-index (omega arith)) c.loop-item.invariant.leads) in
+    ok_gives c.add.result (λ s place. finishes_as f place (made_of v c.args.code.now) (made_of v c.add.new.self) (list_arm v c.args.node.now c.in-List.list n c.in-List.is c.node-list.ensures)
+    (list_finishes f (exprs_of v xs.items) c.len.result c.in_ok-load_list-in-List.field-0 c.if-branch.false c.in_ok-load_list-in-List.ensures added (omega (arith, count_length v xs.items, c.len.ensures, xs.ok.0)) s)) c.add.ensures
+
+pub expr::literal-returns-then-branch-2 : goal.expr::literal-returns-then-branch-2
+expr::literal-returns-then-branch-2 g t c =
+    let v = g.V.TemplateValue.contents in
+    let f = g.V.TemplateValue.functions in
+    let n = c.node-tuple.result.now in
+    λ place. finishes_as f place (made_of v c.args.code.now) (made_of v c.load_tuple.new.code) (tuple_arm v c.args.node.now c.in-Tuple.tuple n c.in-Tuple.is c.node-tuple.ensures)
+    (tuple_loaded f (exprs_of v n.items.items) c.in_ok-load_tuple-in-Tuple.field-0 c.if-branch-2.true c.in_ok-load_tuple-in-Tuple.ensures)
+
+pub expr::literal-loop-item-2-init : goal.expr::literal-loop-item-2-init
+expr::literal-loop-item-2-init g t c =
+    let v = g.V.TemplateValue.contents in
+    let all = layout.items g.V.TemplateValue.functions (exprs_of v c.deref-item-items-in-Tuple.result.now) in
+    record {
+      whole = whole_tuple v c.args.node.now c.in-Tuple.tuple c.node-tuple.result.now c.deref-item-items-in-Tuple.result.now c.in-Tuple.is c.node-tuple.ensures c.deref-item-items-in-Tuple.ensures.value c.requires.whole;
+      leads = leads_whole (made_of v c.load_tuple.new.code) all all refl;
+    }
+
+pub expr::literal-loop-item-2-preserved : goal.expr::literal-loop-item-2-preserved
+expr::literal-loop-item-2-preserved g t c =
+    let v = g.V.TemplateValue.contents in
+    let f = g.V.TemplateValue.functions in
+    let l = c.loop-item-2 in
+    let xs = c.deref-item-items-in-Tuple.result.now in
+    let x = c.item-item-in-loop-item-2.result in
+    let within : l.item-index < length xs = omega arith in
+    record {
+      whole = whole_after v xs l.item-index x within l.invariant.whole;
+      leads = leads_on (layout.expr f (expr_tree v x)) _ (items_next f v xs l.item-index x within c.item-item-in-loop-item-2.is) c.in_ok-expression-in-Tuple.ensures l.invariant.leads;
+    }
+
+pub expr::literal-expression-requires-in-loop-item-2 : goal.expr::literal-expression-requires-in-loop-item-2
+expr::literal-expression-requires-in-loop-item-2 g t c =
+    let v = g.V.TemplateValue.contents in
+    let l = c.loop-item-2 in
+    let n = c.node-tuple.result.now in
+    let xs = c.deref-item-items-in-Tuple.result.now in
+    let x = c.item-item-in-loop-item-2.result in
+    let within : l.item-index < length xs = omega arith in
+    let one = element_size (size-Expr g.row.V.Denot g.row.V-Fault.Denot) xs l.item-index x within c.item-item-in-loop-item-2.is in
+    let some : most (size-Expr g.row.V.Denot g.row.V-Fault.Denot) xs < size-Tuple g.row.V.Denot g.row.V-Fault.Denot n = search (rules, tuple_lemmas) in
+    let all : size-Tuple g.row.V.Denot g.row.V-Fault.Denot n < size-Expr g.row.V.Denot g.row.V-Fault.Denot c.args.node.now = search (rules, the_lemmas) in
+    λ κs live. (omega (arith, one, some, all, c.decreases), (search rules, (search rules, whole_here v xs l.item-index x within c.item-item-in-loop-item-2.is l.invariant.whole)))
+
+pub expr::literal-returns-after-loop-item-2 : goal.expr::literal-returns-after-loop-item-2
+expr::literal-returns-after-loop-item-2 g t c =
+    let v = g.V.TemplateValue.contents in
+    let f = g.V.TemplateValue.functions in
+    let n = c.node-tuple.result.now in
+    let xs = n.items in
+    let added = adds_as (ap (λ ys. layout.items f (exprs_of v ys)) c.deref-item-items-in-Tuple.ensures.value) (leads_end (items_end f v c.deref-item-items-in-Tuple.result.now c.loop-item-2.item-index (omega arith)) c.loop-item-2.invariant.leads) in
+    ok_gives c.add-in-Tuple.result (λ s place. finishes_as f place (made_of v c.args.code.now) (made_of v c.add-in-Tuple.new.self) (tuple_arm v c.args.node.now c.in-Tuple.tuple n c.in-Tuple.is c.node-tuple.ensures)
+    (tuple_finishes f (exprs_of v xs.items) c.len-in-Tuple.result c.in_ok-load_tuple-in-Tuple.field-0 c.if-branch-2.false c.in_ok-load_tuple-in-Tuple.ensures added (omega (arith, count_length v xs.items, c.len-in-Tuple.ensures, xs.ok.0)) s)) c.add-in-Tuple.ensures
+
+pub expr::literal-returns-then-branch-3 : goal.expr::literal-returns-then-branch-3
+expr::literal-returns-then-branch-3 g t c =
+    let v = g.V.TemplateValue.contents in
+    let f = g.V.TemplateValue.functions in
+    let n = c.node-map.result.now in
+    λ place. finishes_as f place (made_of v c.args.code.now) (made_of v c.load_map.new.code) (map_arm v c.args.node.now c.in-Map.map n c.in-Map.is c.node-map.ensures)
+    (map_loaded f (exprs_of v n.keys.items) (exprs_of v n.values.items) c.in_ok-load_map-in-Map.field-0 c.if-branch-3.true c.in_ok-load_map-in-Map.ensures)
+
+pub expr::literal-loop-i-init : goal.expr::literal-loop-i-init
+expr::literal-loop-i-init g t c =
+    let v = g.V.TemplateValue.contents in
+    let e = c.args.node.now in
+    let n = c.node-map.result.now in
+    let all = pairs g.V.TemplateValue.functions v n.keys.items n.values.items in
+    record {
+      leads = leads_whole (made_of v c.load_map.new.code) all all refl;
+      keys = whole_keys v e c.in-Map.map n n.keys.items c.in-Map.is c.node-map.ensures refl c.requires.whole;
+      values = whole_values v e c.in-Map.map n n.values.items c.in-Map.is c.node-map.ensures refl c.requires.whole;
+    }
+
+pub expr::literal-index-requires-in-loop-i : goal.expr::literal-index-requires-in-loop-i
+expr::literal-index-requires-in-loop-i g t c =
+    let v = g.V.TemplateValue.contents in
+    let f = g.V.TemplateValue.functions in
+    let n = c.node-map.result.now in
     let ks = n.keys.items in
     let vs = n.values.items in
     let l = c.loop-i in
-    let same : length ks ≡ length vs = sym (count_length v ks) ∙ c.requires.pairs ∙ count_length v vs in
+    let pairs_are = whole_pairs v c.args.node.now c.in-Map.map n c.in-Map.is c.node-map.ensures c.requires.whole in
+    let same : length ks ≡ length vs = sym (count_length v ks) ∙ pairs_are ∙ count_length v vs in
     omega (arith, same, n.keys.ok.0, n.values.ok.0)
 
-pub expr::finish_map-expression-requires-in-loop-i : goal.expr::finish_map-expression-requires-in-loop-i
-expr::finish_map-expression-requires-in-loop-i g t c =
+pub expr::literal-expression-requires-in-loop-i : goal.expr::literal-expression-requires-in-loop-i
+expr::literal-expression-requires-in-loop-i g t c =
     let v = g.V.TemplateValue.contents in
-    let f = g.V.TemplateValue.functions in
-    let n = c.args.map.now in
+    let n = c.node-map.result.now in
     let ks = n.keys.items in
-    let vs = n.values.items in
     let l = c.loop-i in
-    let same : length ks ≡ length vs = sym (count_length v ks) ∙ c.requires.pairs ∙ count_length v vs in
-    let also : l.i < length vs = omega (arith, same, n.keys.ok.0) in
-    λ κs live. (search (rules, map_lemmas, also), (search rules, (search rules, whole_here v vs l.i c.index-in-loop-i.result.now also c.index-in-loop-i.ensures l.invariant.values)))
+    let k = c.index.result.now in
+    let within : l.i < length ks = omega (arith, n.keys.ok.0) in
+    let one : size-Expr g.row.V.Denot g.row.V-Fault.Denot k < size-Map g.row.V.Denot g.row.V-Fault.Denot n = search (rules, map_lemmas, within) in
+    let all : size-Map g.row.V.Denot g.row.V-Fault.Denot n < size-Expr g.row.V.Denot g.row.V-Fault.Denot c.args.node.now = search (rules, the_lemmas) in
+    λ κs live. (omega (arith, one, all, c.decreases), (search rules, (search rules, whole_here v ks l.i k within c.index.ensures l.invariant.keys)))
 
-pub expr::finish_map-loop-i-preserved : goal.expr::finish_map-loop-i-preserved
-expr::finish_map-loop-i-preserved g t c =
+pub expr::literal-expression-requires-in-loop-i-2 : goal.expr::literal-expression-requires-in-loop-i-2
+expr::literal-expression-requires-in-loop-i-2 g t c =
     let v = g.V.TemplateValue.contents in
     let f = g.V.TemplateValue.functions in
-    let n = c.args.map.now in
+    let n = c.node-map.result.now in
     let ks = n.keys.items in
     let vs = n.values.items in
     let l = c.loop-i in
-    let same : length ks ≡ length vs = sym (count_length v ks) ∙ c.requires.pairs ∙ count_length v vs in
+    let pairs_are = whole_pairs v c.args.node.now c.in-Map.map n c.in-Map.is c.node-map.ensures c.requires.whole in
+    let same : length ks ≡ length vs = sym (count_length v ks) ∙ pairs_are ∙ count_length v vs in
+    let x = c.index-in-loop-i.result.now in
+    let also : l.i < length vs = omega (arith, same, n.keys.ok.0) in
+    let one : size-Expr g.row.V.Denot g.row.V-Fault.Denot x < size-Map g.row.V.Denot g.row.V-Fault.Denot n = search (rules, map_lemmas, also) in
+    let all : size-Map g.row.V.Denot g.row.V-Fault.Denot n < size-Expr g.row.V.Denot g.row.V-Fault.Denot c.args.node.now = search (rules, the_lemmas) in
+    λ κs live. (omega (arith, one, all, c.decreases), (search rules, (search rules, whole_here v vs l.i x also c.index-in-loop-i.ensures l.invariant.values)))
+
+pub expr::literal-loop-i-preserved : goal.expr::literal-loop-i-preserved
+expr::literal-loop-i-preserved g t c =
+    let v = g.V.TemplateValue.contents in
+    let f = g.V.TemplateValue.functions in
+    let n = c.node-map.result.now in
+    let ks = n.keys.items in
+    let vs = n.values.items in
+    let l = c.loop-i in
+    let pairs_are = whole_pairs v c.args.node.now c.in-Map.map n c.in-Map.is c.node-map.ensures c.requires.whole in
+    let same : length ks ≡ length vs = sym (count_length v ks) ∙ pairs_are ∙ count_length v vs in
     let k = c.index.result.now in
     let x = c.index-in-loop-i.result.now in
     let within : l.i < length ks = omega (arith, n.keys.ok.0) in
     let also : l.i < length vs = omega (arith, within, same) in
-    let first = leads_on (layout.expr f (expr_tree v k)) _ (pairs_next f v ks vs l.i k x within also c.index.ensures c.index-in-loop-i.ensures) c.in_ok-expression.ensures l.invariant.leads in
+    let first = leads_on (layout.expr f (expr_tree v k)) _ (pairs_next f v ks vs l.i k x within also c.index.ensures c.index-in-loop-i.ensures) c.in_ok-expression-in-Map.ensures l.invariant.leads in
     record {
-      leads = leads_on (layout.expr f (expr_tree v x)) _ refl c.in_ok-expression-2.ensures first;
+      leads = leads_on (layout.expr f (expr_tree v x)) _ refl c.in_ok-expression-in-Map-2.ensures first;
       keys = whole_after v ks l.i k within l.invariant.keys;
       values = whole_after v vs l.i x also l.invariant.values;
     }
 
-pub expr::finish_map-returns : goal.expr::finish_map-returns
-expr::finish_map-returns g t c =
+pub expr::literal-returns-after-loop-i : goal.expr::literal-returns-after-loop-i
+expr::literal-returns-after-loop-i g t c =
     let v = g.V.TemplateValue.contents in
     let f = g.V.TemplateValue.functions in
-    let n = c.args.map.now in
+    let n = c.node-map.result.now in
     let ks = n.keys.items in
     let vs = n.values.items in
     let l = c.loop-i in
-    let same : length ks ≡ length vs = sym (count_length v ks) ∙ c.requires.pairs ∙ count_length v vs in
-    ok_gives c.add.result (λ s place. map_finishes f (exprs_of v ks) (exprs_of v vs) c.len.result c.in_ok-load_map.field-0 c.if-branch.false c.in_ok-load_map.ensures
-    (leads_end (pairs_end f v ks vs l.i (omega (arith, n.keys.ok.0))) l.invariant.leads) (omega (arith, count_length v ks, c.len.ensures, n.keys.ok.0)) s) c.add.ensures
-
-pub expr::finish-returns-in-Map : goal.expr::finish-returns-in-Map
-expr::finish-returns-in-Map g t c =
-    let v = g.V.TemplateValue.contents in
-    ok_gives c.finish_map.result (λ s. finishes_as g.V.TemplateValue.functions c.args.place (made_of v c.args.code.now) (made_of v c.finish_map.new.code) (map_arm v c.args.node.now c.in-Map.map c.node-in-Map.result.now c.in-Map.is c.node-in-Map.ensures) (s c.args.place)) c.finish_map.ensures
-
-pub expr::finish-finish_map-requires : goal.expr::finish-finish_map-requires
-expr::finish-finish_map-requires g t c =
-    let v = g.V.TemplateValue.contents in
-    let e = c.args.node.now in
-    let n = c.node-in-Map.result.now in
-    λ κs live. (search (rules, the_lemmas), (search rules, (search rules, (whole_keys v e c.in-Map.map n n.keys.items c.in-Map.is c.node-in-Map.ensures refl c.requires, (whole_values v e c.in-Map.map n n.values.items c.in-Map.is c.node-in-Map.ensures refl c.requires, whole_pairs v e c.in-Map.map n c.in-Map.is c.node-in-Map.ensures c.requires)))))
-
-pub expr::items-loop-expr-preserved : goal.expr::items-loop-expr-preserved
-expr::items-loop-expr-preserved g t c =
-    let v = g.V.TemplateValue.contents in
-    let f = g.V.TemplateValue.functions in
-    let l = c.loop-expr in
-    let xs = c.args.exprs.now in
-    let x = c.expr-item.result in
-    let within : l.expr-index < length xs = omega arith in
-    record {
-      whole = whole_after v xs l.expr-index x within l.invariant.whole;
-      leads = leads_on (layout.expr f (expr_tree v x)) _ (items_next f v xs l.expr-index x within c.expr-item.is) c.in_ok-expression.ensures l.invariant.leads;
-    }
-
-pub expr::items-expression-requires : goal.expr::items-expression-requires
-expr::items-expression-requires g t c =
-    let v = g.V.TemplateValue.contents in
-    let f = g.V.TemplateValue.functions in
-    let l = c.loop-expr in
-    let xs = c.args.exprs.now in
-    let x = c.expr-item.result in
-    let within : l.expr-index < length xs = omega arith in
-    λ κs live. (search (rules, the_lemmas, within), (search rules, (search rules, whole_here v xs l.expr-index x within c.expr-item.is l.invariant.whole)))
-
-pub expr::items-returns : goal.expr::items-returns
-expr::items-returns g t c =
-    let v = g.V.TemplateValue.contents in
-    let f = g.V.TemplateValue.functions in
-    leads_end (items_end f v c.args.exprs.now c.loop-expr.expr-index (omega arith)) c.loop-expr.invariant.leads
+    ok_gives c.add-in-Map.result (λ s place. finishes_as f place (made_of v c.args.code.now) (made_of v c.add-in-Map.new.self) (map_arm v c.args.node.now c.in-Map.map n c.in-Map.is c.node-map.ensures)
+    (map_finishes f (exprs_of v ks) (exprs_of v vs) c.len-in-Map.result c.in_ok-load_map-in-Map.field-0 c.if-branch-3.false c.in_ok-load_map-in-Map.ensures
+    (leads_end (pairs_end f v ks vs l.i (omega (arith, n.keys.ok.0))) l.invariant.leads) (omega (arith, count_length v ks, c.len-in-Map.ensures, n.keys.ok.0)) s)) c.add-in-Map.ensures
 
 pub chain::compare-loop-i-init : goal.chain::compare-loop-i-init
 chain::compare-loop-i-init g t c =
@@ -634,41 +683,6 @@ arguments::keyword_pairs-returns-clause-added g t c =
     let all = taken_all v (keyword_walk v g.V.TemplateValue.functions) c.args.args.now 0 c.loop-arg.invariant c.loop-arg-test.false in
     all.0
 
-pub branches::otherwise-loop-ends-preserved : goal.branches::otherwise-loop-ends-preserved
-branches::otherwise-loop-ends-preserved g t c =
-    let v = g.V.TemplateValue.contents in
-    let f = g.V.TemplateValue.functions in
-    let whole = c.args.choice.now in
-    let part = c.loop-ends.part.now in
-    let next = c.node-part.result.now in
-    let is : optional_of v part.false_expr ≡ present (if_expr (expr_tree v next.test_expr) (expr_tree v next.true_expr) (optional_of v next.false_expr)) = search rules in
-    let opens = opened c.in_ok-reserve.ensures.added c.in_ok-reserve.ensures.place c.fill.ensures c.here.ensures in
-    let under : size-IfExpr g.row.V.Denot g.row.V-Fault.Denot next < size-IfExpr g.row.V.Denot g.row.V-Fault.Denot part = search (rules, if_lemmas) in
-    record {
-      going = chosen_next f (expr_tree v whole.test_expr) (expr_tree v whole.true_expr) (optional_of v whole.false_expr) (expr_tree v part.test_expr) (expr_tree v part.true_expr)
-          c.loop-ends.invariant.going is opens c.in_ok-push.ensures.items
-          c.in_ok-expression-in-Some-IfExpr.ensures c.in_ok-jump-in-Some-IfExpr.ensures.place c.in_ok-jump-in-Some-IfExpr.ensures.added c.in_ok-expression-in-Some-IfExpr-2.ensures;
-      test = search rules;
-      yes = search rules;
-      no = search rules;
-      smaller = omega (arith, under, c.loop-ends.invariant.smaller);
-    }
-
-pub branches::otherwise-returns : goal.branches::otherwise-returns
-branches::otherwise-returns g t c =
-    let v = g.V.TemplateValue.contents in
-    let f = g.V.TemplateValue.functions in
-    let whole = c.args.choice.now in
-    let part = c.loop-ends.part.now in
-    let opens = opened c.in_ok-reserve.ensures.added c.in_ok-reserve.ensures.place c.fill.ensures c.here.ensures in
-    let places = c.deref.ensures.value ∙ c.in_ok-push.ensures.items in
-    elim c.match-part.branch [
-      | branches::otherwise-in-Some+in_ok-expression-in-Some w ↦ chosen_last f (expr_tree v whole.test_expr) (expr_tree v whole.true_expr) (optional_of v whole.false_expr) (expr_tree v part.test_expr) (expr_tree v part.true_expr) (present (expr_tree v w.in-Some.other))
-          c.loop-ends.invariant.going (ap (optional_of v) w.in-Some.is) opens places w.in_ok-expression-in-Some.ensures (ap (made_of v) w.code-is) c.lead_on.ensures
-      | branches::otherwise-in-None+in_ok-load_undefined-in-None w ↦ chosen_last f (expr_tree v whole.test_expr) (expr_tree v whole.true_expr) (optional_of v whole.false_expr) (expr_tree v part.test_expr) (expr_tree v part.true_expr) absent
-          c.loop-ends.invariant.going (ap (optional_of v) w.in-None.is) opens places w.in_ok-load_undefined-in-None.ensures (ap (made_of v) w.code-is) c.lead_on.ensures
-    ]
-
 pub expr::finish-arguments-requires : goal.expr::finish-arguments-requires
 expr::finish-arguments-requires g t c =
     let v = g.V.TemplateValue.contents in
@@ -698,17 +712,24 @@ expr::finish_call-arguments-requires-in-Object g t c =
     let v = g.V.TemplateValue.contents in
     λ κs live. (search (rules, call_lemmas), (search rules, (search rules, (subst (λ xs. AreArguments (args_of v xs)) (sym c.deref-in-Object.ensures.value) c.requires.whole, (subst (λ xs. arg_count (args_of v xs) ≤ most_arguments) (sym c.deref-in-Object.ensures.value) c.requires.few, omega arith)))))
 
-pub expr::finish_slice-bound-requires : goal.expr::finish_slice-bound-requires
-expr::finish_slice-bound-requires g t c =
-    λ κs live. (search (rules, slice_lemmas), (search rules, (search rules, c.requires.start)))
+pub expr::finish-finish_binary-requires : goal.expr::finish-finish_binary-requires
+expr::finish-finish_binary-requires g t c =
+    let v = g.V.TemplateValue.contents in
+    let e = c.args.node.now in
+    let n = c.node-in-BinOp.result.now in
+    λ κs live. (search (rules, the_lemmas), (search rules, (search rules, (whole_left v e c.in-BinOp.operation n c.in-BinOp.is c.node-in-BinOp.ensures c.requires, whole_right v e c.in-BinOp.operation n c.in-BinOp.is c.node-in-BinOp.ensures c.requires))))
+
+pub expr::finish-returns-in-BinOp : goal.expr::finish-returns-in-BinOp
+expr::finish-returns-in-BinOp g t c =
+    let v = g.V.TemplateValue.contents in
+    ok_gives c.finish_binary.result (finishes_as g.V.TemplateValue.functions c.args.place (made_of v c.args.code.now) (made_of v c.finish_binary.new.code) (binary_arm v c.args.node.now c.in-BinOp.operation c.node-in-BinOp.result.now c.in-BinOp.is c.node-in-BinOp.ensures)) c.finish_binary.ensures
+
+pub expr::finish_binary-expression-requires : goal.expr::finish_binary-expression-requires
+expr::finish_binary-expression-requires g t c =
+    λ κs live. (search (rules, binary_lemmas), (search rules, (search rules, c.requires.right)))
 
 pub expr::finish-expression-requires : goal.expr::finish-expression-requires
 expr::finish-expression-requires g t c =
-    let v = g.V.TemplateValue.contents in
-    λ κs live. (search (rules, the_lemmas), (search rules, (search rules, whole_right v c.args.node.now c.in-BinOp.operation c.node-operation.result.now c.in-BinOp.is c.node-operation.ensures c.requires)))
-
-pub expr::finish-expression-requires-in-GetItem : goal.expr::finish-expression-requires-in-GetItem
-expr::finish-expression-requires-in-GetItem g t c =
     let v = g.V.TemplateValue.contents in
     λ κs live. (search (rules, the_lemmas), (search rules, (search rules, whole_key v c.args.node.now c.in-GetItem.item c.node-in-GetItem.result.now c.in-GetItem.is c.node-in-GetItem.ensures c.requires)))
 
@@ -763,13 +784,6 @@ expr::finish-returns-in-Var g t c =
     let f = g.V.TemplateValue.functions in
     let is : expr_tree v c.args.node.now ≡ tree.variable c.node.result.now.id.now = rw (c.in-Var.is, c.node.ensures) refl in
     ok_gives c.add.result (λ s. finishes_as f c.args.place (made_of v c.args.code.now) (made_of v c.add.new.self) is (variable_finishes f c.node.result.now.id.now s)) c.add.ensures
-
-pub expr::finish-otherwise-requires : goal.expr::finish-otherwise-requires
-expr::finish-otherwise-requires g t c =
-    let v = g.V.TemplateValue.contents in
-    let e = c.args.node.now in
-    let n = c.node-in-IfExpr.result.now in
-    λ κs live. (search (rules, the_lemmas), (search rules, (search rules, (whole_if_test v e c.in-IfExpr.choice n c.in-IfExpr.is c.node-in-IfExpr.ensures c.requires, (whole_if_true v e c.in-IfExpr.choice n c.in-IfExpr.is c.node-in-IfExpr.ensures c.requires, whole_if_false v e c.in-IfExpr.choice n c.in-IfExpr.is c.node-in-IfExpr.ensures c.requires)))))
 
 pub expr::finish-returns-in-Const : goal.expr::finish-returns-in-Const
 expr::finish-returns-in-Const g t c =

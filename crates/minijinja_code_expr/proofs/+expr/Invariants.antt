@@ -1,7 +1,7 @@
 use Rattle.std.proofs.Common.{◌≤◌, drop, length}
 use Rattle.std.specs.Prelude.{reverse}
-use Rattle.minijinja_tree.specs.Erasure.{expr_tree, exprs_of, optional_of}
-use Rattle.minijinja_tree.specs.WellFormed.{IsWhole, AreWhole, IsWholeIfAny}
+use Rattle.minijinja_tree.specs.Erasure.{expr_tree, exprs_of}
+use Rattle.minijinja_tree.specs.WellFormed.{IsWhole, AreWhole}
 use Rattle.minijinja_tree_expr.specs.declared.ast.Expr.{size-Expr}
 use Rattle.minijinja_semantics.specs.Layout.{expr, items, count_positional, positional, count_keyword, keyword}
 use Rattle.minijinja_code_expr.specs.internal.Making.{Made, made_of, Adds, count_of}
@@ -12,13 +12,11 @@ use Rattle.minijinja_tree_expr.specs.declared.ast.Compare.{out-Compare}
 use Rattle.minijinja_code_expr.specs.private.Comparing.{places_of}
 use Rattle.minijinja_code_expr.proofs.ChainTurns.{Turning}
 use Rattle.minijinja_code_expr.proofs.CallArguments.{Taken}
-use Rattle.minijinja_tree_expr.specs.declared.ast.IfExpr.{size-IfExpr}
-use Rattle.minijinja_code_expr.proofs.Branching.{GoesOn}
 use Rattle.minijinja_code_expr.proofs.+expr.Given as goal
 
 -- whoever makes the part makes the whole, with the nodes that wait
-abbrev pub invariant-expr::expression-loop-code : goal.invariant-expr::expression-loop-code
-invariant-expr::expression-loop-code g l =
+abbrev pub invariant-expr::expression-loop-test : goal.invariant-expr::expression-loop-test
+invariant-expr::expression-loop-test g l =
     let c = g.V.TemplateValue.contents in
     let f = g.V.TemplateValue.functions in
     let n = size-Expr g.row.V.Denot g.row.V-Fault.Denot l.fn.expr in
@@ -29,8 +27,8 @@ invariant-expr::expression-loop-code g l =
           Rest f c (made_of c l.fn.code) (expr_tree c l.fn.expr) n (reverse (pending_of l.pending)) later;
     }
 
-abbrev pub decreases-expr::expression-loop-code : goal.decreases-expr::expression-loop-code
-decreases-expr::expression-loop-code g l = size-Expr g.row.V.Denot g.row.V-Fault.Denot l.part
+abbrev pub decreases-expr::expression-loop-test : goal.decreases-expr::expression-loop-test
+decreases-expr::expression-loop-test g l = size-Expr g.row.V.Denot g.row.V-Fault.Denot l.part
 
 abbrev pub invariant-expr::expression-loop-last : goal.invariant-expr::expression-loop-last
 invariant-expr::expression-loop-last g l =
@@ -41,17 +39,26 @@ invariant-expr::expression-loop-last g l =
 abbrev pub decreases-expr::expression-loop-last : goal.decreases-expr::expression-loop-last
 decreases-expr::expression-loop-last g l = length (pending_of l.pending)
 
-abbrev pub invariant-expr::items-loop-expr : goal.invariant-expr::items-loop-expr
-invariant-expr::items-loop-expr g l =
+abbrev pub invariant-expr::literal-loop-item : goal.invariant-expr::literal-loop-item
+invariant-expr::literal-loop-item g l =
     let c = g.V.TemplateValue.contents in
     let f = g.V.TemplateValue.functions in
     record {
-      whole : AreWhole (exprs_of c (drop l.expr-index l.exprs));
-      leads : Leads (made_of c l.fn.code) (made_of c l.code) (items f (exprs_of c (drop l.expr-index l.exprs))) (items f (exprs_of c l.exprs));
+      whole : AreWhole (exprs_of c (drop l.item-index l.item-items));
+      leads : Leads (made_of c l.initial.code) (made_of c l.code) (items f (exprs_of c (drop l.item-index l.item-items))) (items f (exprs_of c l.item-items));
     }
 
-abbrev pub invariant-expr::finish_map-loop-i : goal.invariant-expr::finish_map-loop-i
-invariant-expr::finish_map-loop-i g l =
+abbrev pub invariant-expr::literal-loop-item-2 : goal.invariant-expr::literal-loop-item-2
+invariant-expr::literal-loop-item-2 g l =
+    let c = g.V.TemplateValue.contents in
+    let f = g.V.TemplateValue.functions in
+    record {
+      whole : AreWhole (exprs_of c (drop l.item-index l.item-items));
+      leads : Leads (made_of c l.initial.code) (made_of c l.code) (items f (exprs_of c (drop l.item-index l.item-items))) (items f (exprs_of c l.item-items));
+    }
+
+abbrev pub invariant-expr::literal-loop-i : goal.invariant-expr::literal-loop-i
+invariant-expr::literal-loop-i g l =
     let c = g.V.TemplateValue.contents in
     let f = g.V.TemplateValue.functions in
     record {
@@ -75,19 +82,3 @@ abbrev pub invariant-arguments::keyword_pairs-loop-arg : goal.invariant-argument
 invariant-arguments::keyword_pairs-loop-arg g l =
     let v = g.V.TemplateValue.contents in
     Taken v (keyword g.V.TemplateValue.functions) count_keyword l.args 0 (made_of v l.fn.code) (made_of v l.code) l.arg-index (count_of l.count)
-
-abbrev pub invariant-branches::otherwise-loop-ends : goal.invariant-branches::otherwise-loop-ends
-invariant-branches::otherwise-loop-ends g l =
-    let v = g.V.TemplateValue.contents in
-    record {
-      going : GoesOn g.V.TemplateValue.functions
-          (expr_tree v l.fn.choice.test_expr) (expr_tree v l.fn.choice.true_expr) (optional_of v l.fn.choice.false_expr) l.fn.place (made_of v l.fn.code)
-          (expr_tree v l.part.test_expr) (expr_tree v l.part.true_expr) (optional_of v l.part.false_expr) l.ends.items l.jump (made_of v l.code);
-      test : IsWhole (expr_tree v l.part.test_expr);
-      yes : IsWhole (expr_tree v l.part.true_expr);
-      no : IsWholeIfAny (optional_of v l.part.false_expr);
-      smaller : size-IfExpr g.row.V.Denot g.row.V-Fault.Denot l.part ≤ size-IfExpr g.row.V.Denot g.row.V-Fault.Denot l.fn.choice;
-    }
-
-abbrev pub decreases-branches::otherwise-loop-ends : goal.decreases-branches::otherwise-loop-ends
-decreases-branches::otherwise-loop-ends g l = size-IfExpr g.row.V.Denot g.row.V-Fault.Denot l.part

@@ -1,13 +1,25 @@
--- The code of if expressions while it is being made.
-use Rattle.std.specs.Prelude.{ℕ, List, [], ◌∷◌, length, slice_set}
-use Rattle.minijinja_semantics.specs.Code.{Instr, Jump}
-use Rattle.minijinja_code_expr.specs.internal.Making.{Made, reach}
+-- The code of what branches, while it is being made.
+use Rattle.std.specs.Prelude.{◌≡◌, ℕ, length, slice_set}
+use Rattle.minijinja_semantics.specs.Code.{Instr, Jump, JumpIfFalse}
+use Rattle.minijinja_semantics.specs.Pieces.{one}
+use Rattle.minijinja_code_expr.specs.internal.Making.{Made, Adds, hole, reach}
 
--- the instructions with a jump to a target at each of these places
-abbrev pub with_ends : {C : Type 0} → List ℕ → (target : ℕ) → List (Instr C) → List (Instr C)
-with_ends [] n code = code
-with_ends (p ∷ ps) n code = with_ends ps n (slice_set code p (Jump n))
+-- what is being made, with an instruction at a place
+abbrev pub set_at : {C : Type 0} → Made C → ℕ → Instr C → Made C
+set_at m p i = record m { code = slice_set m.code p i }
 
--- the code so far, with a jump to its end at each of these places
-abbrev pub leading_on : {C : Type 0} → List ℕ → Made C → Made C
-leading_on ps m = record m { code = with_ends ps (reach (length m.code)) m.code }
+-- with a jump to the end at a place
+abbrev pub ending_at : {C : Type 0} → ℕ → Made C → Made C
+ending_at p m = set_at m p (Jump (reach (length m.code)))
+
+-- after what comes where a test is true, room was left for the jump past the rest, and the test's
+-- jump leads behind that
+pub record Opened {C : Type 0} (test end : ℕ) (now room jumped : Made C) : Type 0 where
+  pub added : Adds now room (one hole)
+  pub at : end ≡ length now.code
+  pub filled : jumped ≡ set_at room test (JumpIfFalse (reach (length room.code)))
+
+-- what comes where a test is false was begun
+pub record BeginsElse {C : Type 0} (test end : ℕ) (old new : Made C) : Type 0 where
+  pub room : Made C
+  pub opened : Opened test end old room new

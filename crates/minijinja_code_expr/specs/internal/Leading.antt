@@ -40,6 +40,13 @@ abbrev pub test_in : {C : Type 0} → Expr C → Option (Expr C)
 test_in (if_expr t a b) = Some t
 test_in e = None
 
+-- a list, a tuple or a map
+abbrev pub IsLiteral : {C : Type 0} → Expr C → Type 0
+IsLiteral (list es) = Unit {0}
+IsLiteral (tuple es) = Unit {0}
+IsLiteral (map ks vs) = Unit {0}
+IsLiteral e = ⊥
+
 -- the code of an expression, if there is one
 abbrev pub piece_of : {C F : Type 0} → Functions C F → Option (Expr C) → Piece C
 piece_of f None = nothing
@@ -63,10 +70,6 @@ pub record Tested {C : Type 0} (test p : Piece C) (place : ℕ) (old new : Made 
 abbrev pub Ready : {C F : Type 0} → Functions C F → Expr C → (place : ℕ) (old new : Made C) → Type 0
 Ready f (if_expr t a b) place old new = Tested (expr f t) (expr f a) place old new
 Ready f e place old new = After (piece_of f (leading e)) place old new
-
--- what comes before the leading operand was added
-abbrev pub Begins : {C F : Type 0} → Functions C F → Expr C → (place : ℕ) (old new : Made C) → Type 0
-Begins {C} f e place old new = (later : Made C) → Adds new later (piece_of f (leading e)) → Ready f e place old later
 
 -- what comes after the leading operand was added
 abbrev pub Finishes : {C F : Type 0} → Functions C F → Expr C → (place : ℕ) (old new : Made C) → Type 0

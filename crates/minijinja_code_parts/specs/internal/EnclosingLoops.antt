@@ -1,11 +1,11 @@
 -- What is being compiled within a loop, and what statements add there.
-use Rattle.std.specs.Prelude.{◌≡◌, ℕ, ◌+◌, ◌<◌, ◌≤◌, Bool, false, List, [], ◌∷◌, length, min}
+use Rattle.std.specs.Prelude.{◌≡◌, ℕ, ◌+◌, ◌<◌, ◌≤◌, Bool, false, List, [], ◌∷◌, length, min, slice_set}
 use Rattle.minijinja_value.specs.Values.{Functions}
 use Rattle.minijinja_tree.specs.Tree.{Stmt, Stmts}
+use Rattle.minijinja_semantics.specs.Code.{Instr, Jump}
 use Rattle.minijinja_semantics.specs.Layout.{stmt, stmts}
 use Rattle.minijinja_semantics.specs.Pieces.{Leading, Exits, Open, leading_to}
 use Rattle.minijinja_code_parts.specs.Hint.{data_bytes, all_data_bytes}
-use Rattle.minijinja_code_expr.specs.internal.Branching.{with_ends}
 use Rattle.minijinja_code_expr.specs.internal.Making.{Made, Adds, reach}
 
 -- The loop around what is being compiled: whether there is one, the place where it asks for its
@@ -21,6 +21,11 @@ pub record Around : Type 0 where
 -- where a statement in it leads
 abbrev pub exits : (end : ℕ) → Around → Exits
 exits end t = record { break_to = end; continue_to = t.iterate }
+
+-- the instructions with a jump to a target at each of these places
+abbrev pub with_ends : {C : Type 0} → List ℕ → (target : ℕ) → List (Instr C) → List (Instr C)
+with_ends [] n code = code
+with_ends (p ∷ ps) n code = with_ends ps n (slice_set code p (Jump n))
 
 -- the code so far, once the loop's end is known: with a jump to the end at each place that is
 -- reserved for one

@@ -6,9 +6,8 @@ use Rattle.minijinja_semantics.specs.Code.{PushLoop, Jump, Iterate}
 use Rattle.minijinja_semantics.specs.Layout.{target, popping}
 use Rattle.minijinja_semantics.specs.Meaning.{loop_flags}
 use Rattle.minijinja_semantics.specs.Pieces.{behind, Piece, Open, one, closing_instructions}
-use Rattle.minijinja_code_expr.specs.internal.Branching.{with_ends}
 use Rattle.minijinja_code_expr.specs.internal.Making.{Made, Adds, hole, reach}
-use Rattle.minijinja_code_parts.specs.internal.EnclosingLoops.{Around}
+use Rattle.minijinja_code_parts.specs.internal.EnclosingLoops.{Around, with_ends}
 
 -- a loop was begun, the place where it asks for its next item was reserved, and its target was
 -- added; within it nothing is open yet
@@ -19,6 +18,10 @@ pub record Begins {C F : Type 0} (f : Functions C F) (e : Expr C) (recursive : B
   pub hole_added : Adds pushed held (one hole)
   pub target_added : Adds held new (target f e)
   pub within : t ≡ record { in_loop = true; iterate = length pushed.code; opened = []; breaks = []; bytes = bytes }
+
+-- the code so far, with a jump to its end at each of these places
+abbrev pub leading_on : {C : Type 0} → List ℕ → Made C → Made C
+leading_on ps m = record m { code = with_ends ps (reach (length m.code)) m.code }
 
 -- the body of a loop that asks for its next item at a place was ended: it jumps back there, and
 -- where there is no next item, and from the reserved places, the code leads to what comes after

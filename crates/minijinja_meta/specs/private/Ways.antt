@@ -1,17 +1,11 @@
 -- Ways through parts of statements.
 use Rattle.std.specs.Prelude.{codes}
-use Rattle.minijinja_tree.specs.FreeNames.{Way, end, stores, region, through, through_stmt, through_stmts, through_macro}
-use Rattle.minijinja_tree.specs.Tree.{Stmt, if_cond, Macro}
-use Rattle.minijinja_tree.specs.internal.BlockNames.{many}
+use Rattle.minijinja_tree.specs.FreeNames.{Way, end, stores, region, through_stmt, through_macro}
+use Rattle.minijinja_tree.specs.Tree.{Stmt, Macro}
 
 -- the way through a part that is a region
 abbrev pub in_region : (Way → Way) → Way → Way
 in_region v w = region (v end) w
-
--- all of a statement but the only statement of a false body
-abbrev pub beside_way : {C : Type 0} → Stmt C (Unit {0}) → Way → Way
-beside_way (if_cond e true_body false_body) w = through e (region (through_stmts true_body end) (region (through_stmts (many false_body) end) w))
-beside_way s w = through_stmt s w
 
 -- a macro where it stands in a statement
 abbrev pub within_macro : {C L : Type 0} → Macro C L → Way → Way

@@ -1,6 +1,6 @@
 -- Tests that decide which trees are well formed.
-pub use Rattle.minijinja_tree_expr.specs.WellFormedTests.{is_chain, is_whole, is_whole_if_any, is_whole_operand, are_whole, are_compared, are_arguments, long_side, takes_arguments, is_whole_beside, is_target, are_targets, items_of, is_name, are_assignments, is_chain_of_filters, is_chain_if_any, is_variable, are_variables, are_all_whole, is_variable_if_any, are_names}
-use Rattle.std.specs.Prelude.{Bool, true, false, not, ◌&&◌, ◌==◌, List, [], ◌∷◌, length, count_by, Option, Some, None, nat_le, bytes_eq}
+pub use Rattle.minijinja_tree_expr.specs.WellFormedTests.{is_chain, is_whole, is_whole_if_any, is_whole_operand, are_whole, are_compared, are_arguments, long_side, takes_arguments, is_whole_beside, is_target, are_targets, are_assignments, is_chain_of_filters, is_chain_if_any, is_variable, are_variables, are_all_whole, is_variable_if_any, are_names}
+use Rattle.std.specs.Prelude.{Bool, true, false, not, ◌&&◌, ◌==◌, List, [], ◌∷◌, length, count_by, nat_le, bytes_eq}
 use Rattle.std.specs.List.{list_any}
 use Rattle.minijinja_syntax.specs.Texts.{Text}
 use Rattle.minijinja_tree.specs.Tree.{Stmt, template, data_text, output, assignment, for_loop, if_cond, with_block, set_block, auto_escape, filter_block, named_block, extends, include, import_all, from_import, declare, call_block, do_call, break_loop, continue_loop, Stmts, done, also, Macro, macro, block_names}
@@ -64,34 +64,14 @@ abbrev mutual
   pub is_macro : {C L : Type 0} → Macro C L → Bool
   is_macro (macro n x args defaults body) = is_macro_headed (macro n x args defaults body) && are_inner false true body
 
--- the statement, if there is exactly one
-abbrev pub only : {C L : Type 0} → Stmts C L → Option (Stmt C L)
-only (also s done) = Some s
-only _ = None
-
--- the item, if there is exactly one
-abbrev pub only_item : {A : Type 0} → List A → Option A
-only_item (x ∷ []) = Some x
-only_item _ = None
-
--- the only statement of a false body
-abbrev pub otherwise : {C L : Type 0} → Stmt C L → Option (Stmt C L)
-otherwise (if_cond e true_body false_body) = only false_body
-otherwise _ = None
-
--- each of these statements, unless there is exactly one
-abbrev pub are_inner_but_one : {C L : Type 0} → (in_loop in_macro : Bool) → Stmts C L → Bool
-are_inner_but_one l m (also s done) = true
-are_inner_but_one l m ss = are_inner l m ss
-
 -- the body of a macro
 abbrev pub has_macro_body : {C L : Type 0} → Macro C L → Bool
 has_macro_body (macro n x args defaults body) = are_inner false true body
 
--- the bodies of a statement, except the only statement of a false body
+-- the bodies of a statement
 abbrev pub has_bodies : {C L : Type 0} → (in_loop in_macro : Bool) → Stmt C L → Bool
 has_bodies l m (for_loop n target e only recursive body else_body) = are_inner true m body && are_inner l m else_body
-has_bodies l m (if_cond e true_body false_body) = are_inner l m true_body && are_inner_but_one l m false_body
+has_bodies l m (if_cond e true_body false_body) = are_inner l m true_body && are_inner l m false_body
 has_bodies l m (with_block assignments body) = are_inner l m body
 has_bodies l m (set_block target chain body) = are_inner l m body
 has_bodies l m (auto_escape e body) = are_inner l m body

@@ -2,46 +2,32 @@ use Rattle.std.proofs.Common.{◌+◌, ◌*◌, drop}
 use Rattle.minijinja_tree.specs.FreeNames.{through_stmts}
 use Rattle.minijinja_meta.specs.private.FoundNames.{Walking}
 use Rattle.minijinja_tree.proofs.Rows.{body_of}
-use Rattle.minijinja_meta.proofs.StmtWays.{IsRowRest}
-use Rattle.minijinja_tree.proofs.StmtSizes.{rest_stmt_size}
 use Rattle.minijinja_meta.proofs.meta.+statements.Given as goal
 
 -- how deep the argument is, and among equals the caller above what it calls
 abbrev pub decreases-statement : goal.decreases-statement
-decreases-statement g l = 7 * goal.size-statement g l + 3
-
-abbrev pub decreases-row : goal.decreases-row
-decreases-row g l = 7 * goal.size-row g l + 2
-
-abbrev pub decreases-single : goal.decreases-single
-decreases-single g l = 7 * goal.size-single g l + 1
+decreases-statement g l = 4 * goal.size-statement g l + 1
 
 abbrev pub decreases-branches : goal.decreases-branches
-decreases-branches g l = 7 * goal.size-branches g l + 0
+decreases-branches g l = 4 * goal.size-branches g l + 0
 
 abbrev pub decreases-for_loop : goal.decreases-for_loop
-decreases-for_loop g l = 7 * goal.size-for_loop g l + 0
+decreases-for_loop g l = 4 * goal.size-for_loop g l + 0
 
 abbrev pub decreases-with_block : goal.decreases-with_block
-decreases-with_block g l = 7 * goal.size-with_block g l + 0
+decreases-with_block g l = 4 * goal.size-with_block g l + 0
 
 abbrev pub decreases-named_body : goal.decreases-named_body
-decreases-named_body g l = 7 * goal.size-named_body g l + 0
+decreases-named_body g l = 4 * goal.size-named_body g l + 0
 
 abbrev pub decreases-within : goal.decreases-within
-decreases-within g l = 7 * goal.size-within g l + 0
+decreases-within g l = 4 * goal.size-within g l + 0
 
 abbrev pub decreases-statements : goal.decreases-statements
-decreases-statements g l = 7 * goal.size-statements g l + 4
+decreases-statements g l = 4 * goal.size-statements g l + 2
 
 abbrev pub decreases-body : goal.decreases-body
-decreases-body g l = 7 * goal.size-body g l + 5
-
-abbrev pub invariant-row-loop-rest : goal.invariant-row-loop-rest
-invariant-row-loop-rest g l = IsRowRest g.V.TemplateValue.contents l.fn.names l.names l.fn.stmt l.rest
-
-abbrev pub decreases-row-loop-rest : goal.decreases-row-loop-rest
-decreases-row-loop-rest g l = rest_stmt_size l.rest
+decreases-body g l = 4 * goal.size-body g l + 3
 
 -- what is left is walked through next
 abbrev pub invariant-statements-loop-stmt : goal.invariant-statements-loop-stmt

@@ -141,22 +141,11 @@ bounds-returns g t c =
     notes-then c.if_any-3.result c.args.names.now c.if_any.new.names c.if_any-3.new.names (λ y. mentions_any y (optional_of v n.start)) (λ y. mentions_any y (optional_of v n.stop) || mentions_any y (optional_of v n.step)) c.in_ok-if_any.ensures
     (notes-then c.if_any-3.result c.if_any.new.names c.if_any-2.new.names c.if_any-3.new.names (λ y. mentions_any y (optional_of v n.stop)) (λ y. mentions_any y (optional_of v n.step)) c.in_ok-if_any-2.ensures c.if_any-3.ensures)
 
-pub choice_beside-returns-in-Some : goal.choice_beside-returns-in-Some
-choice_beside-returns-in-Some g t c =
+pub choice_beside-returns : goal.choice_beside-returns
+choice_beside-returns g t c =
     let v = g.V.TemplateValue.contents in
     let n = c.args.choice.now in
-    let test = expr_tree v n.test_expr in
-    let yes = expr_tree v n.true_expr in
-    notes-as c.expression-in-Some.result c.args.names.now c.expression-in-Some.new.names (λ y. mentions y test || mentions y yes) _
-    (λ y. ap (λ o. mentions_beside y (if_expr test yes (optional_of v o))) (sym c.in-Some.is))
-    (notes-then c.expression-in-Some.result c.args.names.now c.expression.new.names c.expression-in-Some.new.names (λ y. mentions y test) (λ y. mentions y yes) c.in_ok-expression.ensures c.expression-in-Some.ensures)
-
-pub choice_beside-returns-in-None : goal.choice_beside-returns-in-None
-choice_beside-returns-in-None g t c =
-    let v = g.V.TemplateValue.contents in
-    let n = c.args.choice.now in
-    notes-same c.args.names.now c.expression.new.names (λ y. mentions y (expr_tree v n.test_expr)) _
-    (λ y. ap (λ o. mentions_beside y (if_expr (expr_tree v n.test_expr) (expr_tree v n.true_expr) (optional_of v o))) (sym c.in-None.is)) c.in_ok-expression.ensures
+    notes-then c.if_any.result c.args.names.now c.expression.new.names c.if_any.new.names (λ y. mentions y (expr_tree v n.test_expr)) (λ y. mentions_any y (optional_of v n.false_expr)) c.in_ok-expression.ensures c.if_any.ensures
 
 pub keys_and_values-returns : goal.keys_and_values-returns
 keys_and_values-returns g t c =

@@ -1,8 +1,9 @@
-use Rattle.std.proofs.Common.{◌≡◌, ◌+◌, ◌-◌, ◌^◌, ◌<◌, ◌≤◌, length, drop, min, arith, sym, ap, ◌∙◌}
+use Rattle.std.proofs.Common.{◌≡◌, ◌+◌, ◌-◌, ◌^◌, ◌<◌, ◌≤◌, length, drop, min, arith, ap, ◌∙◌}
 use Rattle.std.proofs.lemmas.List.{at_drop_all}
 use Rattle.minijinja_tree.specs.Erasure.{stmt_tree}
 use Rattle.minijinja_tree.specs.Tree.{block_names, all_block_names}
-use Rattle.minijinja_tree.proofs.NamesOfBlocks.{count, next-count, added, added-fits, all-counted, count-goes-on, count-ends}
+use Rattle.minijinja_tree.specs.internal.BlockNames.{own, first_body, second_body}
+use Rattle.minijinja_tree.proofs.NamesOfBlocks.{count, next-count, added, added-fits, all-counted, count-parts, parts-added}
 use Rattle.minijinja_tree.proofs.Rows.{body_of}
 use Rattle.minijinja_tree.proofs.distinct.+counted.Goals as goal
 
@@ -29,11 +30,11 @@ all_times-returns g t c =
     all-counted c.loop-stmt.count (count y (all_block_names (body_of v (drop i xs)))) (count y (all_block_names (body_of v xs))) c.loop-stmt.invariant.same
     (at_drop_all (λ zs. count y (all_block_names (body_of v zs))) xs i past) c.loop-stmt.invariant.fits
 
-pub times-loop-rest-preserved : goal.times-loop-rest-preserved
-times-loop-rest-preserved g t c =
-    count-goes-on g.V.TemplateValue.contents c.args.name.now c.loop-rest.count c.args.stmt.now c.loop-rest.rest c.in-Some.part c.in-Some.is c.loop-rest.invariant
-    c.times_beside.result c.saturating_add-count.result c.otherwise-rest.result c.times_beside.ensures c.saturating_add-count.ensures c.otherwise-rest.ensures.part c.otherwise-rest.ensures.smaller
-
 pub times-returns : goal.times-returns
 times-returns g t c =
-    count-ends g.V.TemplateValue.contents c.args.name.now c.loop-rest.count c.args.stmt.now c.loop-rest.rest c.in_default.not-Some c.loop-rest.invariant
+    let y = c.args.name.now in
+    let s = stmt_tree g.V.TemplateValue.contents c.args.stmt.now in
+    let first : c.all_times.result ≡ min (count y (all_block_names (first_body s))) (2 ^ 64 - 1) = c.all_times.ensures ∙ ap (λ ss. min (count y (all_block_names ss)) (2 ^ 64 - 1)) c.first_body.ensures.body in
+    let second : c.all_times-2.result ≡ min (count y (all_block_names (second_body s))) (2 ^ 64 - 1) = c.all_times-2.ensures ∙ ap (λ ss. min (count y (all_block_names ss)) (2 ^ 64 - 1)) c.second_body.ensures.body in
+    parts-added (count y (block_names s)) (count y (own s)) (count y (all_block_names (first_body s))) (count y (all_block_names (second_body s))) c.all_times.result c.all_times-2.result c.saturating_add.result c.saturating_add-2.result
+    (count-parts y s) first second (c.saturating_add.ensures ∙ ap (λ n. min (n + c.all_times.result) (2 ^ 64 - 1)) c.own_times.ensures) c.saturating_add-2.ensures

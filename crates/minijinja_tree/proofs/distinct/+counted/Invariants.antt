@@ -2,25 +2,15 @@ use Rattle.std.proofs.Common.{◌≡◌, ◌+◌, ◌-◌, ◌*◌, ◌^◌, ◌
 use Rattle.minijinja_tree.specs.Tree.{all_block_names}
 use Rattle.minijinja_tree.specs.internal.Sizes.{body_size, stmt_size}
 use Rattle.minijinja_tree.proofs.Rows.{body_of}
-use Rattle.minijinja_tree.proofs.StmtSizes.{rest_stmt_size}
-use Rattle.minijinja_tree.proofs.NamesOfBlocks.{IsCountRest, count}
+use Rattle.minijinja_tree.proofs.NamesOfBlocks.{count}
 use Rattle.minijinja_tree.proofs.distinct.+counted.Given as goal
 
--- how deep the argument is, and among equals the caller above what it calls
+-- how deep the argument is, and among equals a body above its statements
 abbrev pub decreases-times : goal.decreases-times
-decreases-times g l = 3 * stmt_size l.stmt.now + 2
-
-abbrev pub decreases-times_beside : goal.decreases-times_beside
-decreases-times_beside g l = 3 * stmt_size l.stmt.now + 1
+decreases-times g l = 2 * stmt_size l.stmt.now + 1
 
 abbrev pub decreases-all_times : goal.decreases-all_times
-decreases-all_times g l = 3 * (body_size l.stmts.now + 1)
-
-abbrev pub invariant-times-loop-rest : goal.invariant-times-loop-rest
-invariant-times-loop-rest g l = IsCountRest g.V.TemplateValue.contents l.name l.count l.fn.stmt l.rest
-
-abbrev pub decreases-times-loop-rest : goal.decreases-times-loop-rest
-decreases-times-loop-rest g l = rest_stmt_size l.rest
+decreases-all_times g l = 2 * (body_size l.stmts.now + 1)
 
 -- what is counted and what is left make the whole
 abbrev pub invariant-all_times-loop-stmt : goal.invariant-all_times-loop-stmt

@@ -1,6 +1,6 @@
 use Rattle.std.proofs.Common.{sym, ap, ◌∙◌}
-use Rattle.minijinja_tree.specs.Tree.{template, for_loop, if_cond, with_block, set_block, auto_escape, filter_block, named_block, declare, call_block}
-use Rattle.minijinja_tree.specs.Erasure.{expr_tree, optional_of, args_of, assignments_of, macro_tree, stmt_tree}
+use Rattle.minijinja_tree.specs.Tree.{template, for_loop, if_cond, with_block, set_block, auto_escape, filter_block, named_block, declare}
+use Rattle.minijinja_tree.specs.Erasure.{expr_tree, optional_of, assignments_of, macro_tree, stmt_tree}
 use Rattle.minijinja_tree.specs.internal.BlockNames.{first_body, macro_body}
 use Rattle.minijinja_tree.proofs.Rows.{body_of, macro_in, template_is, for_loop_is, if_cond_is, with_block_is, set_block_is, auto_escape_is, filter_block_is, block_is, declare_is, call_block_is}
 use Rattle.minijinja_tree.proofs.distinct.first_body.Goals as goal

@@ -1,5 +1,4 @@
 use Rattle.std.proofs.Common.{sym, ap, ◌∙◌}
-use Rattle.std.specs.Str.{bytes_eq}
 use Rattle.minijinja_tree.specs.Erasure.{stmt_tree}
 use Rattle.minijinja_tree.specs.Tree.{named_block, block_names}
 use Rattle.minijinja_tree.specs.internal.BlockNames.{own}

@@ -1,9 +1,7 @@
-use Rattle.std.proofs.Common.{rules, arith, ◌<◌, sym, ap, ◌∙◌}
-use Rattle.minijinja_tree.specs.declared.ast.Stmt.{the_lemmas}
+use Rattle.std.proofs.Common.{sym, ap, ◌∙◌}
 use Rattle.minijinja_tree.specs.Tree.{for_loop, if_cond}
 use Rattle.minijinja_tree.specs.Erasure.{expr_tree, optional_of, stmt_tree}
-use Rattle.minijinja_tree.specs.internal.BlockNames.{second_body, many}
-use Rattle.minijinja_tree.specs.internal.Sizes.{body_size, stmt_size}
+use Rattle.minijinja_tree.specs.internal.BlockNames.{second_body}
 use Rattle.minijinja_tree.proofs.Rows.{body_of, for_loop_is, if_cond_is}
 use Rattle.minijinja_tree.proofs.distinct.second_body.Goals as goal
 
@@ -18,12 +16,7 @@ returns-in-ForLoop-clause-body g c =
 pub returns-in-IfCond-clause-body : goal.returns-in-IfCond-clause-body
 returns-in-IfCond-clause-body g c =
     let v = g.V.TemplateValue.contents in
-    c.unless_alone.ensures.body ∙ ap (λ xs. many (body_of v xs)) c.deref.ensures.value
+    ap (body_of v) c.as_slice-in-IfCond.ensures.value
     ∙ ap (λ n. second_body (if_cond (expr_tree v n.expr) (body_of v n.true_body.items) (body_of v n.false_body.items))) c.node-in-IfCond.ensures
     ∙ ap second_body (sym (if_cond_is v c.in-IfCond.condition))
     ∙ ap (λ s. second_body (stmt_tree v s)) (sym c.in-IfCond.is)
-
-pub returns-in-IfCond-clause-smaller : goal.returns-in-IfCond-clause-smaller
-returns-in-IfCond-clause-smaller g c =
-    let within : body_size c.deref.result.now < stmt_size c.args.stmt.now = search (rules, the_lemmas) in
-    omega (arith, within, c.unless_alone.ensures.smaller)

@@ -1,30 +1,11 @@
-use Rattle.std.proofs.Common.{arith, false, rules, sym, ap, ◌∙◌}
-use Rattle.minijinja_tree.specs.Tree.{for_loop, if_cond, with_block, set_block, auto_escape, filter_block, named_block, call_block, declare}
-use Rattle.minijinja_tree.specs.Erasure.{expr_tree, optional_of, args_of, assignments_of, macro_tree, stmt_tree}
+use Rattle.std.proofs.Common.{false, sym, ap, ◌∙◌}
+use Rattle.std.specs.Prelude.{◌&&◌}
+use Rattle.minijinja_tree.specs.Tree.{for_loop, if_cond, with_block, set_block, auto_escape, filter_block, named_block}
+use Rattle.minijinja_tree.specs.Erasure.{expr_tree, optional_of, assignments_of, macro_tree, stmt_tree}
 use Rattle.minijinja_tree.specs.internal.WellFormedTests.{has_bodies, has_macro_body, are_inner}
 use Rattle.minijinja_tree.proofs.Rows.{body_of, for_loop_is, if_cond_is, with_block_is, set_block_is, auto_escape_is, filter_block_is, block_is, declare_is, macro_in, call_block_is}
-use Rattle.minijinja_tree.proofs.StmtSizes.{stmt-within, next-stmt-smaller}
-use Rattle.minijinja_tree.proofs.InnerSides.{inner-goes-on, is-one, is-no-one}
+use Rattle.minijinja_tree.proofs.InnerSides.{inner-sides}
 use Rattle.minijinja_tree.proofs.well_formed.+inner.Goals as goal
-
-pub is_inner-is_inner_beside-requires : goal.is_inner-is_inner_beside-requires
-is_inner-is_inner_beside-requires g t c κs within =
-    let deep = stmt-within c.args.stmt.now c.loop-rest.rest c.loop-rest.rest c.in-Some.part c.in-Some.is c.loop-rest.invariant.lower in
-    (omega (arith, deep, c.decreases), search rules)
-
-pub is_inner-loop-rest-smaller : goal.is_inner-loop-rest-smaller
-is_inner-loop-rest-smaller g t c = next-stmt-smaller c.args.stmt.now c.loop-rest.rest c.otherwise-rest.result c.in-Some.part c.in-Some.is c.otherwise-rest.ensures.smaller
-
-pub is_inner-loop-rest-preserved : goal.is_inner-loop-rest-preserved
-is_inner-loop-rest-preserved g t c =
-    inner-goes-on g.V.TemplateValue.contents c.args.in_loop c.args.in_macro c.args.stmt.now c.loop-rest.rest c.in-Some.part c.in-Some.is c.loop-rest.invariant c.otherwise-rest.result
-    (sym c.if-not-is_inner_beside.false ∙ c.is_inner_beside.ensures) c.otherwise-rest.ensures.part c.otherwise-rest.ensures.smaller
-
-pub are_inner_but_one-returns-in-Some : goal.are_inner_but_one-returns-in-Some
-are_inner_but_one-returns-in-Some g t c = is-one g.V.TemplateValue.contents c.args.in_loop c.args.in_macro c.args.stmts.now c.only.result c.in-Some.field-0 c.only.ensures c.in-Some.is
-
-pub are_inner_but_one-returns-in-None : goal.are_inner_but_one-returns-in-None
-are_inner_but_one-returns-in-None g t c = c.are_inner.ensures ∙ is-no-one g.V.TemplateValue.contents c.args.in_loop c.args.in_macro c.args.stmts.now c.only.result c.only.ensures c.in-None.is
 
 pub has_bodies-returns-in-ForLoop : goal.has_bodies-returns-in-ForLoop
 has_bodies-returns-in-ForLoop g t c =
@@ -114,3 +95,17 @@ has_bodies-returns-in-CallBlock g t c =
     ∙ ap (λ n. has_macro_body (macro_tree v (macro_in n))) c.node-in-CallBlock.ensures
     ∙ ap (has_bodies l m) (sym (call_block_is v c.in-CallBlock.block))
     ∙ ap (λ s. has_bodies l m (stmt_tree v s)) (sym c.in-CallBlock.is)
+
+pub is_inner-returns-then-is_headed : goal.is_inner-returns-then-is_headed
+is_inner-returns-then-is_headed g t c =
+    let l = c.args.in_loop in
+    let m = c.args.in_macro in
+    let s = stmt_tree g.V.TemplateValue.contents c.args.stmt.now in
+    c.has_bodies.ensures ∙ ap (λ b. b && has_bodies l m s) (sym c.if-is_headed.true ∙ c.is_headed.ensures) ∙ sym (inner-sides l m s)
+
+pub is_inner-returns-else-is_headed : goal.is_inner-returns-else-is_headed
+is_inner-returns-else-is_headed g t c =
+    let l = c.args.in_loop in
+    let m = c.args.in_macro in
+    let s = stmt_tree g.V.TemplateValue.contents c.args.stmt.now in
+    c.if-is_headed.false ∙ ap (λ b. b && has_bodies l m s) (sym c.if-is_headed.false ∙ c.is_headed.ensures) ∙ sym (inner-sides l m s)

@@ -1,0 +1,154 @@
+use Rattle.std.proofs.Common.{rules, arith, ◌≡◌, ◌+◌, ◌<◌, ◌++◌, ◌∷◌, [], length, drop, ap, sym, subst}
+use Rattle.minijinja_tree.specs.Erasure.{stmt_tree}
+use Rattle.minijinja_tree.specs.Tree.{all_blocks, blocks}
+use Rattle.minijinja_tree.specs.declared.ast.Stmt.{size-Stmt}
+use Rattle.minijinja_tree.proofs.Rows.{body_of}
+use Rattle.minijinja_code.specs.Generator.{HaveTooLong}
+use Rattle.minijinja_code.specs.declared.codegen.lists.ListError.TheVariants.{TooMany}
+use Rattle.minijinja_code.proofs.ListWalks.{StandSomewhere, Walking, after_stand, blocks_after, blocks_end, blocks_next, bodies_stand, here_stands, own_long, smaller_here, walk_end, walk_long, walk_names, walk_on, walk_start}
+use Rattle.minijinja_code.proofs.OwnBlocks.{passed_on}
+use Rattle.minijinja_code.proofs.codegen.lists.+add_lists.Goals as goal
+
+pub returns-in_err-add_list_of-clause-too_many : goal.returns-in_err-add_list_of-clause-too_many
+returns-in_err-add_list_of-clause-too_many g t c =
+    let v = g.V.TemplateValue.contents in
+    let f = g.V.TemplateValue.functions in
+    let s = stmt_tree v c.args.stmt.now in
+    passed_on (λ refusal. refusal ≡ TooMany → HaveTooLong f (blocks s)) c.from_residual.result c.in_err-add_list_of.field-0.0 c.from_residual.ensures.1
+    (λ k. own_long f s (c.in_err-add_list_of.ensures.too_many k))
+
+pub loop-inner-init : goal.loop-inner-init
+loop-inner-init g t c =
+    let v = g.V.TemplateValue.contents in
+    let f = g.V.TemplateValue.functions in
+    let s = stmt_tree v c.args.stmt.now in
+    let xs = c.body-first.result.now in
+    let ys = c.else_body-second.result.now in
+    record {
+      stand = subst StandSomewhere (sym c.body-first.ensures.is) (bodies_stand s c.requires.stands).0;
+      walking = walk_start f v c.args.source.text.now c.args.source.name.now s (all_blocks (body_of v xs)) (all_blocks (body_of v ys)) (ap all_blocks c.body-first.ensures.is) (ap all_blocks c.else_body-second.ensures.is) c.in_ok-add_list_of.ensures.added;
+    }
+
+pub add_lists-requires : goal.add_lists-requires
+add_lists-requires g t c =
+    let v = g.V.TemplateValue.contents in
+    let f = g.V.TemplateValue.functions in
+    let s = stmt_tree v c.args.stmt.now in
+    let xs = c.body-first.result.now in
+    let ys = c.else_body-second.result.now in
+    let l = c.loop-inner in
+    let x = c.inner-item.result in
+    let within : l.inner-index < length xs = omega arith in
+    let now = all_blocks (body_of v (drop l.inner-index xs)) ++ all_blocks (body_of v ys) in
+    let rest = all_blocks (body_of v (drop (l.inner-index + 1) xs)) ++ all_blocks (body_of v ys) in
+    let next : now ≡ blocks (stmt_tree v x) ++ rest = blocks_next v xs l.inner-index x within c.inner-item.is (all_blocks (body_of v ys)) in
+    let smaller = smaller_here (size-Stmt g.row.V.Denot g.row.V-Fault.Denot c.args.stmt.now) xs l.inner-index x within c.inner-item.is c.body-first.ensures.smaller in
+    λ κs live. (omega (arith, smaller, c.decreases), (search rules, (search rules, (here_stands v xs l.inner-index x within c.inner-item.is l.invariant.stand, walk_names f v c.args.source.text.now c.args.source.name.now (blocks s) c.requires.names c.args.lists.now now (blocks (stmt_tree v x)) rest next l.invariant.walking))))
+
+pub loop-inner-preserved : goal.loop-inner-preserved
+loop-inner-preserved g t c =
+    let v = g.V.TemplateValue.contents in
+    let f = g.V.TemplateValue.functions in
+    let s = stmt_tree v c.args.stmt.now in
+    let xs = c.body-first.result.now in
+    let ys = c.else_body-second.result.now in
+    let l = c.loop-inner in
+    let x = c.inner-item.result in
+    let within : l.inner-index < length xs = omega arith in
+    let now = all_blocks (body_of v (drop l.inner-index xs)) ++ all_blocks (body_of v ys) in
+    let rest = all_blocks (body_of v (drop (l.inner-index + 1) xs)) ++ all_blocks (body_of v ys) in
+    let next : now ≡ blocks (stmt_tree v x) ++ rest = blocks_next v xs l.inner-index x within c.inner-item.is (all_blocks (body_of v ys)) in
+    record {
+      stand = after_stand v xs l.inner-index x within c.inner-item.is l.invariant.stand;
+      walking = walk_on f v c.args.source.text.now c.args.source.name.now (blocks s) c.requires.names c.args.lists.now now (blocks (stmt_tree v x)) rest next l.invariant.walking c.in_ok-add_lists.ensures.added;
+    }
+
+pub returns-in_err-add_lists-clause-too_many : goal.returns-in_err-add_lists-clause-too_many
+returns-in_err-add_lists-clause-too_many g t c =
+    let v = g.V.TemplateValue.contents in
+    let f = g.V.TemplateValue.functions in
+    let s = stmt_tree v c.args.stmt.now in
+    let xs = c.body-first.result.now in
+    let ys = c.else_body-second.result.now in
+    let l = c.loop-inner in
+    let x = c.inner-item.result in
+    let within : l.inner-index < length xs = omega arith in
+    let now = all_blocks (body_of v (drop l.inner-index xs)) ++ all_blocks (body_of v ys) in
+    let rest = all_blocks (body_of v (drop (l.inner-index + 1) xs)) ++ all_blocks (body_of v ys) in
+    let next : now ≡ blocks (stmt_tree v x) ++ rest = blocks_next v xs l.inner-index x within c.inner-item.is (all_blocks (body_of v ys)) in
+    passed_on (λ refusal. refusal ≡ TooMany → HaveTooLong f (blocks s)) c.from_residual-in_err-add_lists.result c.in_err-add_lists.field-0.0 c.from_residual-in_err-add_lists.ensures.1
+    (λ k. walk_long f v c.args.source.text.now c.args.source.name.now (blocks s) c.requires.names c.args.lists.now now (blocks (stmt_tree v x)) rest next l.invariant.walking (c.in_err-add_lists.ensures.too_many k))
+
+pub loop-inner-2-init : goal.loop-inner-2-init
+loop-inner-2-init g t c =
+    let v = g.V.TemplateValue.contents in
+    let f = g.V.TemplateValue.functions in
+    let s = stmt_tree v c.args.stmt.now in
+    let xs = c.body-first.result.now in
+    let ys = c.else_body-second.result.now in
+    let l = c.loop-inner in
+    let none : all_blocks (body_of v (drop l.inner-index xs)) ≡ [] = blocks_end v xs l.inner-index (omega arith) in
+    record {
+      stand = subst StandSomewhere (sym c.else_body-second.ensures.is) (bodies_stand s c.requires.stands).1;
+      walking = subst (λ bs. Walking f v c.args.source.text.now c.args.source.name.now (blocks s) c.args.lists.now (bs ++ all_blocks (body_of v ys)) l.lists) none l.invariant.walking;
+    }
+
+pub add_lists-requires-in-loop-inner-2 : goal.add_lists-requires-in-loop-inner-2
+add_lists-requires-in-loop-inner-2 g t c =
+    let v = g.V.TemplateValue.contents in
+    let f = g.V.TemplateValue.functions in
+    let s = stmt_tree v c.args.stmt.now in
+    let xs = c.body-first.result.now in
+    let ys = c.else_body-second.result.now in
+    let l = c.loop-inner-2 in
+    let x = c.inner-item-in-loop-inner-2.result in
+    let within : l.inner-index < length ys = omega arith in
+    let now = all_blocks (body_of v (drop l.inner-index ys)) in
+    let rest = all_blocks (body_of v (drop (l.inner-index + 1) ys)) in
+    let next : now ≡ blocks (stmt_tree v x) ++ rest = blocks_after v ys l.inner-index x within c.inner-item-in-loop-inner-2.is in
+    let smaller = smaller_here (size-Stmt g.row.V.Denot g.row.V-Fault.Denot c.args.stmt.now) ys l.inner-index x within c.inner-item-in-loop-inner-2.is c.else_body-second.ensures.smaller in
+    λ κs live. (omega (arith, smaller, c.decreases), (search rules, (search rules, (here_stands v ys l.inner-index x within c.inner-item-in-loop-inner-2.is l.invariant.stand, walk_names f v c.args.source.text.now c.args.source.name.now (blocks s) c.requires.names c.args.lists.now now (blocks (stmt_tree v x)) rest next l.invariant.walking))))
+
+pub loop-inner-2-preserved : goal.loop-inner-2-preserved
+loop-inner-2-preserved g t c =
+    let v = g.V.TemplateValue.contents in
+    let f = g.V.TemplateValue.functions in
+    let s = stmt_tree v c.args.stmt.now in
+    let xs = c.body-first.result.now in
+    let ys = c.else_body-second.result.now in
+    let l = c.loop-inner-2 in
+    let x = c.inner-item-in-loop-inner-2.result in
+    let within : l.inner-index < length ys = omega arith in
+    let now = all_blocks (body_of v (drop l.inner-index ys)) in
+    let rest = all_blocks (body_of v (drop (l.inner-index + 1) ys)) in
+    let next : now ≡ blocks (stmt_tree v x) ++ rest = blocks_after v ys l.inner-index x within c.inner-item-in-loop-inner-2.is in
+    record {
+      stand = after_stand v ys l.inner-index x within c.inner-item-in-loop-inner-2.is l.invariant.stand;
+      walking = walk_on f v c.args.source.text.now c.args.source.name.now (blocks s) c.requires.names c.args.lists.now now (blocks (stmt_tree v x)) rest next l.invariant.walking c.in_ok-add_lists-2.ensures.added;
+    }
+
+pub returns-in_err-add_lists-2-clause-too_many : goal.returns-in_err-add_lists-2-clause-too_many
+returns-in_err-add_lists-2-clause-too_many g t c =
+    let v = g.V.TemplateValue.contents in
+    let f = g.V.TemplateValue.functions in
+    let s = stmt_tree v c.args.stmt.now in
+    let xs = c.body-first.result.now in
+    let ys = c.else_body-second.result.now in
+    let l = c.loop-inner-2 in
+    let x = c.inner-item-in-loop-inner-2.result in
+    let within : l.inner-index < length ys = omega arith in
+    let now = all_blocks (body_of v (drop l.inner-index ys)) in
+    let rest = all_blocks (body_of v (drop (l.inner-index + 1) ys)) in
+    let next : now ≡ blocks (stmt_tree v x) ++ rest = blocks_after v ys l.inner-index x within c.inner-item-in-loop-inner-2.is in
+    passed_on (λ refusal. refusal ≡ TooMany → HaveTooLong f (blocks s)) c.from_residual-in_err-add_lists-2.result c.in_err-add_lists-2.field-0.0 c.from_residual-in_err-add_lists-2.ensures.1
+    (λ k. walk_long f v c.args.source.text.now c.args.source.name.now (blocks s) c.requires.names c.args.lists.now now (blocks (stmt_tree v x)) rest next l.invariant.walking (c.in_err-add_lists-2.ensures.too_many k))
+
+pub returns-clause-added : goal.returns-clause-added
+returns-clause-added g t c =
+    let v = g.V.TemplateValue.contents in
+    let f = g.V.TemplateValue.functions in
+    let s = stmt_tree v c.args.stmt.now in
+    let xs = c.body-first.result.now in
+    let ys = c.else_body-second.result.now in
+    let l = c.loop-inner-2 in
+    walk_end f v c.args.source.text.now c.args.source.name.now (blocks s) c.requires.names c.args.lists.now (all_blocks (body_of v (drop l.inner-index ys))) (blocks_end v ys l.inner-index (omega arith)) l.invariant.walking

@@ -1,2 +1,0 @@
--- What the crate says of its own private functions.
-pub mod Targets

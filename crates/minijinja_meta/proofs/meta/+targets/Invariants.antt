@@ -1,0 +1,16 @@
+use Rattle.std.proofs.Common.{◌+◌, ◌*◌, drop}
+use Rattle.minijinja_tree.specs.Erasure.{exprs_of}
+use Rattle.minijinja_tree.specs.FreeNames.{to_targets}
+use Rattle.minijinja_meta.specs.private.FoundNames.{Walking}
+use Rattle.minijinja_meta.proofs.meta.+targets.Given as goal
+
+-- how deep the argument is, and among equals targets above each of them
+abbrev pub decreases-target : goal.decreases-target
+decreases-target g l = 2 * goal.size-target g l + 0
+
+abbrev pub decreases-targets : goal.decreases-targets
+decreases-targets g l = 2 * goal.size-targets g l + 1
+
+-- what is left is walked through next
+abbrev pub invariant-targets-loop-expr : goal.invariant-targets-loop-expr
+invariant-targets-loop-expr g l = let c = g.V.TemplateValue.contents in Walking l.initial.names l.names (to_targets (exprs_of c l.exprs)) (to_targets (exprs_of c (drop l.expr-index l.exprs)))
