@@ -10,7 +10,7 @@ use Rattle.minijinja_tree_expr.specs.declared.ast.Expr.{size-Expr}
 use Rattle.minijinja_semantics.specs.Layout.{expr}
 use Rattle.minijinja_semantics.specs.Pieces.{one}
 use Rattle.minijinja_code_expr.specs.internal.Making.{Made, Adds, hole}
-use Rattle.minijinja_code_expr.specs.internal.Leading.{After, Tested, leading, piece_of, test_in, Ready, Finishes}
+use Rattle.minijinja_code_expr.specs.internal.Leading.{leading, piece_of, test_in, Ready, Finishes}
 use Rattle.minijinja_code_expr.specs.declared.pending.PendingNode.{PendingNode}
 use Rattle.minijinja_code_expr.proofs.Adding.{adds_as, adds_nothing}
 

@@ -4,7 +4,6 @@ use Rattle.std.proofs.lemmas.List.{at_drop_more, at_drop_all}
 use Rattle.minijinja_value.specs.Values.{Functions}
 use Rattle.minijinja_tree.specs.Erasure.{expr_tree, exprs_of}
 use Rattle.minijinja_tree.specs.Nodes.{node_of}
-use Rattle.minijinja_tree.specs.Tree.{list}
 use Rattle.minijinja_tree.specs.WellFormed.{IsTarget, AreTargets, expr_count}
 use Rattle.minijinja_tree_expr.specs.declared.ast.Expr.{Expr}
 use Rattle.minijinja_tree_expr.specs.declared.ast.Expr.TheVariants as expr

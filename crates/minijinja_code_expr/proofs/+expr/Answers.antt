@@ -2,7 +2,7 @@ use Rattle.std.proofs.Common.{rules, arith, ◌≡◌, ◌<◌, ◌≤◌, [], �
 use Rattle.std.specs.Prelude.{reverse, IfOk}
 use denote.Param.Weighed.{most}
 use Rattle.minijinja_tree.specs.Erasure.{bin_op, expr_tree, exprs_of, args_of, optional_of}
-use Rattle.minijinja_tree.specs.WellFormed.{AreWhole, IsWhole, AreArguments, arg_count, most_arguments}
+use Rattle.minijinja_tree.specs.WellFormed.{IsWhole, AreArguments, arg_count, most_arguments}
 use Rattle.minijinja_tree_expr.specs.declared.ast.Expr.{size-Expr, the_lemmas}
 use Rattle.minijinja_semantics.specs.Layout.{argument_count, Count, map_count}
 use Rattle.minijinja_semantics.specs.Pieces.{one}

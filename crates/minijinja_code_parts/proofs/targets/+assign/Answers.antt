@@ -1,4 +1,4 @@
-use Rattle.std.proofs.Common.{rules, arith, ◌≡◌, ◌∙◌, ◌+◌, ◌<◌, length, drop, refl, subst}
+use Rattle.std.proofs.Common.{rules, arith, ◌∙◌, ◌<◌, length, refl, subst}
 use Rattle.minijinja_tree.specs.Erasure.{expr_tree, exprs_of}
 use Rattle.minijinja_tree.specs.Nodes.{node_of}
 use Rattle.minijinja_tree.specs.WellFormed.{IsTarget}
