@@ -14,7 +14,7 @@ use Rattle.minijinja_tree.specs.CompareOps.{CompareOp}
 use Rattle.minijinja_tree.specs.Tree as bare
 use Rattle.minijinja_tree.specs.SpannedTrees as tree
 use Rattle.minijinja_tree.specs.SpannedTrees.{Expr, bare_expr}
-use Rattle.minijinja_grammar.specs.Words.{is, is_true_word, is_false_word, is_none_word, is_constant_word, not_word, in_word, text_of, compare_op, begins_expr, begins_arg, begins_primary, begins_comparison, begins_bare}
+use Rattle.minijinja_grammar.specs.Words.{is, is_true_word, is_false_word, is_none_word, is_constant_word, not_word, in_word, text_of, compare_op, begins_expr, begins_arg, begins_comparison, begins_bare}
 use Rattle.minijinja_grammar.specs.Places.{Place}
 use Rattle.minijinja_grammar.specs.internal.Forms.{Turn, go_on, Form, pure, Takes, Turns, no_turn, turn, Derives}
 use Rattle.minijinja_grammar.specs.Ahead.{comes, held_next, IsDots, no_dot, dot_part, IsName, plain_name, dotted_name, IsTexts, no_text, one_text, IsCmpOp, one_token, not_in_words}
@@ -170,9 +170,6 @@ module _ {C F : Type 0} (f : Functions C F) (src : Text) (en : Ending) (ns : Lis
         ),
       )
 
-  text_turn : Text → Text → Form (Turn Text)
-  text_turn t u = pure (go_on (t ++ u))
-
   pub texts_read : {ts rest : List SpannedTok} {y : Text} → IsTexts ts rest y → (x : Text) (k : Span) →
       (r : Span) × TurnsOf (ahead.held text_of) (λ t u. pure (go_on (t ++ u))) x (at ts k) (at rest r) (x ++ y)
   texts_read (no_text {rest = rest} e) x k = (k, subst (λ z. TurnsOf (ahead.held text_of) (λ t u. pure (go_on (t ++ u))) x (at rest k) (at rest k) z) (sym (append_nil x)) (no_turn e))
@@ -210,10 +207,6 @@ module _ {C F : Type 0} (f : Functions C F) (src : Text) (en : Ending) (ns : Lis
 
   pub mark_taken : (m : Tok) (s : Span) (us : List SpannedTok) (k : Span) → is m m ≡ true → Takes (g.span_of_mark m) (at ((m, s) ∷ us) k) (at us s) s
   mark_taken m s us k e = taken (g.span_of_mark m) (m, s) us k s (rw e refl)
-
-  pub word_begins : (x : Text) (s : Span) (d : ℕ) (e : Expr C) (rest : List SpannedTok) (k : Span) → g.word f x s ≡ e → Derives (below f (suc d)).primary (at ((ident x, s) ∷ rest) k) (at rest s) e
-  unfolding below g.primary
-  word_begins x s d e rest k h = ((ident x, s), at rest s, kind_taken begins_primary (ident x, s) rest k refl, (refl, h))
 
   -- what nests in a part of that depth is derived by these forms
   abbrev pub Beneath : (ℕ → List SpannedTok → List SpannedTok → bare.Expr C → Type 0) → ℕ → List SpannedTok → List SpannedTok → bare.Expr C → Type 0
