@@ -3,7 +3,7 @@ use Rattle.std.proofs.Common.{◌≡◌, ◌≢◌, ℕ, zero, suc, ◌-◌, ari
 use Rattle.minijinja_value.specs.Values.{Functions}
 use Rattle.minijinja_grammar.specs.Places.{Place}
 use Rattle.minijinja_grammar.specs.internal.Forms.{misfit, reads}
-use Rattle.minijinja_grammar.specs.internal.ExprForms.{below, cond_level, deeper, not_level, operand, pow_level}
+use Rattle.minijinja_grammar.specs.internal.ExprForms.{below, cond_level, deeper, not_level, operand}
 use Rattle.minijinja_parser_tokens.specs.declared.operators.Level.TheVariants as level
 use Rattle.minijinja_parser_expr.specs.declared.rules.Nest.{Nest}
 use Rattle.minijinja_parser_expr.specs.declared.rules.Nest.TheVariants as nest
@@ -23,7 +23,7 @@ module _ {C F : Type 0} (f : Functions C F) where
   unfolding not_level
   opposite_is n d p e h = rw e (nested_is nest.Opposite d p h)
 
-  pub power_is : (n : Nest) (d : ℕ) (p : Place) → n ≡ nest.Power → d ≢ 0 → reads (nested_in n (below f d)) p ≡ reads (pow_level f (below f (d - 1))) p
+  pub power_is : (n : Nest) (d : ℕ) (p : Place) → n ≡ nest.Power → d ≢ 0 → reads (nested_in n (below f d)) p ≡ reads (level_at f (d - 1) level.Operand) p
   power_is n d p e h = rw e (nested_is nest.Power d p h)
 
   pub negated_is : (n : Nest) (d : ℕ) (p : Place) → n ≡ nest.Negated → d ≢ 0 → reads (nested_in n (below f d)) p ≡ reads (operand f (below f (d - 1))) p

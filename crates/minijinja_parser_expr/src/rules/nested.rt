@@ -32,7 +32,7 @@ pub fn nested<N: ExprBuilder>(
     match nest {
         Nest::Expr => rules.cond(tokens),
         Nest::Opposite => rules.level(tokens, Level::Not),
-        Nest::Power => rules.power(tokens),
+        Nest::Power => rules.level(tokens, Level::Operand),
         Nest::Negated => rules.operand(tokens),
     }
 }

@@ -70,7 +70,7 @@ impl<
 
     /// Reads an operand with its suffixes, and a `**` with its right operand, if one follows.
     #[tactic(auto, using(crate::proofs::Operands::power_is))]
-    pub(crate) fn power(&self, tokens: &mut N::Input) -> Result<N::Expr, Refusal>
+    fn power(&self, tokens: &mut N::Input) -> Result<N::Expr, Refusal>
         requires { Nests N.Input.place N.tree N.functions self.now.depth F.pre F.post
             self.now.parser }
         ensures { Parses N.Input.place N.tree (form.pow_level N.functions (below N.functions

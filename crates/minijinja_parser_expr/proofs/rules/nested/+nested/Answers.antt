@@ -17,7 +17,7 @@ pub returns-in-Opposite : goal.returns-in-Opposite
 returns-in-Opposite g t c = rw (opposite_is g.N.ExprBuilder.functions c.args.nest c.args.depth (g.N.Input.Tokens.place c.args.tokens.now) c.in-Opposite.is c.if-depth-eq0.false) c.level.ensures
 
 pub returns-in-Power : goal.returns-in-Power
-returns-in-Power g t c = rw (power_is g.N.ExprBuilder.functions c.args.nest c.args.depth (g.N.Input.Tokens.place c.args.tokens.now) c.in-Power.is c.if-depth-eq0.false) c.power.ensures
+returns-in-Power g t c = rw (power_is g.N.ExprBuilder.functions c.args.nest c.args.depth (g.N.Input.Tokens.place c.args.tokens.now) c.in-Power.is c.if-depth-eq0.false) c.level-in-Power.ensures
 
 pub returns-in-Negated : goal.returns-in-Negated
 returns-in-Negated g t c = rw (negated_is g.N.ExprBuilder.functions c.args.nest c.args.depth (g.N.Input.Tokens.place c.args.tokens.now) c.in-Negated.is c.if-depth-eq0.false) c.operand.ensures
