@@ -1,5 +1,5 @@
 -- The code of imports from other templates.
-use Rattle.std.proofs.Common.{◌≡◌, ℕ, suc, List, [], ◌∷◌, length, refl, ap, arith}
+use Rattle.std.proofs.Common.{◌≡◌, suc, List, [], ◌∷◌, length, refl, ap, arith}
 use Rattle.std.specs.Prelude.{false}
 use Rattle.minijinja_value.specs.Values.{Functions}
 use Rattle.minijinja_semantics.specs.Laws.{Laws}

@@ -1,10 +1,9 @@
 -- Code, places, units and well-formedness do not depend on the labels of loops and macros.
-use Rattle.std.proofs.Common.{◌≡◌, ℕ, List, [], ◌∷◌, ◌++◌, refl, sym, ap, ◌∙◌, subst}
+use Rattle.std.proofs.Common.{◌≡◌, List, [], ◌∷◌, ◌++◌, refl, sym, ap, ◌∙◌, subst}
 use Rattle.std.specs.Prelude.{Bool, true, false}
 use Rattle.minijinja_value.specs.Values.{Functions}
-use Rattle.minijinja_tree.specs.Tree.{Stmt, template, data_text, output, assignment, for_loop, if_cond, with_block, set_block, auto_escape, filter_block, named_block, extends, include, import_all, from_import, declare, call_block, do_call, break_loop, continue_loop, Stmts, done, also, Macro, macro, parameters, Block, blocks, all_blocks, block_names, all_block_names, names_of_blocks, are_any}
+use Rattle.minijinja_tree.specs.Tree.{Stmt, template, data_text, output, assignment, for_loop, if_cond, with_block, set_block, auto_escape, filter_block, named_block, extends, include, import_all, from_import, declare, call_block, do_call, break_loop, continue_loop, Stmts, done, also, Macro, macro, Block, blocks, all_blocks, block_names, all_block_names, names_of_blocks, are_any}
 use Rattle.minijinja_tree.specs.WellFormed.{IsInner, AreInner, IsMacro, IsRoot, AreDistinct, IsWellFormed}
-use Rattle.minijinja_tree.specs.Callees.{callee}
 use Rattle.minijinja_semantics.proofs.Ways.{closure_same, enclosed_by, flags_by}
 use Rattle.minijinja_semantics.specs.Pieces.{Here, behind, start, Piece, Exits, ◌▸◌, one, plain, Open, OpenScope, OpenAutoEscape, OpenCapture}
 use Rattle.minijinja_semantics.specs.Layout.{expr, assignments, looping, call_with, stmt, stmts, macro_value}
@@ -77,7 +76,7 @@ module _ {C L M : Type 0} (r : L → M) where
     inner_there break_loop l is = is
     inner_there continue_loop l is = is
 
-    all_there : (ss : Stmts C L) (l : Bool) → AreInner l ss → AreInner l (relabel_all r ss)
+    pub all_there : (ss : Stmts C L) (l : Bool) → AreInner l ss → AreInner l (relabel_all r ss)
     all_there done l is = tt
     all_there (also s rest) l is = (inner_there s l is.0, all_there rest l is.1)
 
@@ -114,7 +113,7 @@ module _ {C L M : Type 0} (r : L → M) where
     macro_back : (m : Macro C L) → IsMacro (relabel_macro r m) → IsMacro m
     macro_back (macro n x args defaults body) is = (is.0, is.1, is.2, all_back body false is.3, sym (all_names_same body) ∙ is.4)
 
-  root_there : (s : Stmt C L) → IsRoot s → IsRoot (relabel r s)
+  pub root_there : (s : Stmt C L) → IsRoot s → IsRoot (relabel r s)
   root_there (template ss) is = all_there ss false is
   root_there (data_text t) is = inner_there (data_text t) false is
   root_there (output e) is = inner_there (output e) false is
@@ -136,7 +135,7 @@ module _ {C L M : Type 0} (r : L → M) where
   root_there break_loop is = is
   root_there continue_loop is = is
 
-  root_back : (s : Stmt C L) → IsRoot (relabel r s) → IsRoot s
+  pub root_back : (s : Stmt C L) → IsRoot (relabel r s) → IsRoot s
   root_back (template ss) is = all_back ss false is
   root_back (data_text t) is = inner_back (data_text t) false is
   root_back (output e) is = inner_back (output e) false is

@@ -17,6 +17,7 @@ pub mod Chains
 pub mod Simulation
 pub mod Signals
 pub mod Turns
+pub mod Fits
 pub mod Targets
 pub mod MacroSimulation
 pub mod Imports
@@ -29,7 +30,17 @@ pub mod Whole
 pub mod Unbounded
 pub mod Labels
 pub mod UnitNodes
+pub mod Covering
+pub mod Mentioning
+pub mod Needing
+pub mod ScopeNeeding
+pub mod MacroNeeding
+pub mod ImportNeeding
+pub mod StmtNeeding
+pub mod Closures
+pub mod RunNeeding
 pub mod Samples
 pub mod Examples
 pub mod StatementExamples
 pub mod MacroExamples
+pub mod ClosureExamples

@@ -7,7 +7,6 @@ use Rattle.minijinja_tree.specs.FreeNames.{closure}
 use Rattle.minijinja_tree.specs.Folding.{fold, if_some, fold_on, fold_keywords}
 use Rattle.minijinja_tree.specs.Operators.{compute}
 use Rattle.minijinja_tree.specs.Comparisons.{compares}
-use Rattle.minijinja_semantics.specs.Events as events
 use Rattle.minijinja_semantics.specs.Events.{Kind, EmitRaw, Emit, LoadBlocks, Include, Lookup, StoreLocal, CallFunction, CallMethod, CallBlock, UnpackLists, PushWith, PopFrame, BeginCapture, EndCapture, Capture, Discard, Enclose, GetClosure, ExportLocals, Answer, Values, Event, event, operated, fitted, answered, ask}
 use Rattle.minijinja_semantics.specs.Machine.{State, At, Returned, iterated, AtReturn, run, step, asked, did, built, popped, popped_by, popped_counted, popped_pairs, traced}
 use Rattle.minijinja_semantics.specs.Naming.{state_as, event_of}

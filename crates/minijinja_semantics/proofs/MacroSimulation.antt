@@ -1,5 +1,5 @@
 -- The code that makes macros, of calls with a caller, and of the arguments that a macro stores.
-use Rattle.std.proofs.Common.{◌≡◌, ℕ, zero, suc, ◌+◌, ◌≤◌, List, [], ◌∷◌, ◌++◌, length, Some, refl, sym, ap, ◌∙◌, subst, arith, length-append}
+use Rattle.std.proofs.Common.{◌≡◌, ℕ, zero, suc, List, [], ◌∷◌, ◌++◌, length, Some, refl, sym, ap, ◌∙◌, subst, arith, length-append}
 use Rattle.std.proofs.lemmas.List.{reverse-append}
 use Rattle.std.specs.Prelude.{Bool, true, false, reverse}
 use Rattle.minijinja_syntax.specs.Texts.{Text}
@@ -14,7 +14,7 @@ use Rattle.minijinja_semantics.specs.Macros.{caller, enclosed, macro_flags, argu
 use Rattle.minijinja_semantics.specs.Meaning.{Taken, nothing_yet, with_one, keyword_map, spread, call_of as call_meaning, expr as expr_meaning, base as base_meaning, optional as optional_meaning, positional as positional_meaning, keyword as keyword_meaning, arguments as arguments_meaning, assign, enclose, made, keyword_and_caller, store_arguments}
 use Rattle.minijinja_semantics.specs.Code.{Instr, Load, Do, Call, BuildMacro, DiscardTop, Jump, JumpIfFalse, Return}
 use Rattle.minijinja_semantics.specs.Pieces.{Here, behind, outside, Piece, one, ◌▸◌, leading_to}
-use Rattle.minijinja_semantics.specs.Layout.{Count, count_positional, count_keyword, map_count, merged, spreading, call_of, expr, base, target, stmts, defaulting, taking, enclosing, count_with_caller, count_all_with_caller, up_to_caller, arguments_with, argument_count_with, macro_value}
+use Rattle.minijinja_semantics.specs.Layout.{Count, count_positional, count_keyword, map_count, merged, spreading, call_of, expr, base, stmts, defaulting, taking, enclosing, count_with_caller, count_all_with_caller, up_to_caller, arguments_with, argument_count_with, macro_value}
 use Rattle.minijinja_semantics.specs.Machine.{At, size, OneValue, pushed}
 use Rattle.minijinja_semantics.specs.Places.{before_caller, placed_macro}
 use Rattle.minijinja_semantics.proofs.Ways.{closure_placed, enclosed_by, flags_by}

@@ -1,7 +1,5 @@
 -- The code of assignments, and of chains of filters that wait for a value.
-use Rattle.std.proofs.Common.{◌≡◌, ℕ, List, [], ◌∷◌, ◌++◌, length, Some, None, refl, sym, ap, ◌∙◌, arith}
-use Rattle.std.specs.Prelude.{Bool, true, false, ◌==◌, if◌then◌else◌}
-use Rattle.std.proofs.lemmas.Bool.{eqb-true}
+use Rattle.std.proofs.Common.{◌≡◌, ℕ, List, [], ◌∷◌, ◌++◌, length, None, refl, arith}
 use Rattle.minijinja_value.specs.Values.{Functions}
 use Rattle.minijinja_semantics.specs.Laws.{Laws}
 use Rattle.minijinja_tree.specs.Tree.{Expr, variable, attribute, list, Optional, absent, present, Exprs, no_more, more}
@@ -12,19 +10,12 @@ use Rattle.minijinja_semantics.specs.Meaning.{assign, assign_each, assign_all, f
 use Rattle.minijinja_semantics.specs.Code.{Instr, UnpackList}
 use Rattle.minijinja_semantics.specs.Pieces.{one}
 use Rattle.minijinja_semantics.specs.Layout.{target, targets, assignments, filters}
+use Rattle.minijinja_semantics.proofs.Fits.{so_many_length}
 use Rattle.minijinja_semantics.proofs.Placed.{Stretch}
 use Rattle.minijinja_semantics.proofs.Runs.{Any, first, asks}
 use Rattle.minijinja_semantics.proofs.Lengths.{one_exact, then_exact, expr_exact, target_exact, targets_exact, assignments_exact}
 use Rattle.minijinja_semantics.proofs.Parts.{Simulates, sim_then, sim_nothing, sim_do_tell}
 use Rattle.minijinja_semantics.proofs.Simulation.{expr_sim, chain_of_filters_sim}
-
-tested_length : {C : Type 0} (n : ℕ) (vs us : List C) (b : Bool) → (length vs == n) ≡ b → (if b then Some vs else None) ≡ Some us → length us ≡ n
-tested_length n vs us true is e = let same : vs ≡ us = cc in ap length (sym same) ∙ eqb-true (length vs) n is
-tested_length n vs us false is e = absurd (cc)
-
--- so many values are as many
-so_many_length : {C : Type 0} (n : ℕ) (vs us : List C) → so_many_fit n vs ≡ Some us → length us ≡ n
-so_many_length n vs us e = tested_length n vs us (length vs == n) refl e
 
 module _ {C F : Type 0} (f : Functions C F) (laws : Laws f) (code : List (Instr C)) (to : Stretch) where
   unpack_sim : (n : ℕ) (v : C) (ops : List C) → Simulates f code to (one (UnpackList n)) (v ∷ ops) (λ vs. length vs ≡ n) (λ vs. vs ++ ops) (take_apart n v)

@@ -11,7 +11,7 @@ use Rattle.minijinja_semantics.proofs.Unlabelled.{same_macro}
 
 module _ {C L M : Type 0} (r : L → M) where
   mutual
-    way_same : (s : Stmt C L) (w : Way) → through_stmt (relabel r s) w ≡ through_stmt s w
+    pub way_same : (s : Stmt C L) (w : Way) → through_stmt (relabel r s) w ≡ through_stmt s w
     way_same (template ss) w = rw (ways_same ss w) refl
     way_same (data_text t) w = refl
     way_same (output e) w = refl
@@ -33,7 +33,7 @@ module _ {C L M : Type 0} (r : L → M) where
     way_same break_loop w = refl
     way_same continue_loop w = refl
 
-    ways_same : (ss : Stmts C L) (w : Way) → through_stmts (relabel_all r ss) w ≡ through_stmts ss w
+    pub ways_same : (ss : Stmts C L) (w : Way) → through_stmts (relabel_all r ss) w ≡ through_stmts ss w
     ways_same done w = refl
     ways_same (also s rest) w = ap (through_stmt (relabel r s)) (ways_same rest w) ∙ way_same s (through_stmts rest w)
 

@@ -15,4 +15,5 @@ pub mod Brackets
 pub mod Naming
 pub mod Places
 pub mod Correct
+pub mod Needs
 pub mod Units

@@ -1,20 +1,22 @@
 //! Laws about what trees mean and about their layout.
-ghost use Rattle.std.specs.Prelude.{◌≡◌, ◌↔◌, [], All, Some, length, map};
+ghost use Rattle.std.specs.Prelude.{◌≡◌, ◌↔◌, List, [], ◌∷◌, All, Some, codes, length, map};
 ghost use Rattle.minijinja_tree.specs.Folding.{fold};
-ghost use Rattle.minijinja_tree.specs.Tree.{Expr, Stmt, Stmts, blocks};
-ghost use Rattle.minijinja_tree.specs.WellFormed.{IsWellFormed, IsWhole};
-ghost use Rattle.minijinja_semantics.specs.Code.{Load};
-ghost use Rattle.minijinja_semantics.specs.Correct.{DoesExpr, DoesStmt};
-ghost use Rattle.minijinja_semantics.specs.Events.{Event, World, Gave};
+ghost use Rattle.minijinja_tree.specs.FreeNames.{closure};
+ghost use Rattle.minijinja_tree.specs.Tree.{Expr, Macro, Stmt, Stmts, blocks};
+ghost use Rattle.minijinja_tree.specs.WellFormed.{IsMacro, IsWellFormed, IsWhole};
+ghost use Rattle.minijinja_semantics.specs.Code.{Instr, Load};
+ghost use Rattle.minijinja_semantics.specs.Correct.{DoesExpr, DoesStmt, a_statement, fresh};
+ghost use Rattle.minijinja_semantics.specs.Events.{Answer, Event, World, Gave};
 ghost use Rattle.minijinja_semantics.specs.Jumps.{LeadsWell};
 ghost use Rattle.minijinja_semantics.specs.Layout.{block_code, expr_code, stmt_code};
 ghost use Rattle.minijinja_semantics.specs.Layout as layout;
-ghost use Rattle.minijinja_semantics.specs.Meaning.{HasNoBound, do_body, keep_if};
+ghost use Rattle.minijinja_semantics.specs.Meaning.{HasNoBound, do_body, keep_if, macro_run};
 ghost use Rattle.minijinja_semantics.specs.Meaning as meaning;
 ghost use Rattle.minijinja_semantics.specs.Naming.{all_unlabelled, did_as, relabel, renamed, unlabelled, world_as};
+ghost use Rattle.minijinja_semantics.specs.Needs.{MacrosNeedOnly, NeedsOnly, RunsNeedOnly, body_of, closure_of, made_in, made_in_all, parameters_of, undeclared};
 ghost use Rattle.minijinja_semantics.specs.Pieces.{Here, one, start};
 ghost use Rattle.minijinja_semantics.specs.Places.{begin_of, placed_block, placed_stmt};
-ghost use Rattle.minijinja_semantics.specs.Units.{DoBlocks, DoUnits, all_enterable, all_units, enterable, relabel_enterable, units};
+ghost use Rattle.minijinja_semantics.specs.Units.{DoBlocks, DoUnits, DoesBlock, all_enterable, all_units, enterable, relabel_enterable, units};
 
 use minijinja_value::value::TemplateValue;
 
@@ -98,4 +100,39 @@ pub fn folded_is_constant<V: TemplateValue, N>()
         (w : World (Event N V.Contents) V.Contents) → meaning.expr V.functions e w ≡ Gave w c }
     ensures code { (e : Expr V.Contents) (c : V.Contents) → fold V.functions e ≡ Some c →
         layout.expr V.functions e ≡ one (Load c) }
+{}
+
+/// Closures are enough. Whatever is answered, each name that a called macro looks up, calls or
+/// encloses while it is not stored is in the macro's closure. In a template, each such name is
+/// undeclared, or it is `self`. Aside stand a macro's own name among those that it encloses, and
+/// the names that a from import looks up in its template.
+pub fn closures_are_enough<V: TemplateValue, N>()
+    ensures macro_body { (m : Macro V.Contents N) → IsMacro m → (values : List V.Contents) →
+        length values ≡ length (parameters_of m) → (answers : List (Answer V.Contents)) →
+        NeedsOnly (closure m) (made_in_all (body_of m)) (macro_run V.functions (parameters_of m)
+        (body_of m) values (fresh answers)) }
+    ensures template { (t : Stmt V.Contents N) → IsWellFormed t → (answers : List (Answer
+        V.Contents)) → NeedsOnly (codes "self" ∷ undeclared t) (made_in t) (meaning.stmt V.functions
+        t (fresh answers)) }
+{}
+
+/// Closures are enough for runs of code that does what a tree means. Whatever is answered, each name
+/// that such a run looks up, calls or encloses while it is not stored is undeclared in the tree, or
+/// it is `self`. Where the run begins at what a macro runs, in the code of the tree or in the list
+/// of one of its blocks, each such name is in the macro's closure. Aside stand a macro's own name
+/// among those that it encloses, and the names that a from import looks up in its template. The
+/// answers and the values in them are fewer than 2^64.
+pub fn runs_need_only_closures<V: TemplateValue, L>()
+    ensures template { (t : Stmt V.Contents L) (code : List (Instr V.Contents)) → IsWellFormed t →
+        DoesStmt V.functions code 0 (length code) (placed_stmt V.functions t start) →
+        RunsNeedOnly V.functions code (a_statement 0 (length code))
+        (codes "self" ∷ undeclared t) (made_in t) }
+    ensures macros { (t : Stmt V.Contents L) (code : List (Instr V.Contents)) → IsWellFormed t →
+        DoUnits V.functions code t start →
+        MacrosNeedOnly V.functions code (units V.functions [] t start) }
+    ensures blocks { (t : Stmt V.Contents L) → IsWellFormed t →
+        All (λ b. (code : List (Instr V.Contents)) → DoesBlock V.functions code b.body →
+        MacrosNeedOnly V.functions code (all_units V.functions [] b.body start)) (blocks t) }
+    ensures closure { (m : Macro V.Contents L) →
+        closure_of (parameters_of m) (body_of m) ≡ closure m }
 {}
