@@ -1,4 +1,18 @@
-//! The laws of the definitions that the contracts of all layers use.
+//! The laws of the definitions that the contracts of all layers use, and what one of them says of
+//! compiled code.
+ghost use Rattle.std.specs.Prelude.{[], ◌∷◌, All, IfSome, codes, length};
+ghost use Rattle.minijinja_syntax.specs.Syntax.{Syntax};
+ghost use Rattle.minijinja_syntax.specs.Texts.{Text};
+ghost use Rattle.minijinja_tree.specs.Tree.{blocks};
+ghost use Rattle.minijinja_instructions.specs.Instructions.{code_of};
+ghost use Rattle.minijinja_semantics.specs.Correct.{a_statement};
+ghost use Rattle.minijinja_semantics.specs.Needs.{MacrosNeedOnly, RunsNeedOnly, made_in, undeclared};
+ghost use Rattle.minijinja_semantics.specs.Pieces.{start};
+ghost use Rattle.minijinja_semantics.specs.Units.{all_units, units};
+ghost use Rattle.minijinja_code.specs.BlockLists.{list_of};
+ghost use Rattle.minijinja_compiler.specs.Headline.{IsCompiled};
+ghost use Rattle.minijinja_compiler.specs.declared.compile.Compiled.{Compiled};
+
 pub use minijinja_grammar::laws::{
     derivable_deeper, derives, one_tree, only_what_follows_counts, refuses, rows_are_bounded,
     trees_are_well_formed,
@@ -8,7 +22,30 @@ pub use minijinja_lexer::laws::{
     some_expression,
 };
 pub use minijinja_semantics::laws::{
-    folded_is_constant, layout_does_what_is_meant, layout_leads_well, loops_have_no_bound,
-    names_are_not_looked_at, placed_tree_is_the_tree, units_are_enterable,
+    closures_are_enough, folded_is_constant, layout_does_what_is_meant, layout_leads_well,
+    loops_have_no_bound, names_are_not_looked_at, placed_tree_is_the_tree, units_are_enterable,
 };
 pub use minijinja_value::laws::{equality_is_an_equivalence, keys_are_distinct};
+use minijinja_value::value::TemplateValue;
+
+/// Closures are enough for what is compiled. Whatever is answered, each name that a run of a
+/// compiled template looks up, calls or encloses while it is not stored is undeclared in its tree,
+/// or it is `self`. Where the run begins at what a macro runs, in the template or in the list of
+/// one of its blocks, each such name is in the macro's closure. Aside stand a macro's own name
+/// among those that it encloses, and the names that a from import looks up in its template. The
+/// answers and the values in them are fewer than 2^64.
+pub fn runs_need_only_closures<V: TemplateValue>()
+    ensures template { (syntax : Syntax) (source filename : Text) (c : Compiled V V.Fault)
+        (k : IsCompiled V.functions V.contents syntax source filename c) →
+        RunsNeedOnly V.functions (code_of V.contents c.instructions)
+        (a_statement 0 (length (code_of V.contents c.instructions)))
+        (codes "self" ∷ undeclared k.tree) (made_in k.tree) }
+    ensures macros { (syntax : Syntax) (source filename : Text) (c : Compiled V V.Fault)
+        (k : IsCompiled V.functions V.contents syntax source filename c) →
+        MacrosNeedOnly V.functions (code_of V.contents c.instructions)
+        (units V.functions [] k.tree start) }
+    ensures blocks { (syntax : Syntax) (source filename : Text) (c : Compiled V V.Fault)
+        (k : IsCompiled V.functions V.contents syntax source filename c) →
+        All (λ b. IfSome (list_of c.blocks b.name) (λ is. MacrosNeedOnly V.functions
+        (code_of V.contents is) (all_units V.functions [] b.body start))) (blocks k.tree) }
+{}
