@@ -1,1 +1,4 @@
+pub mod Mentions
+pub mod Occurrences
+pub mod Segments
 pub mod private

@@ -1,4 +1,6 @@
 -- What the crate says of its own private functions.
-pub mod FoundNames
-pub mod Mentions
+pub mod Parts
+pub mod Scoped
+pub mod Walked
 pub mod Ways
+pub mod Written

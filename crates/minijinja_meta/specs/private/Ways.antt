@@ -1,16 +1,23 @@
 -- Ways through parts of statements.
-use Rattle.std.specs.Prelude.{codes}
-use Rattle.minijinja_tree.specs.FreeNames.{Way, end, stores, region, through_stmt, through_macro}
-use Rattle.minijinja_tree.specs.Tree.{Stmt, Macro}
+use Rattle.std.specs.Prelude.{codes, map}
+use Rattle.minijinja_syntax.specs.declared.tokens.Span.{Span}
+use Rattle.minijinja_tree.specs.SpannedErasure.{stmt_node, trees}
+use Rattle.minijinja_tree.specs.SpannedTrees.{Macro, macro, stmts_of}
+use Rattle.minijinja_tree.specs.declared.ast.Macro.{Macro as Node}
+use Rattle.minijinja_meta.specs.Mentions.{Way, end, stores, region, through_macro}
+
+-- a span for what stands on a way by its parts alone
+abbrev pub nowhere : Span
+nowhere = record { start_line = 0; start_col = 0; start_offset = 0; end_line = 0; end_col = 0; end_offset = 0 }
 
 -- the way through a part that is a region
 abbrev pub in_region : (Way → Way) → Way → Way
 in_region v w = region (v end) w
 
--- a macro where it stands in a statement
-abbrev pub within_macro : {C L : Type 0} → Macro C L → Way → Way
-within_macro m w = region (stores (codes "caller") (through_macro m end)) w
+-- a macro, and where it stands
+abbrev pub macro_node : {V F C : Type 0} → (V → C) → Node V F → Span → Macro C
+macro_node c m s = macro m.name.now (trees c m.args.items) (trees c m.defaults.items) (stmts_of (map (stmt_node c) m.body.items)) s
 
--- the way through a statement with no labels
-abbrev pub way_of : {C : Type 0} → Stmt C (Unit {0}) → Way → Way
-way_of s = through_stmt s
+-- a macro where it stands in a statement
+abbrev pub within_macro : {C : Type 0} → Macro C → Way → Way
+within_macro m w = region (stores (codes "caller") (through_macro m end)) w

@@ -1,13 +1,10 @@
-use Rattle.std.proofs.Common.{map, ap, subst, ◌∙◌}
-use Rattle.std.specs.BTreeSet.{keys, IsOrdered}
-use Rattle.std.specs.Ordering.{nat_cmp}
-use Rattle.std.specs.Cmp.Lexicographic.{slice_cmp}
-use Rattle.minijinja_tree.specs.Erasure.{expr_tree}
-use Rattle.minijinja_tree.specs.FreeNames.{through_stmts, to_parameters}
-use Rattle.minijinja_tree.specs.Tree.{parameters}
-use Rattle.minijinja_meta.specs.private.FoundNames.{Walks}
-use Rattle.minijinja_meta.proofs.Closing.{found-is}
-use Rattle.minijinja_tree.proofs.Rows.{body_of}
+use Rattle.std.proofs.Common.{ap, ◌∙◌, subst}
+use Rattle.minijinja_tree.specs.SpannedErasure.{trees}
+use Rattle.minijinja_meta.specs.Mentions.{free_of, in_order, names_of, through_stmts, to_parameters}
+use Rattle.minijinja_meta.specs.Occurrences.{found_of}
+use Rattle.minijinja_meta.specs.private.Walked.{Walks}
+use Rattle.minijinja_meta.proofs.Finding.{closure-is, found-is}
+use Rattle.minijinja_meta.proofs.StatementNodes.{body_of}
 use Rattle.minijinja_meta.proofs.Walking.{walks-on}
 use Rattle.minijinja_meta.proofs.meta.find_macro_closure.Goals as goal
 
@@ -15,10 +12,11 @@ pub returns-clause-closure : goal.returns-clause-closure
 returns-clause-closure g c =
     let v = g.V.TemplateValue.contents in
     let m = c.args.declared.now in
-    let s = c.new-names.result in
-    let t = c.statements.new.names in
-    let heads = to_parameters (parameters (map (expr_tree v) m.args.items) (map (expr_tree v) m.defaults.items)) in
+    let s = c.new-walker.result in
+    let t = c.statements.new.walker in
+    let heads = to_parameters (trees v m.args.items) (trees v m.defaults.items) in
     let body = through_stmts (body_of v m.body.items) in
-    let second : Walks c.parameters.new.names t body = subst (λ xs. Walks c.parameters.new.names t (through_stmts (body_of v xs))) c.deref.ensures.value c.in_ok-statements.ensures in
-    ap (λ f. map (λ x. x.now) (keys f)) c.into_free.ensures.same ∙
-    found-is s t (λ w. heads (body w)) c.new-names.ensures.logged c.new-names.ensures.free c.new-names.ensures.stored (walks-on s c.parameters.new.names t heads body c.in_ok-parameters.ensures second) (subst (λ f. IsOrdered (λ x y. slice_cmp nat_cmp x.now y.now) f) c.into_free.ensures.same c.into_free.ensures.ordered)
+    let second : Walks v c.parameters.new.walker t body = subst (λ xs. Walks v c.parameters.new.walker t (through_stmts (body_of v xs))) c.deref.ensures.value c.in_ok-statements.ensures in
+    let walked = walks-on v s c.parameters.new.walker t heads body c.in_ok-parameters.ensures second in
+    c.in_ok-plain_names.ensures ∙ ap (λ os. in_order (names_of (free_of (found_of v os)))) c.deref-2.ensures.value
+    ∙ ap (λ l. in_order (names_of (free_of l))) (found-is v s t c.new-walker.ensures (λ w. heads (body w)) walked) ∙ closure-is v m
