@@ -1,12 +1,12 @@
 -- The code of `if` statements while it is being made.
-use Rattle.std.proofs.Common.{◌≡◌, ℕ, ◌+◌, ◌<◌, ◌≤◌, List, [], ◌∷◌, length, refl, sym, ap, ◌∙◌, subst, arith, length-append}
+use Rattle.std.proofs.Common.{◌≡◌, ℕ, ◌+◌, ◌<◌, ◌≤◌, [], ◌∷◌, length, refl, sym, ap, ◌∙◌, subst, arith, length-append}
 use Rattle.std.specs.Prelude.{true, false}
 use Rattle.std.proofs.lemmas.List.{length-set}
 use Rattle.minijinja_value.specs.Values.{Functions}
 use Rattle.minijinja_tree.specs.Tree.{Expr, if_cond, Stmts, done, also, are_any}
 use Rattle.minijinja_semantics.specs.Code.{Jump, JumpIfFalse}
 use Rattle.minijinja_semantics.specs.Layout.{expr, stmts, either}
-use Rattle.minijinja_semantics.specs.Pieces.{Piece, Leading, Exits, nothing, one, ◌▸◌, plain, ◌▹◌, leading_to, branches, branches_out, skipping_out}
+use Rattle.minijinja_semantics.specs.Pieces.{Piece, Leading, Exits, one, ◌▸◌, plain, ◌▹◌, leading_to, branches, branches_out, skipping_out}
 use Rattle.minijinja_code_parts.specs.Hint.{all_data_bytes}
 use Rattle.minijinja_code_expr.specs.internal.Branching.{BeginsElse, Opened, ending_at, set_at}
 use Rattle.minijinja_code_parts.specs.internal.IfParts.{Tests}

@@ -13,7 +13,7 @@ use Rattle.minijinja_value.specs.Values.{Functions}
 use Rattle.minijinja_tree.specs.Erasure.{stmt_tree}
 use Rattle.minijinja_tree.specs.Tree as tree
 use Rattle.minijinja_tree.specs.Tree.{template, data_text, output, assignment, for_loop, if_cond, with_block, set_block, auto_escape, filter_block, named_block, extends, include, import_all, from_import, declare, call_block, do_call, break_loop, continue_loop, Stmts, done, also, Macro, macro, Block, blocks, all_blocks, macro_blocks, names_of_blocks}
-use Rattle.minijinja_tree.specs.WellFormed.{IsInner, AreInner, IsMacro, AreDistinct}
+use Rattle.minijinja_tree.specs.WellFormed.{AreInner, IsMacro, AreDistinct}
 use Rattle.minijinja_tree.specs.declared.ast.Stmt.{Stmt, size-Stmt}
 use Rattle.minijinja_tree.proofs.Rows.{body_of}
 use Rattle.minijinja_instructions.specs.InstructionLists.{Instructions}
@@ -208,6 +208,9 @@ module _ {V E C L F : Type 0} (f : Functions C F) (contents : V → C) (source f
 
   pub adds_none : (m : BTreeMap (Bor Text) (Instructions V E)) → (let none : List (Block C L) = [] in AddsLists f contents source filename none m m)
   adds_none m = record { added = All-nil (HasList m); others = λ x h. refl }
+
+  pub adds_nothing : (bs : List (Block C L)) (m : BTreeMap (Bor Text) (Instructions V E)) → bs ≡ [] → AddsLists f contents source filename bs m m
+  adds_nothing bs m e = rw e (adds_none m)
 
   -- Of all these blocks some have their lists, and these are left.
   pub record Walking (whole : List (Block C L)) (first : BTreeMap (Bor Text) (Instructions V E)) (left : List (Block C L)) (now : BTreeMap (Bor Text) (Instructions V E)) : Type 0 where

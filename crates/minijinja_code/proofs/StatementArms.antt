@@ -1,5 +1,5 @@
 -- The tree of a statement, by its node.
-use Rattle.std.proofs.Common.{◌≡◌, List, sym, ap, ◌∙◌, refl}
+use Rattle.std.proofs.Common.{◌≡◌, sym, ap, ◌∙◌}
 use Rattle.minijinja_tree.specs.Nodes.{node_of}
 use Rattle.minijinja_tree.specs.Erasure.{expr_tree, optional_of, args_of, assignments_of, names_of, macro_tree, stmt_tree}
 use Rattle.minijinja_tree.specs.Tree as tree

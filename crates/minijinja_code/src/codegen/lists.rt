@@ -94,12 +94,44 @@ pub(super) fn add_lists<'s, V: TemplateValue>(
     let first = body(stmt);
     let second = else_body(stmt);
     for inner in first {
-        add_lists(lists, alloc, source, inner)?;
+        if nests(inner) {
+            add_lists(lists, alloc, source, inner)?;
+        }
     }
     for inner in second {
-        add_lists(lists, alloc, source, inner)?;
+        if nests(inner) {
+            add_lists(lists, alloc, source, inner)?;
+        }
     }
     Ok(())
+}
+
+/// Whether a statement has nested statements. Most have none, and so no blocks.
+fn nests<V: TemplateValue>(stmt: &Stmt<'_, V>) -> bool
+    ensures { result ≡ false → blocks (stmt_tree V.contents stmt.now) ≡ [] }
+{
+    match stmt {
+        Stmt::Template(_) => true,
+        Stmt::ForLoop(_) => true,
+        Stmt::IfCond(_) => true,
+        Stmt::WithBlock(_) => true,
+        Stmt::SetBlock(_) => true,
+        Stmt::AutoEscape(_) => true,
+        Stmt::FilterBlock(_) => true,
+        Stmt::Block(_) => true,
+        Stmt::Macro(_) => true,
+        Stmt::CallBlock(_) => true,
+        Stmt::EmitExpr(_) => false,
+        Stmt::EmitRaw(_) => false,
+        Stmt::Set(_) => false,
+        Stmt::Import(_) => false,
+        Stmt::FromImport(_) => false,
+        Stmt::Extends(_) => false,
+        Stmt::Include(_) => false,
+        Stmt::Continue(_) => false,
+        Stmt::Break(_) => false,
+        Stmt::Do(_) => false,
+    }
 }
 
 /// The statements of a template, or the body of a statement: of an `if` the part for a true condition,

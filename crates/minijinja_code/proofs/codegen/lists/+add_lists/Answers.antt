@@ -1,13 +1,14 @@
-use Rattle.std.proofs.Common.{rules, arith, ◌≡◌, ◌+◌, ◌<◌, ◌++◌, ◌∷◌, [], length, drop, ap, sym, subst}
+use Rattle.std.proofs.Common.{rules, arith, ◌≡◌, ◌+◌, ◌<◌, ◌++◌, [], length, drop, ap, sym, subst}
 use Rattle.minijinja_tree.specs.Erasure.{stmt_tree}
 use Rattle.minijinja_tree.specs.Tree.{all_blocks, blocks}
 use Rattle.minijinja_tree.specs.declared.ast.Stmt.{size-Stmt}
 use Rattle.minijinja_tree.proofs.Rows.{body_of}
 use Rattle.minijinja_code.specs.Generator.{HaveTooLong}
 use Rattle.minijinja_code.specs.declared.codegen.lists.ListError.TheVariants.{TooMany}
-use Rattle.minijinja_code.proofs.ListWalks.{StandSomewhere, Walking, after_stand, blocks_after, blocks_end, blocks_next, bodies_stand, here_stands, own_long, smaller_here, walk_end, walk_long, walk_names, walk_on, walk_start}
+use Rattle.minijinja_code.proofs.ListWalks.{StandSomewhere, Walking, after_stand, blocks_after, blocks_end, blocks_next, bodies_stand, here_stands, own_long, adds_nothing, smaller_here, walk_end, walk_long, walk_names, walk_on, walk_start}
 use Rattle.minijinja_code.proofs.OwnBlocks.{passed_on}
 use Rattle.minijinja_code.proofs.codegen.lists.+add_lists.Goals as goal
+use Rattle.minijinja_code.proofs.codegen.lists.+add_lists.Goals.{then-nests+in_ok-add_lists, else-nests, then-nests-2+in_ok-add_lists-2, else-nests-2}
 
 pub returns-in_err-add_list_of-clause-too_many : goal.returns-in_err-add_list_of-clause-too_many
 returns-in_err-add_list_of-clause-too_many g t c =
@@ -60,7 +61,12 @@ loop-inner-preserved g t c =
     let next : now ≡ blocks (stmt_tree v x) ++ rest = blocks_next v xs l.inner-index x within c.inner-item.is (all_blocks (body_of v ys)) in
     record {
       stand = after_stand v xs l.inner-index x within c.inner-item.is l.invariant.stand;
-      walking = walk_on f v c.args.source.text.now c.args.source.name.now (blocks s) c.requires.names c.args.lists.now now (blocks (stmt_tree v x)) rest next l.invariant.walking c.in_ok-add_lists.ensures.added;
+      walking = elim c.if-nests.branch [
+        | then-nests+in_ok-add_lists w ↦ rw w.lists-is (walk_on f v c.args.source.text.now c.args.source.name.now (blocks s) c.requires.names c.args.lists.now now (blocks (stmt_tree v x)) rest next l.invariant.walking w.in_ok-add_lists.ensures.added)
+        | else-nests w ↦
+            let none = adds_nothing f v c.args.source.text.now c.args.source.name.now (blocks (stmt_tree v x)) l.lists (c.nests.ensures w.if-nests.false) in
+            rw w.lists-is (walk_on f v c.args.source.text.now c.args.source.name.now (blocks s) c.requires.names c.args.lists.now now (blocks (stmt_tree v x)) rest next l.invariant.walking none)
+      ];
     }
 
 pub returns-in_err-add_lists-clause-too_many : goal.returns-in_err-add_lists-clause-too_many
@@ -93,8 +99,8 @@ loop-inner-2-init g t c =
       walking = subst (λ bs. Walking f v c.args.source.text.now c.args.source.name.now (blocks s) c.args.lists.now (bs ++ all_blocks (body_of v ys)) l.lists) none l.invariant.walking;
     }
 
-pub add_lists-requires-in-loop-inner-2 : goal.add_lists-requires-in-loop-inner-2
-add_lists-requires-in-loop-inner-2 g t c =
+pub add_lists-requires-then-nests-2 : goal.add_lists-requires-then-nests-2
+add_lists-requires-then-nests-2 g t c =
     let v = g.V.TemplateValue.contents in
     let f = g.V.TemplateValue.functions in
     let s = stmt_tree v c.args.stmt.now in
@@ -124,7 +130,12 @@ loop-inner-2-preserved g t c =
     let next : now ≡ blocks (stmt_tree v x) ++ rest = blocks_after v ys l.inner-index x within c.inner-item-in-loop-inner-2.is in
     record {
       stand = after_stand v ys l.inner-index x within c.inner-item-in-loop-inner-2.is l.invariant.stand;
-      walking = walk_on f v c.args.source.text.now c.args.source.name.now (blocks s) c.requires.names c.args.lists.now now (blocks (stmt_tree v x)) rest next l.invariant.walking c.in_ok-add_lists-2.ensures.added;
+      walking = elim c.if-nests-2.branch [
+        | then-nests-2+in_ok-add_lists-2 w ↦ rw w.lists-is (walk_on f v c.args.source.text.now c.args.source.name.now (blocks s) c.requires.names c.args.lists.now now (blocks (stmt_tree v x)) rest next l.invariant.walking w.in_ok-add_lists-2.ensures.added)
+        | else-nests-2 w ↦
+            let none = adds_nothing f v c.args.source.text.now c.args.source.name.now (blocks (stmt_tree v x)) l.lists (c.nests-in-loop-inner-2.ensures w.if-nests-2.false) in
+            rw w.lists-is (walk_on f v c.args.source.text.now c.args.source.name.now (blocks s) c.requires.names c.args.lists.now now (blocks (stmt_tree v x)) rest next l.invariant.walking none)
+      ];
     }
 
 pub returns-in_err-add_lists-2-clause-too_many : goal.returns-in_err-add_lists-2-clause-too_many

@@ -1,17 +1,16 @@
 use Rattle.std.proofs.Common.{rules, arith, ◌<◌, ap, sym, ◌∙◌}
 use denote.Param.Weighed.{most}
-use Rattle.minijinja_tree.specs.Erasure.{stmt_tree}
-use Rattle.minijinja_tree.specs.declared.ast.Stmt.{Stmt, size-Stmt, the_lemmas}
-use Rattle.minijinja_tree.specs.declared.ast.Template.{Template, size-Template, the_lemmas as template_lemmas}
-use Rattle.minijinja_tree.specs.declared.ast.ForLoop.{ForLoop, size-ForLoop, the_lemmas as forloop_lemmas}
-use Rattle.minijinja_tree.specs.declared.ast.IfCond.{IfCond, size-IfCond, the_lemmas as ifcond_lemmas}
-use Rattle.minijinja_tree.specs.declared.ast.WithBlock.{WithBlock, size-WithBlock, the_lemmas as withblock_lemmas}
-use Rattle.minijinja_tree.specs.declared.ast.SetBlock.{SetBlock, size-SetBlock, the_lemmas as setblock_lemmas}
-use Rattle.minijinja_tree.specs.declared.ast.AutoEscape.{AutoEscape, size-AutoEscape, the_lemmas as autoescape_lemmas}
-use Rattle.minijinja_tree.specs.declared.ast.FilterBlock.{FilterBlock, size-FilterBlock, the_lemmas as filterblock_lemmas}
-use Rattle.minijinja_tree.specs.declared.ast.Block.{Block, size-Block, the_lemmas as block_lemmas}
+use Rattle.minijinja_tree.specs.declared.ast.Stmt.{size-Stmt, the_lemmas}
+use Rattle.minijinja_tree.specs.declared.ast.Template.{size-Template, the_lemmas as template_lemmas}
+use Rattle.minijinja_tree.specs.declared.ast.ForLoop.{size-ForLoop, the_lemmas as forloop_lemmas}
+use Rattle.minijinja_tree.specs.declared.ast.IfCond.{size-IfCond, the_lemmas as ifcond_lemmas}
+use Rattle.minijinja_tree.specs.declared.ast.WithBlock.{size-WithBlock, the_lemmas as withblock_lemmas}
+use Rattle.minijinja_tree.specs.declared.ast.SetBlock.{size-SetBlock, the_lemmas as setblock_lemmas}
+use Rattle.minijinja_tree.specs.declared.ast.AutoEscape.{size-AutoEscape, the_lemmas as autoescape_lemmas}
+use Rattle.minijinja_tree.specs.declared.ast.FilterBlock.{size-FilterBlock, the_lemmas as filterblock_lemmas}
+use Rattle.minijinja_tree.specs.declared.ast.Block.{size-Block, the_lemmas as block_lemmas}
 use Rattle.minijinja_tree.specs.declared.ast.Macro.{Macro, size-Macro, the_lemmas as macro_lemmas}
-use Rattle.minijinja_tree.specs.declared.ast.CallBlock.{CallBlock, size-CallBlock, the_lemmas as callblock_lemmas}
+use Rattle.minijinja_tree.specs.declared.ast.CallBlock.{size-CallBlock, the_lemmas as callblock_lemmas}
 use Rattle.minijinja_tree.proofs.Rows.{body_of}
 use Rattle.minijinja_code.specs.private.Lists.{bodies_of}
 use Rattle.minijinja_code.proofs.ListWalks.{each_smaller}

@@ -1,6 +1,5 @@
 use Rattle.std.proofs.Common.{rules, arith, ◌<◌, ap, sym, ◌∙◌}
 use denote.Param.Weighed.{most}
-use Rattle.minijinja_tree.specs.Erasure.{stmt_tree}
 use Rattle.minijinja_tree.specs.declared.ast.Stmt.{size-Stmt, the_lemmas}
 use Rattle.minijinja_tree.specs.declared.ast.ForLoop.{size-ForLoop, the_lemmas as forloop_lemmas}
 use Rattle.minijinja_tree.specs.declared.ast.IfCond.{size-IfCond, the_lemmas as ifcond_lemmas}
