@@ -8,6 +8,7 @@ mod calls;
 mod expr;
 mod imports;
 mod macros;
+mod names;
 mod print;
 mod shipped;
 mod statements;

@@ -1,8 +1,10 @@
--- A text that has a tree fails to compile only by a limit.
+-- A text that has a tree is refused only by a limit.
 use Rattle.std.proofs.Common.{◌≡◌, ◌⊎◌, inl, inr, subst}
 use Rattle.minijinja_syntax.specs.Errors.{kind_of}
 use Rattle.minijinja_syntax.specs.declared.error.Error.{Error}
 use Rattle.minijinja_syntax.specs.declared.error.ErrorKind.TheVariants.{SourceTooLong, TooManyInstructions}
+use Rattle.minijinja_parser.specs.Answers.{IsTooLong}
+use Rattle.minijinja_parser.specs.Causes.{IsLimit}
 use Rattle.minijinja_compiler.specs.Headline.{IsCompileLimit}
 use Rattle.mjc_commands.specs.Failure.{IsRefusedAs}
 use Rattle.mjc_commands.specs.Showing.{IsMemory}
@@ -13,3 +15,8 @@ pub limit_of_failure : (long many : Type 0) (e : Error) (failure : Failure) → 
 limit_of_failure long many e failure same l m (inl memory) = inl (subst (λ k. IsRefusedAs k failure) memory same)
 limit_of_failure long many e failure same l m (inr (inl is)) = inr (inl (l is))
 limit_of_failure long many e failure same l m (inr (inr is)) = inr (inr (m is))
+
+-- it is told as want of memory, or the text is too long
+pub limit_of_parse : (long : Type 0) (e : Error) (failure : Failure) → IsRefusedAs (kind_of e) failure → (IsTooLong e → long) → IsLimit e → IsMemory failure ⊎ long
+limit_of_parse long e failure same l (inl memory) = inl (subst (λ k. IsRefusedAs k failure) memory same)
+limit_of_parse long e failure same l (inr is) = inr (l is)

@@ -1,4 +1,4 @@
--- The texts whose tokens or whose code are shown to the end.
+-- The texts whose tokens, code or names are shown to the end.
 use Rattle.std.specs.Prelude.{◌≡◌, ◌⊎◌, ◌≤◌, ◌^◌, ℕ, List, length, Option, Some, MatchOption, Result, IfErr}
 use Rattle.std.specs.Borrow.{Bor}
 use Rattle.minijinja_syntax.specs.Texts.{Text}
@@ -12,7 +12,7 @@ use Rattle.minijinja_lexer.specs.TextTokens.{tokens_of_template}
 use Rattle.minijinja_parser.specs.Derived.{IsDerived, IsExprDerived}
 use Rattle.minijinja_compiler.specs.Headline.{HasTooLongCode, HasTooLongExprCode}
 use Rattle.mjc_commands.specs.Settings.{syntax_with}
-use Rattle.mjc_commands.specs.Usage.{Task, tokens, code, Request, Asks}
+use Rattle.mjc_commands.specs.Usage.{Task, tokens, code, names, Request, Asks}
 use Rattle.mjc_commands.specs.Failure.{IsRefusedAs}
 use Rattle.mjc_commands.specs.declared.failure.Failure.{Failure}
 
@@ -20,15 +20,17 @@ use Rattle.mjc_commands.specs.declared.failure.Failure.{Failure}
 abbrev pub IsShowable : Task → Syntax → Text → Type 0
 IsShowable tokens syntax source = (tokens_of_template syntax source).ending ≡ finished
 IsShowable code syntax source = (tree : _) × IsDerived value_functions syntax source tree
+IsShowable names syntax source = (tree : _) × IsDerived value_functions syntax source tree
 
 -- the text is an expression that has a tree
 abbrev pub IsShowableExpr : Text → Type 0
 IsShowableExpr source = (tree : _) × IsExprDerived value_functions default_syntax source tree
 
--- the text has 2^32 bytes or more, or its code 2^32 instructions or more
+-- the text has 2^32 bytes or more, or the code that is asked for 2^32 instructions or more
 abbrev pub IsTooLarge : Task → Syntax → Text → Type 0
 IsTooLarge tokens syntax source = 2 ^ 32 ≤ length source
 IsTooLarge code syntax source = (2 ^ 32 ≤ length source) ⊎ HasTooLongCode value_functions syntax source
+IsTooLarge names syntax source = 2 ^ 32 ≤ length source
 
 -- the expression has 2^32 bytes or more, or its code 2^32 instructions or more
 abbrev pub IsTooLargeExpr : Text → Type 0

@@ -10,14 +10,15 @@ use Rattle.mjc_commands.specs.Settings.{Setting, texts, words_of, syntax_with}
 abbrev pub IsFile : Text → Type 0
 IsFile word = starts_with nat_eq word (codes "--") ≡ false
 
--- what is done with a file: its tokens are shown, or its code
+-- what is shown of a file: its tokens, its code, or the names that it needs from outside
 pub data Task : Type 0 where
-  tokens code : Task
+  tokens code names : Task
 
 -- the word of a command
 abbrev pub command_word : Task → Text
 command_word tokens = codes "tokens"
 command_word code = codes "code"
+command_word names = codes "names"
 
 -- options and, after them, one file
 abbrev pub option_words : List Setting → Text → List Text

@@ -1,4 +1,4 @@
-//! Prints tokens and code, one token or instruction on a line.
+//! Prints tokens, code and names, one token, instruction or name on a line.
 ghost use Rattle.std.specs.Prelude.{IfOk};
 ghost use Rattle.mjc_commands.specs.Showing.{EndsBy};
 ghost use Rattle.mjc_commands.specs.Watched.{Notes};
@@ -10,6 +10,7 @@ use minijinja_compiler::instructions::Instructions;
 use minijinja_compiler::lexer::Tokenizer;
 use minijinja_compiler::tokens::{Span, Token};
 use minijinja_compiler::value::{Quoted, Value};
+use std::collections::BTreeSet;
 use std::fmt;
 use std::io::{self, Write};
 
@@ -95,6 +96,23 @@ pub fn print_code<W: Write>(out: &mut Watched<W>, code: &Compiled<'_, Value>) ->
         print_instructions(out, instructions)?;
     }
     writeln!(out, "hint {}", code.buffer_size_hint)?;
+    out.flush()
+}
+
+/// Writes the names that a template needs from outside, the plain ones first, each on a line.
+pub fn print_names<W: Write>(
+    out: &mut Watched<W>,
+    plain: &BTreeSet<String>,
+    nested: &BTreeSet<String>,
+) -> io::Result<()>
+    ensures notes { Notes out.old out.new result }
+{
+    for name in plain {
+        writeln!(out, "plain {name}")?;
+    }
+    for name in nested {
+        writeln!(out, "nested {name}")?;
+    }
     out.flush()
 }
 

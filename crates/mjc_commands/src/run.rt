@@ -4,7 +4,7 @@ ghost use Rattle.std.specs.Io.KnownBytes.{IsAtEnd};
 ghost use Rattle.minijinja_syntax.specs.Texts.{Text};
 ghost use Rattle.minijinja_syntax.specs.Syntax.{IsBuildable};
 ghost use Rattle.mjc_commands.specs.Settings.{syntax_with};
-ghost use Rattle.mjc_commands.specs.Usage.{IsUsage, IsFileUsage, IsExprUsage, IsUnbuildable, Request, Asks, AsksExpr, tokens, code};
+ghost use Rattle.mjc_commands.specs.Usage.{IsUsage, IsFileUsage, IsExprUsage, IsUnbuildable, Request, Asks, AsksExpr, tokens, code, names};
 ghost use Rattle.mjc_commands.specs.private.AtOptions.{syntax_of};
 ghost use Rattle.mjc_commands.specs.private.AtUsage.{IsCommandFor, task_of};
 ghost use Rattle.mjc_commands.specs.Reading.{IsNoText};
@@ -13,14 +13,18 @@ ghost use Rattle.mjc_commands.specs.Showing.{IsShowable, IsShowableExpr, IsMemor
 ghost use Rattle.mjc_commands.specs.Failure.{ending_status, status_of};
 
 use crate::failure::Failure;
-use crate::print::{print_code, print_expression, print_tokens};
+use crate::print::{print_code, print_expression, print_names, print_tokens};
 use crate::usage::{Action, Command, FileCommand, parse};
 use crate::watched::Watched;
+use minijinja_compiler::ast::Stmt;
 use minijinja_compiler::compile::{compile, compile_expression};
 use minijinja_compiler::lexer::Tokenizer;
+use minijinja_compiler::meta::find_undeclared;
+use minijinja_compiler::parser::parse as parse_template;
 use minijinja_compiler::syntax::SyntaxConfig;
 use minijinja_compiler::value::Value;
 use std::alloc::Global;
+use std::collections::BTreeSet;
 use std::io::{Read, Write};
 
 /// Runs a command, and returns why it fails: see [`status`]. `args` are the words after the
@@ -191,7 +195,7 @@ fn run_on_file<'a, R: Read, W: Write>(
     show(alloc, command, &syntax, file, out)
 }
 
-/// Reads the file of a command and writes its tokens or its code.
+/// Reads the file of a command and writes its tokens, its code or its names.
 fn show<'a, R: Read, W: Write>(
     alloc: Global,
     command: &FileCommand<'a>,
@@ -219,6 +223,7 @@ fn show<'a, R: Read, W: Write>(
     match command.action {
         Action::Tokens => show_tokens(alloc, path, &text, syntax, out),
         Action::Code => show_code(alloc, path, &text, syntax, out),
+        Action::Names => show_names(alloc, path, &text, syntax, out),
     }
 }
 
@@ -265,6 +270,54 @@ fn show_code<'a, W: Write>(
         Ok(code) => print_code(out, &code).map_err(|error| Failure::of_write(&error)),
         Err(error) => Err(Failure::of_refusal(&error)),
     }
+}
+
+/// Writes the names that a text needs from outside: the plain ones, and then those with the
+/// attributes that are taken of them.
+fn show_names<'a, W: Write>(
+    alloc: Global,
+    path: &'a str,
+    text: &str,
+    syntax: &SyntaxConfig,
+    out: &mut Watched<W>,
+) -> Result<(), Failure<'a>>
+    ensures shown { OnOk result (IsShowable names syntax.now text.now) }
+    ensures succeeds { IsUnfailed out.new → IsShowable names syntax.now text.now →
+        Succeeds names syntax.now text.now result }
+    ensures written { Stops out.old out.new (ending_status result) }
+    ensures unfailed { IsUnfailed out.new → ending_status result ≤ 1 }
+{
+    match parse_template::<Value>(alloc, text, path, syntax) {
+        Ok(template) => write_names(alloc, &template, out),
+        Err(error) => Err(Failure::of_refusal(&error)),
+    }
+}
+
+/// Writes the names that a template needs from outside.
+fn write_names<'a, W: Write>(
+    alloc: Global,
+    template: &Stmt<'_, Value>,
+    out: &mut Watched<W>,
+) -> Result<(), Failure<'a>>
+    ensures succeeds { IsUnfailed out.new → IfErr result IsMemory }
+    ensures written { Stops out.old out.new (ending_status result) }
+    ensures unfailed { IsUnfailed out.new → ending_status result ≤ 1 }
+{
+    let plain = undeclared(alloc, template, false)?;
+    let nested = undeclared(alloc, template, true)?;
+    print_names(out, &plain, &nested).map_err(|error| Failure::of_write(&error))
+}
+
+/// The names that a template needs from outside.
+fn undeclared<'a>(
+    alloc: Global,
+    template: &Stmt<'_, Value>,
+    track_nested: bool,
+) -> Result<BTreeSet<String>, Failure<'a>>
+    ensures memory { IfErr result IsMemory }
+    ensures status { IfErr result (λ failure. status_of failure ≡ 1) }
+{
+    find_undeclared(alloc, template, track_nested).map_err(|error| Failure::of_refusal(&error))
 }
 
 /// Compiles an expression and writes its code.

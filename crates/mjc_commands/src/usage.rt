@@ -16,6 +16,8 @@ pub enum Action {
     Tokens,
     /// Compiles, and prints the code.
     Code,
+    /// Prints the names that the text needs from outside.
+    Names,
 }
 
 impl Action {
@@ -30,6 +32,7 @@ impl Action {
         match word {
             "tokens" => Some(Action::Tokens),
             "code" => Some(Action::Code),
+            "names" => Some(Action::Names),
             _ => None,
         }
     }
@@ -38,7 +41,7 @@ impl Action {
 /// What the command line asks for.
 #[derive(Drop)]
 pub enum Command<'a> {
-    /// Print the tokens or the code of a file.
+    /// Print the tokens, the code or the names of a file.
     File(FileCommand<'a>),
     /// Print the code of this expression.
     Expr(&'a str),

@@ -49,7 +49,8 @@ tokens
 code, --help
 code, --
 code, a, b
-names, a
+names
+names, a, b
 replay, a, b
 expr
 expr, a, b
@@ -75,6 +76,7 @@ tokens, --keep-newline, a, b
 fn heeds_options_of_code(rt: HostRuntime) -> Result<(), Fail> {
     let rows = r#"
 code, --trim-blocks, --variable, [[, ]], - < [[ x ]] => template␊0 Lookup("x")␊1 Emit␊hint 1␊
+names, --trim-blocks, --variable, [[, ]], - < [[ x.y ]] => plain x␊nested x.y␊
 "#;
     hold::<Commands>(&rt, rt.alloc(), rows)
 }
@@ -98,6 +100,7 @@ fn refuses_a_syntax_first(rt: HostRuntime) -> Result<(), Fail> {
     let rows = r#"
 tokens, --block, {{, %}, - => ! 1 mjc: InvalidDelimiter at 0:0␊
 code, --block, {{, %}, - => ! 1 mjc: InvalidDelimiter at 0:0␊
+names, --block, {{, %}, - => ! 1 mjc: InvalidDelimiter at 0:0␊
 code, --comment, {#, ␀, - => ! 1 mjc: InvalidDelimiter at 0:0␊
 code, --line-statement, #, --line-comment, #, - => ! 1 mjc: InvalidDelimiter at 0:0␊
 "#;

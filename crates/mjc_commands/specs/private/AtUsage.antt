@@ -2,10 +2,10 @@
 use Rattle.std.specs.Prelude.{◌≡◌}
 use Rattle.minijinja_syntax.specs.Texts.{Text}
 use Rattle.mjc_commands.specs.Settings.{syntax_with}
-use Rattle.mjc_commands.specs.Usage.{Task, tokens, code, Request}
+use Rattle.mjc_commands.specs.Usage.{Task, tokens, code, names, Request}
 use Rattle.mjc_commands.specs.private.AtOptions.{syntax_of}
 use Rattle.mjc_commands.specs.declared.usage.Action.{Action}
-use Rattle.mjc_commands.specs.declared.usage.Action.TheVariants.{Tokens, Code}
+use Rattle.mjc_commands.specs.declared.usage.Action.TheVariants.{Tokens, Code, Names}
 use Rattle.mjc_commands.specs.declared.usage.Command.{Command}
 use Rattle.mjc_commands.specs.declared.usage.Command.TheVariants.{File, Expr}
 use Rattle.mjc_commands.specs.declared.usage.FileCommand.{FileCommand}
@@ -14,6 +14,7 @@ use Rattle.mjc_commands.specs.declared.usage.FileCommand.{FileCommand}
 abbrev pub task_of : Action → Task
 task_of Tokens = tokens
 task_of Code = code
+task_of Names = names
 
 -- the command does what is asked for
 pub record IsCommandFor (request : Request) (command : FileCommand) : Type 0 where
