@@ -1,4 +1,4 @@
-//! The program `mjc`, which prints the tokens and the code of templates and of expressions.
+//! The program `mjc`, which prints the tokens, code and names of templates, and expressions' code.
 #![tactic(auto)]
 
 mod source;
