@@ -171,8 +171,7 @@ closure_of ps body = in_order (free (to_parameters ps (through_stmts body end)))
 -- The code, entered at the unit over any operands and open loops, mentions only these names while
 -- they are not stored. Where it ends while a macro is being made, that is one of these macros. This
 -- holds for any answers, if they and the values in them are fewer than 2^64, from
--- (answers + 1) * (code length + 1) steps on: by then code that does what a tree means is over. A
--- run ends where no answer is left, so that this speaks of the beginnings of runs too.
+-- (answers + 1) * (code length + 1) steps on: by then code that does what a tree means is over.
 abbrev pub RunsNeedOnly : {C F X : Type 0} → Functions C F → List (Instr C) → Entry C X → (names macros : List Text) → Type 0
 RunsNeedOnly {C} f code u names macros =
     (below : List C) (loops : List Bool) (answers : List (Answer C)) → AreFew answers →
