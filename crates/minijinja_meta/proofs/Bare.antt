@@ -197,7 +197,7 @@ mutual
 -- ---- free names
 
 -- the names that are not among these
-abbrev outside : List Text → List Text → List Text
+abbrev pub outside : List Text → List Text → List Text
 outside stored xs = std.filter (λ y. not (is_among y stored)) xs
 
 outside-append : (stored xs ys : List Text) → outside stored (xs ++ ys) ≡ outside stored xs ++ outside stored ys
@@ -209,7 +209,7 @@ outside-append stored (x ∷ xs) ys = go (not (is_among x stored)) (outside-appe
     go false h = h
 
 -- first those that are not x, and of them those that are not stored
-outside-more : (stored : List Text) (x : Text) (xs : List Text) → outside (x ∷ stored) xs ≡ outside stored (std.filter (λ y. not (bytes_eq y x)) xs)
+pub outside-more : (stored : List Text) (x : Text) (xs : List Text) → outside (x ∷ stored) xs ≡ outside stored (std.filter (λ y. not (bytes_eq y x)) xs)
 outside-more stored x [] = refl
 outside-more stored x (y ∷ ys) = go (bytes_eq y x) (outside-more stored x ys)
   where
@@ -217,7 +217,7 @@ outside-more stored x (y ∷ ys) = go (bytes_eq y x) (outside-more stored x ys)
     go true h = h
     go false h = ap (λ l. cond (not (is_among y stored)) (y ∷ l) l) h
 
-free_of-append : (xs ys : List _) → free_of (xs ++ ys) ≡ free_of xs ++ free_of ys
+pub free_of-append : (xs ys : List _) → free_of (xs ++ ys) ≡ free_of xs ++ free_of ys
 free_of-append [] ys = refl
 free_of-append (x ∷ xs) ys = go x.1 (free_of-append xs ys)
   where
@@ -225,11 +225,11 @@ free_of-append (x ∷ xs) ys = go x.1 (free_of-append xs ys)
     go true h = ap (λ l. x.0 ∷ l) h
     go false h = h
 
-names_of-append : (xs ys : List _) → names_of (xs ++ ys) ≡ names_of xs ++ names_of ys
+pub names_of-append : (xs ys : List _) → names_of (xs ++ ys) ≡ names_of xs ++ names_of ys
 names_of-append [] ys = refl
 names_of-append (x ∷ xs) ys = ap (λ l. x.name ∷ l) (names_of-append xs ys)
 
-marked-names : (stored : List Text) (w : Way) → names_of (free_of (marked stored w)) ≡ outside stored (bare.free (bare_way w))
+pub marked-names : (stored : List Text) (w : Way) → names_of (free_of (marked stored w)) ≡ outside stored (bare.free (bare_way w))
 marked-names stored end = refl
 marked-names stored (occurs m w) = go (not (is_among m.name stored)) (marked-names stored w)
   where

@@ -1,4 +1,5 @@
 pub mod Marking
+pub mod Alike
 pub mod Scoping
 pub mod Walking
 pub mod Descending

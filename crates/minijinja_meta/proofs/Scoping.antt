@@ -1,12 +1,14 @@
 -- The stored names, and the log of them.
-use Rattle.std.proofs.Common.{◌≡◌, ◌++◌, refl, sym, ap, ◌∙◌, subst, true, false, length, take, ◌-◌, arith, length-append}
+use Rattle.std.proofs.Common.{ℕ, ◌≡◌, ◌++◌, refl, sym, ap, ◌∙◌, subst, true, false, length, take, ◌-◌, arith, length-append}
 use Rattle.std.specs.Prelude.{Bool, not, ◌&&◌, ◌||◌, List, [], ◌∷◌, cond, map}
 use Rattle.std.specs.Bool.{OnFalse}
 use Rattle.std.specs.Borrow.{Bor}
-use Rattle.std.specs.BTreeSet.{BTreeSet, Updates, UpdatesBy}
+use Rattle.std.specs.BTreeSet.{BTreeSet, Updates, UpdatesBy, contains_by}
 use Rattle.std.specs.Cmp.Lexicographic.{slice_cmp}
-use Rattle.std.specs.Ordering.{nat_cmp}
+use Rattle.std.specs.Cmp.{nat_cmp_is}
+use Rattle.std.specs.Ordering.{is_eq, nat_cmp, ordering_then}
 use Rattle.std.specs.declared.cmp.Ordering.{Ordering}
+use Rattle.std.specs.declared.cmp.Ordering.TheVariants.{Less, Equal, Greater}
 use Rattle.std.specs.Str.{bytes_eq}
 use Rattle.std.proofs.lemmas.List.{append-nil, map-append}
 use Rattle.std.proofs.lemmas.List.Folds.{list_any-append}
@@ -16,7 +18,7 @@ use Rattle.std.proofs.Math.Seq.{take-append_seam}
 use Rattle.minijinja_syntax.specs.Texts.{Text}
 use Rattle.minijinja_meta.specs.Mentions.{is_among}
 use Rattle.minijinja_meta.specs.declared.scopes.Scopes.{Scopes}
-use Rattle.minijinja_meta.specs.private.Scoped.{among, log, AreOnce, IsLogged, Stores}
+use Rattle.minijinja_meta.specs.private.Scoped.{Sized, among, by_length, log, AreOnce, IsLogged, Stores}
 
 pub same-text : (x : Text) → bytes_eq x x ≡ true
 same-text x = (bytes_eq-Decides x x).1 refl
@@ -73,11 +75,24 @@ last-new (z ∷ xs) x h =
 
 -- ---- sets after a change
 
-abbrev texts : Bor Text → Bor Text → Ordering
-texts x y = slice_cmp nat_cmp x.now y.now
+abbrev sized : Text → Sized
+sized y = (length y, record { ref_ptr = (0, 0); now = y })
 
-abbrev some_text : Text → Bor Text
-some_text y = record { ref_ptr = (0, 0); now = y }
+both-equal : (o p : Ordering) → is_eq p ≡ false → is_eq (ordering_then o p) ≡ false
+both-equal Less p h = refl
+both-equal Equal p h = h
+both-equal Greater p h = refl
+
+-- names that are of one length and one text are the same
+same-order : (x y : Text) → is_eq (ordering_then (nat_cmp (length x) (length y)) (slice_cmp nat_cmp x y)) ≡ bytes_eq x y
+same-order x y = go (bytes_eq x y) refl
+  where
+    go : (b : Bool) → bytes_eq x y ≡ b → is_eq (ordering_then (nat_cmp (length x) (length y)) (slice_cmp nat_cmp x y)) ≡ bytes_eq x y
+    go true e =
+        let lengths : nat_cmp (length x) (length y) ≡ Equal =
+        ap (λ z. nat_cmp (length x) (length z)) (sym ((bytes_eq-Decides x y).0 e)) ∙ sym (nat_cmp_is (length x) (length x) Equal refl) in
+        ap (λ o. is_eq (ordering_then o (slice_cmp nat_cmp x y))) lengths ∙ is_eq-slice_cmp x y
+    go false e = both-equal (nat_cmp (length x) (length y)) (slice_cmp nat_cmp x y) (is_eq-slice_cmp x y ∙ e) ∙ sym e
 
 cond-or : (b f : Bool) → cond b true f ≡ (b || f)
 cond-or true f = refl
@@ -89,13 +104,19 @@ cond-and true false = refl
 cond-and false true = refl
 cond-and false false = refl
 
-inserted : (s n : BTreeSet (Bor Text)) (k : Bor Text) → Updates texts s n k true → (y : Text) → among y n ≡ (bytes_eq y k.now || among y s)
-inserted s n k h y =
-    h.0 (some_text y) ∙ ap (λ b. cond b true (among y s)) (is_eq-slice_cmp k.now y ∙ text-comm k.now y) ∙ cond-or (bytes_eq y k.now) (among y s)
+inserted : (s n : BTreeSet Sized) (k : Bor Text) (long : ℕ) → long ≡ length k.now → Updates by_length s n (long, k) true → (y : Text) → among y n ≡ (bytes_eq y k.now || among y s)
+inserted s n k long e h y =
+    h.0 (sized y) ∙ ap (λ b. cond b true (among y s)) (ap (λ m. is_eq (ordering_then (nat_cmp m (length y)) (slice_cmp nat_cmp k.now y))) e ∙ same-order k.now y ∙ text-comm k.now y)
+    ∙ cond-or (bytes_eq y k.now) (among y s)
 
-removed : (s n : BTreeSet (Bor Text)) (x : Text) → UpdatesBy texts (λ k. slice_cmp nat_cmp x k.now) s n false → (y : Text) → among y n ≡ (among y s && not (bytes_eq y x))
-removed s n x h y =
-    h.0 (some_text y) ∙ ap (λ b. cond b false (among y s)) (is_eq-slice_cmp x y ∙ text-comm x y) ∙ cond-and (bytes_eq y x) (among y s)
+removed : (s n : BTreeSet Sized) (k : Bor Text) (long : ℕ) → long ≡ length k.now → UpdatesBy by_length (by_length (long, k)) s n false → (y : Text) → among y n ≡ (among y s && not (bytes_eq y k.now))
+removed s n k long e h y =
+    h.0 (sized y) ∙ ap (λ b. cond b false (among y s)) (ap (λ m. is_eq (ordering_then (nat_cmp m (length y)) (slice_cmp nat_cmp k.now y))) e ∙ same-order k.now y ∙ text-comm k.now y)
+    ∙ cond-and (bytes_eq y k.now) (among y s)
+
+-- whether a name is there, asked with its length
+pub asked : (s : BTreeSet Sized) (k : Bor Text) (long : ℕ) → long ≡ length k.now → contains_by (by_length (long, k)) s ≡ among k.now s
+asked s k long e = ap (λ m. contains_by (λ q. ordering_then (nat_cmp m q.0) (slice_cmp nat_cmp k.now q.1.now)) s) e
 
 -- a name that is there is there by any of its texts
 is_among-same : (x y : Text) (xs : List Text) → bytes_eq y x ≡ true → is_among y xs ≡ is_among x xs
@@ -107,9 +128,9 @@ map-last f xs x = map-append f xs (x ∷ [])
 -- ---- a name that is stored
 
 -- one that is stored already
-pub stored-again : (s t : Scopes) (k : Bor Text) (added : Bool) → IsLogged s → added ≡ not (among k.now s.stored) → added ≡ false → OnFalse added (t.stored.keys ≡ s.stored.keys) → t.log ≡ s.log → Stores s t k.now
-stored-again s t k added h is old kept log' =
-    let there : is_among k.now (log s) ≡ true = sym (h.same k.now) ∙ held (among k.now s.stored) (sym is ∙ old) in
+pub stored-again : (s t : Scopes) (k : Bor Text) (long : ℕ) (added : Bool) → long ≡ length k.now → IsLogged s → added ≡ not (contains_by (by_length (long, k)) s.stored) → added ≡ false → OnFalse added (t.stored.keys ≡ s.stored.keys) → t.log ≡ s.log → Stores s t k.now
+stored-again s t k long added e h is old kept log' =
+    let there : is_among k.now (log s) ≡ true = sym (h.same k.now) ∙ sym (asked s.stored k long e) ∙ held (contains_by (by_length (long, k)) s.stored) (sym is ∙ old) in
     let still : log t ≡ log s = ap (λ l. map (λ x. x.now) l.items) log' in
     record {
       logged = record {
@@ -133,14 +154,14 @@ stored-again s t k added h is old kept log' =
     go y there false e = refl
 
 -- one that is new
-pub stored-new : (s t : Scopes) (k : Bor Text) (added : Bool) → IsLogged s → added ≡ not (among k.now s.stored) → added ≡ true → Updates texts s.stored t.stored k true → t.log.items ≡ s.log.items ++ k ∷ [] → Stores s t k.now
-stored-new s t k added h is fresh up log' =
+pub stored-new : (s t : Scopes) (k : Bor Text) (long : ℕ) (added : Bool) → long ≡ length k.now → IsLogged s → added ≡ not (contains_by (by_length (long, k)) s.stored) → added ≡ true → Updates by_length s.stored t.stored (long, k) true → t.log.items ≡ s.log.items ++ k ∷ [] → Stores s t k.now
+stored-new s t k long added e h is fresh up log' =
     let longer : log t ≡ log s ++ k.now ∷ [] = ap (map (λ x. x.now)) log' ∙ map-last (λ x. x.now) s.log.items k in
     let now : (y : Text) → is_among y (log t) ≡ (bytes_eq y k.now || is_among y (log s)) = λ y. ap (is_among y) longer ∙ among-last y (log s) k.now ∙ or-comm (is_among y (log s)) (bytes_eq y k.now) in
     record {
       logged = record {
-        same = λ y. inserted s.stored t.stored k up y ∙ ap (λ b. bytes_eq y k.now || b) (h.same y) ∙ sym (now y);
-        once = subst AreOnce (sym longer) (once-more (log s) k.now h.once (sym (h.same k.now) ∙ absent (among k.now s.stored) (sym is ∙ fresh)));
+        same = λ y. inserted s.stored t.stored k long e up y ∙ ap (λ b. bytes_eq y k.now || b) (h.same y) ∙ sym (now y);
+        once = subst AreOnce (sym longer) (once-more (log s) k.now h.once (sym (h.same k.now) ∙ sym (asked s.stored k long e) ∙ absent (contains_by (by_length (long, k)) s.stored) (sym is ∙ fresh)));
       };
       has = now;
       log = (k.now ∷ [], longer);
@@ -152,15 +173,15 @@ stored-new s t k added h is fresh up log' =
 
 -- ---- the last one is stored no longer
 
-pub unstored : (s t : Scopes) (xs : List (Bor Text)) (k : Bor Text) → IsLogged s → s.log.items ≡ xs ++ k ∷ [] → t.log.items ≡ xs → UpdatesBy texts (λ q. slice_cmp nat_cmp k.now q.now) s.stored t.stored false → IsLogged t
-unstored s t xs k h before after up =
+pub unstored : (s t : Scopes) (xs : List (Bor Text)) (k : Bor Text) (long : ℕ) → long ≡ length k.now → IsLogged s → s.log.items ≡ xs ++ k ∷ [] → t.log.items ≡ xs → UpdatesBy by_length (by_length (long, k)) s.stored t.stored false → IsLogged t
+unstored s t xs k long e h before after up =
     let was : log s ≡ map (λ x. x.now) xs ++ k.now ∷ [] = ap (map (λ x. x.now)) before ∙ map-last (λ x. x.now) xs k in
     let is : log t ≡ map (λ x. x.now) xs = ap (map (λ x. x.now)) after in
     let once : AreOnce (map (λ x. x.now) xs ++ k.now ∷ []) = subst AreOnce was h.once in
     let gone : is_among k.now (map (λ x. x.now) xs) ≡ false = last-new (map (λ x. x.now) xs) k.now once in
     record {
       same = λ y.
-          removed s.stored t.stored k.now up y ∙ ap (λ b. b && not (bytes_eq y k.now)) (h.same y ∙ ap (is_among y) was ∙ among-last y (map (λ x. x.now) xs) k.now)
+          removed s.stored t.stored k long e up y ∙ ap (λ b. b && not (bytes_eq y k.now)) (h.same y ∙ ap (is_among y) was ∙ among-last y (map (λ x. x.now) xs) k.now)
           ∙ go (map (λ x. x.now) xs) k.now gone y (bytes_eq y k.now) refl ∙ ap (is_among y) (sym is);
       once = subst AreOnce (sym is) (once-before (map (λ x. x.now) xs) k.now once);
     }

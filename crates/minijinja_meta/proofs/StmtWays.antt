@@ -10,6 +10,7 @@ use Rattle.minijinja_meta.specs.Mentions.{Way, through_stmt, through_stmts}
 use Rattle.minijinja_meta.specs.declared.walker.Walker.{Walker}
 use Rattle.minijinja_meta.specs.private.Scoped.{IsLogged}
 use Rattle.minijinja_meta.specs.private.Walked.{Walks, log, noted}
+use Rattle.minijinja_meta.proofs.Alike.{alike-same}
 
 module _ {V F C : Type 0} (c : V → C) where
   pub next-stmt : (xs : List (Stmt V F)) (i : ℕ) (x : Stmt V F) → i < length xs → x ≡ get_or xs i x → (w : Way) →
@@ -25,7 +26,8 @@ module _ {V F C : Type 0} (c : V → C) where
   pub walking-left-out : (s : Walker V F) → IsLogged s.scopes → (t t' : tree.Stmt C) → t ≡ t' → ((w : Way) → through_stmt t' w ≡ w) → Walks c s s (through_stmt t)
   walking-left-out s h t t' is none = record {
     logged = h;
-    notes = λ w. ap (noted c s) (ap (λ u. through_stmt u w) is ∙ none w);
+    wanted = refl;
+    notes = λ w. alike-same (ap (noted c s) (ap (λ u. through_stmt u w) is ∙ none w));
     chains = λ are. are;
     log = ([], sym (append-nil (log s)));
     waiting = refl;

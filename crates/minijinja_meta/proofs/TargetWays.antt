@@ -17,6 +17,7 @@ use Rattle.minijinja_meta.specs.Mentions.{Way, through, through_if_any, to_targe
 use Rattle.minijinja_meta.specs.declared.walker.Walker.{Walker}
 use Rattle.minijinja_meta.specs.private.Scoped.{IsLogged}
 use Rattle.minijinja_meta.specs.private.Walked.{Walking, Walks, log, noted}
+use Rattle.minijinja_meta.proofs.Alike.{alike-on, alike-same}
 use Rattle.minijinja_meta.proofs.ExprWays.{drop-none, get-none}
 
 compare-way : {V F C : Type 0} (c : V → C) (q : block.the_data-4 V F) (s : Span) → through (compare_node c q s) ≡ to_target (compare_node c q s)
@@ -113,10 +114,10 @@ module _ {V F C : Type 0} (c : V → C) where
   one-parameter (Err x) s t es ds i e d h k walked = tt
   one-parameter (Ok x) s t es ds i e d h k walked = record {
     logged = walked.logged;
-    notes = λ w.
-        ap (noted c s) (parameter-at es ds i e d h k w)
-        ∙ walked.notes (to_defaulted (drop (suc i) es) (drop (suc i) ds) w)
-        ∙ ap (λ n. noted c t (to_defaulted (drop n es) (drop n ds) w)) (sym (add-one i));
+    wanted = walked.wanted;
+    notes = λ w. alike-on (alike-same (ap (noted c s) (parameter-at es ds i e d h k w)))
+        (alike-on (walked.notes (to_defaulted (drop (suc i) es) (drop (suc i) ds) w))
+        (alike-same (ap (λ n. noted c t (to_defaulted (drop n es) (drop n ds) w)) (sym (add-one i)))));
     chains = walked.chains;
     log = walked.log;
     waiting = walked.waiting;
@@ -125,7 +126,8 @@ module _ {V F C : Type 0} (c : V → C) where
   pub no-parameter : (s : Walker V F) (es ds : List (Expr C)) (i : ℕ) → IsLogged s.scopes → None ≡ slice_get es i → Walking c s s (to_defaulted (drop i es) (drop i ds)) (to_defaulted (drop (i + 1) es) (drop (i + 1) ds))
   no-parameter s es ds i l h = record {
     logged = l;
-    notes = λ w. ap (noted c s) (none-at es (drop i ds) i h w ∙ sym (none-behind es (drop (i + 1) ds) i h w) ∙ ap (λ n. to_defaulted (drop n es) (drop (i + 1) ds) w) (sym (add-one i)));
+    wanted = refl;
+    notes = λ w. alike-same (ap (noted c s) (none-at es (drop i ds) i h w ∙ sym (none-behind es (drop (i + 1) ds) i h w) ∙ ap (λ n. to_defaulted (drop n es) (drop (i + 1) ds) w) (sym (add-one i))));
     chains = λ are. are;
     log = ([], sym (append-nil (log s)));
     waiting = refl;

@@ -1,6 +1,6 @@
 -- Walks through one part after another.
 use Rattle.std.proofs.Common.{◌≡◌, ℕ, ◌++◌, refl, sym, ap, ap₂, ◌∙◌, subst, append_assoc, length, take}
-use Rattle.std.specs.Prelude.{Bool, not, List, [], ◌∷◌, map, Result, Ok, Err, OnOk, All}
+use Rattle.std.specs.Prelude.{Bool, true, false, not, ◌||◌, List, [], ◌∷◌, map, Result, Ok, Err, OnOk, All}
 use Rattle.std.specs.Borrow.{Bor}
 use Rattle.std.proofs.lemmas.List.{append-nil, map-append}
 use Rattle.std.proofs.lemmas.List.Elements.{All-push}
@@ -14,7 +14,9 @@ use Rattle.minijinja_meta.specs.declared.mentions.Occurrence.{Occurrence}
 use Rattle.minijinja_meta.specs.declared.walker.Walker.{Walker}
 use Rattle.minijinja_meta.specs.private.Scoped.{IsLogged, Stores}
 use Rattle.minijinja_meta.specs.private.Walked.{Forgets, Walking, Walks, log, noted}
+use Rattle.minijinja_meta.proofs.Alike.{alike, alike-on, alike-same, as-wanted, free_names, is_among-append, remembered, says-joined, unwanted}
 use Rattle.minijinja_meta.proofs.Marking.{marked-same}
+use Rattle.minijinja_meta.proofs.Scoping.{same-text}
 
 -- ---- lists
 
@@ -32,15 +34,16 @@ back mark xs ys more h e = ap (λ m. take m ys) h ∙ ap (take (length xs)) e �
 
 module _ {V F C : Type 0} (c : V → C) where
   pub walks-nothing : (s : Walker V F) → IsLogged s.scopes → Walks c s s (λ w. w)
-  walks-nothing s h = record { logged = h; notes = λ w. refl; chains = λ all. all; log = ([], sym (append-nil (log s))); waiting = refl }
+  walks-nothing s h = record { logged = h; wanted = refl; notes = λ w. alike s.names_only _; chains = λ all. all; log = ([], sym (append-nil (log s))); waiting = refl }
 
   pub walking-begins : (s : Walker V F) (all : Way → Way) → IsLogged s.scopes → Walking c s s all all
-  walking-begins s all h = record { logged = h; notes = λ w. refl; chains = λ all. all; log = ([], sym (append-nil (log s))); waiting = refl }
+  walking-begins s all h = record { logged = h; wanted = refl; notes = λ w. alike s.names_only _; chains = λ all. all; log = ([], sym (append-nil (log s))); waiting = refl }
 
   pub walking-on : (s t u : Walker V F) (all left left' more : Way → Way) → Walking c s t all left → Walking c t u left' more → ((w : Way) → left w ≡ left' w) → Walking c s u all more
   walking-on s t u all left left' more h k parts = record {
     logged = k.logged;
-    notes = λ w. h.notes w ∙ ap (noted c t) (parts w) ∙ k.notes w;
+    wanted = k.wanted ∙ h.wanted;
+    notes = λ w. alike-on (h.notes w) (alike-on (alike-same (ap (noted c t) (parts w))) (as-wanted h.wanted (k.notes w)));
     chains = λ are. k.chains (h.chains are);
     log = (h.log.0 ++ k.log.0, k.log.1 ∙ ap (λ l. l ++ k.log.0) h.log.1 ∙ append_assoc (log s) h.log.0 k.log.0);
     waiting = k.waiting ∙ h.waiting;
@@ -49,22 +52,24 @@ module _ {V F C : Type 0} (c : V → C) where
   pub walking-goes-on : (s t u : Walker V F) (all left v more : Way → Way) → Walking c s t all left → Walks c t u v → ((w : Way) → left w ≡ v (more w)) → Walking c s u all more
   walking-goes-on s t u all left v more h k parts = record {
     logged = k.logged;
-    notes = λ w. h.notes w ∙ ap (noted c t) (parts w) ∙ k.notes (more w);
+    wanted = k.wanted ∙ h.wanted;
+    notes = λ w. alike-on (h.notes w) (alike-on (alike-same (ap (noted c t) (parts w))) (as-wanted h.wanted (k.notes (more w))));
     chains = λ are. k.chains (h.chains are);
     log = (h.log.0 ++ k.log.0, k.log.1 ∙ ap (λ l. l ++ k.log.0) h.log.1 ∙ append_assoc (log s) h.log.0 k.log.0);
     waiting = k.waiting ∙ h.waiting;
   }
 
   pub walking-left : (s t : Walker V F) (all left left' : Way → Way) → Walking c s t all left → ((w : Way) → left w ≡ left' w) → Walking c s t all left'
-  walking-left s t all left left' h same = record { logged = h.logged; notes = λ w. h.notes w ∙ ap (noted c t) (same w); chains = h.chains; log = h.log; waiting = h.waiting }
+  walking-left s t all left left' h same = record { logged = h.logged; wanted = h.wanted; notes = λ w. alike-on (h.notes w) (alike-same (ap (noted c t) (same w))); chains = h.chains; log = h.log; waiting = h.waiting }
 
   pub walking-ends : (s t : Walker V F) (all left : Way → Way) → Walking c s t all left → ((w : Way) → left w ≡ w) → Walks c s t all
-  walking-ends s t all left h none = record { logged = h.logged; notes = λ w. h.notes w ∙ ap (noted c t) (none w); chains = h.chains; log = h.log; waiting = h.waiting }
+  walking-ends s t all left h none = record { logged = h.logged; wanted = h.wanted; notes = λ w. alike-on (h.notes w) (alike-same (ap (noted c t) (none w))); chains = h.chains; log = h.log; waiting = h.waiting }
 
   pub walks-on : (s t u : Walker V F) (v v' : Way → Way) → Walks c s t v → Walks c t u v' → Walks c s u (λ w. v (v' w))
   walks-on s t u v v' h k = record {
     logged = k.logged;
-    notes = λ w. h.notes (v' w) ∙ k.notes w;
+    wanted = k.wanted ∙ h.wanted;
+    notes = λ w. alike-on (h.notes (v' w)) (as-wanted h.wanted (k.notes w));
     chains = λ are. k.chains (h.chains are);
     log = (h.log.0 ++ k.log.0, k.log.1 ∙ ap (λ l. l ++ k.log.0) h.log.1 ∙ append_assoc (log s) h.log.0 k.log.0);
     waiting = k.waiting ∙ h.waiting;
@@ -86,14 +91,17 @@ module _ {V F C : Type 0} (c : V → C) where
       let still : log u ≡ log s = k.log ∙ back mark (log s) (log t) h.log.0 m h.log.1 in
       let found : found_of c u.found.items ≡ found_of c t.found.items = ap (λ l. found_of c l.items) k.found in
       let macros : macros_of u.macros.items ≡ macros_of t.macros.items = ap (λ l. macros_of l.items) k.macros in
+      let now : (w : Way) → noted c u w ≡ (found_of c t.found.items ++ marked (log s) w, macros_of t.macros.items ++ declared w) =
+      λ w. ap₂ (λ a b. (a, b)) (ap₂ (λ l n. l ++ marked n w) found still) (ap (λ l. l ++ declared w) macros) in
       record {
         logged = k.logged;
-        notes = λ w.
-            ap₂ (λ a b. (a, b))
-            (joined (found_of c s.found.items) (marked (log s) (v end)) (marked (log s) w) (found_of c t.found.items) (ap (λ p. p.0) (h.notes end))
-            ∙ ap₂ (λ l n. l ++ marked n w) (sym found) (sym still))
-            (joined (macros_of s.macros.items) (declared (v end)) (declared w) (macros_of t.macros.items) (ap (λ p. p.1) (h.notes end))
-            ∙ ap (λ l. l ++ declared w) (sym macros));
+        wanted = k.wanted ∙ h.wanted;
+        notes = λ w. alike-on
+            (record {
+              found = says-joined s.names_only (found_of c s.found.items) (marked (log s) (v end)) (marked (log s) w) (found_of c t.found.items) (h.notes end).found;
+              macros = joined (macros_of s.macros.items) (declared (v end)) (declared w) (macros_of t.macros.items) (h.notes end).macros;
+            })
+            (alike-same (sym (now w)));
         chains = λ are. subst (λ l. All (IsChain c) l.items) (sym k.found) (h.chains are);
         log = ([], still ∙ sym (append-nil (log s)));
         waiting = ap (λ l. l.items) k.waiting ∙ h.waiting;
@@ -101,49 +109,94 @@ module _ {V F C : Type 0} (c : V → C) where
 
   -- a variable occurs
   pub occurs-walks : (s t : Walker V F) (o : Occurrence V F) → IsLogged s.scopes → IsChain c o → o.is_free ≡ not (is_among o.name.now (log s)) →
-      t.found.items ≡ s.found.items ++ o ∷ [] → t.macros ≡ s.macros → t.scopes ≡ s.scopes → t.waiting ≡ s.waiting → Walks c s t (through (expr_node c o.chain.now))
-  occurs-walks s t o h chain free found macros scopes waiting =
+      t.found.items ≡ s.found.items ++ o ∷ [] → t.macros ≡ s.macros → t.scopes ≡ s.scopes → t.names_only ≡ s.names_only → t.waiting ≡ s.waiting → Walks c s t (through (expr_node c o.chain.now))
+  occurs-walks s t o h chain free found macros scopes wanted waiting =
       let f : Occurrence V F → Mention × Bool = λ o. (mention_of c o, o.is_free) in
       let more : found_of c t.found.items ≡ found_of c s.found.items ++ (mention_of c o, not (is_among o.name.now (log s))) ∷ [] =
       ap (map f) found ∙ map-append f s.found.items (o ∷ []) ∙ ap (λ b. found_of c s.found.items ++ (mention_of c o, b) ∷ []) free in
       record {
         logged = subst IsLogged (sym scopes) h;
-        notes = λ w.
-            ap (noted c s) (chain w)
+        wanted = wanted;
+        notes = λ w. alike-same
+            (ap (noted c s) (chain w)
             ∙ ap₂ (λ a b. (a, b))
             (pushed (found_of c s.found.items) (marked (log s) w) (found_of c t.found.items) (mention_of c o, not (is_among o.name.now (log s))) more
             ∙ ap (λ z. found_of c t.found.items ++ marked (map (λ x. x.now) z.log.items) w) (sym scopes))
-            (ap (λ l. macros_of l.items ++ declared w) (sym macros));
+            (ap (λ l. macros_of l.items ++ declared w) (sym macros)));
         chains = λ are. subst (All (IsChain c)) (sym found) (All-push (IsChain c) s.found.items o are chain);
         log = ([], ap (λ z. map (λ x. x.now) z.log.items) scopes ∙ sym (append-nil (log s)));
         waiting = ap (λ l. l.items) waiting;
       }
 
-  -- a name is stored
-  pub stores-walks : (s t : Walker V F) (x : Text) → Stores s.scopes t.scopes x → t.found ≡ s.found → t.macros ≡ s.macros → t.waiting ≡ s.waiting → Walks c s t (stores x)
-  stores-walks s t x h found macros waiting = record {
+  -- a variable occurs that is stored, where only names are wanted
+  pub stored-walks : (s : Walker V F) (o : Occurrence V F) → IsLogged s.scopes → IsChain c o → s.names_only ≡ true → not (is_among o.name.now (log s)) ≡ false → Walks c s s (through (expr_node c o.chain.now))
+  stored-walks s o h chain names stored = record {
+    logged = h;
+    wanted = refl;
+    notes = λ w. alike-on (alike-same (ap (noted c s) (chain w)))
+        (record { found = unwanted s.names_only (not (is_among o.name.now (log s))) (mention_of c o) (found_of c s.found.items) (marked (log s) w) names stored; macros = refl });
+    chains = λ are. are;
+    log = ([], sym (append-nil (log s)));
+    waiting = refl;
+  }
+
+  -- what was found free last
+  pub found-last : (os : List (Occurrence V F)) (o : Occurrence V F) (ps : List (Occurrence V F)) → ps ≡ os ++ o ∷ [] → o.is_free ≡ true → is_among o.name.now (free_names (found_of c ps)) ≡ true
+  found-last os o ps is free =
+      ap (λ l. is_among o.name.now (free_names l)) (ap (map (λ o. (mention_of c o, o.is_free))) is ∙ map-append (λ o. (mention_of c o, o.is_free)) os (o ∷ []))
+      ∙ is_among-append o.name.now (found_of c os) ((mention_of c o, o.is_free) ∷ [])
+      ∙ ap (λ b. is_among o.name.now (free_names (found_of c os)) || is_among o.name.now (free_names ((mention_of c o, b) ∷ []))) free
+      ∙ ap (λ b. is_among o.name.now (free_names (found_of c os)) || (b || false)) (same-text o.name.now) ∙ or-true (is_among o.name.now (free_names (found_of c os)))
+    where
+      or-true : (b : Bool) → (b || true) ≡ true
+      or-true true = refl
+      or-true false = refl
+
+  -- a name that was found free is stored, where only names are wanted
+  pub remembers : (s t : Walker V F) (x : Text) → s.names_only ≡ true → is_among x (free_names (found_of c s.found.items)) ≡ true →
+      Stores s.scopes t.scopes x → t.found ≡ s.found → t.macros ≡ s.macros → t.names_only ≡ s.names_only → t.waiting ≡ s.waiting → Walks c s t (λ w. w)
+  remembers s t x names there h found macros wanted waiting = record {
     logged = h.logged;
-    notes = λ w.
-        ap₂ (λ a b. (a, b))
+    wanted = wanted;
+    notes = λ w. as-wanted (sym names)
+        (record {
+          found = λ y.
+              remembered x (log s) (found_of c s.found.items) w there y
+              ∙ ap₂ (λ l os. is_among y (free_names (found_of c l.items ++ os))) (sym found) (marked-same (x ∷ log s) (log t) (λ y. sym (h.has y)) w);
+          macros = ap (λ l. macros_of l.items ++ declared w) (sym macros);
+        });
+    chains = λ are. subst (λ l. All (IsChain c) l.items) (sym found) are;
+    log = h.log;
+    waiting = ap (λ l. l.items) waiting;
+  }
+
+  -- a name is stored
+  pub stores-walks : (s t : Walker V F) (x : Text) → Stores s.scopes t.scopes x → t.found ≡ s.found → t.macros ≡ s.macros → t.names_only ≡ s.names_only → t.waiting ≡ s.waiting → Walks c s t (stores x)
+  stores-walks s t x h found macros wanted waiting = record {
+    logged = h.logged;
+    wanted = wanted;
+    notes = λ w. alike-same
+        (ap₂ (λ a b. (a, b))
         (ap₂ (λ l os. found_of c l.items ++ os) (sym found) (marked-same (x ∷ log s) (log t) (λ y. sym (h.has y)) w))
-        (ap (λ l. macros_of l.items ++ declared w) (sym macros));
+        (ap (λ l. macros_of l.items ++ declared w) (sym macros)));
     chains = λ are. subst (λ l. All (IsChain c) l.items) (sym found) are;
     log = h.log;
     waiting = ap (λ l. l.items) waiting;
   }
 
   -- a macro statement stores its name
-  pub declares-walks : (s t : Walker V F) (x : Bor Text) (at : Span) → Stores s.scopes t.scopes x.now → t.found ≡ s.found → t.macros.items ≡ s.macros.items ++ (x, at) ∷ [] → t.waiting ≡ s.waiting →
+  pub declares-walks : (s t : Walker V F) (x : Bor Text) (at : Span) → Stores s.scopes t.scopes x.now → t.found ≡ s.found → t.macros.items ≡ s.macros.items ++ (x, at) ∷ [] → t.names_only ≡ s.names_only → t.waiting ≡ s.waiting →
       Walks c s t (λ w. declares x.now at (stores x.now w))
-  declares-walks s t x at h found macros waiting =
+  declares-walks s t x at h found macros wanted waiting =
       let g : Bor Text × Span → Text × Span = λ m. (m.0.now, m.1) in
       let more : macros_of t.macros.items ≡ macros_of s.macros.items ++ (x.now, at) ∷ [] = ap (map g) macros ∙ map-append g s.macros.items ((x, at) ∷ []) in
       record {
         logged = h.logged;
-        notes = λ w.
-            ap₂ (λ a b. (a, b))
+        wanted = wanted;
+        notes = λ w. alike-same
+            (ap₂ (λ a b. (a, b))
             (ap₂ (λ l os. found_of c l.items ++ os) (sym found) (marked-same (x.now ∷ log s) (log t) (λ y. sym (h.has y)) w))
-            (pushed (macros_of s.macros.items) (declared w) (macros_of t.macros.items) (x.now, at) more);
+            (pushed (macros_of s.macros.items) (declared w) (macros_of t.macros.items) (x.now, at) more));
         chains = λ are. subst (λ l. All (IsChain c) l.items) (sym found) are;
         log = h.log;
         waiting = ap (λ l. l.items) waiting;
@@ -151,11 +204,11 @@ module _ {V F C : Type 0} (c : V → C) where
 
   -- storing may fail
 
-  pub then-stores : {R E : Type 0} (r : Result R E) (s t : Walker V F) (x : Text) → OnOk r (Stores s.scopes t.scopes x) → t.found ≡ s.found → t.macros ≡ s.macros → t.waiting ≡ s.waiting → OnOk r (Walks c s t (stores x))
-  then-stores (Err e) s t x h found macros waiting = tt
-  then-stores (Ok z) s t x h found macros waiting = stores-walks s t x h found macros waiting
+  pub then-stores : {R E : Type 0} (r : Result R E) (s t : Walker V F) (x : Text) → OnOk r (Stores s.scopes t.scopes x) → t.found ≡ s.found → t.macros ≡ s.macros → t.names_only ≡ s.names_only → t.waiting ≡ s.waiting → OnOk r (Walks c s t (stores x))
+  then-stores (Err e) s t x h found macros wanted waiting = tt
+  then-stores (Ok z) s t x h found macros wanted waiting = stores-walks s t x h found macros wanted waiting
 
-  pub then-declares : {R E : Type 0} (r : Result R E) (s t : Walker V F) (x : Bor Text) (at : Span) → OnOk r (Stores s.scopes t.scopes x.now) → t.found ≡ s.found → t.macros.items ≡ s.macros.items ++ (x, at) ∷ [] → t.waiting ≡ s.waiting →
+  pub then-declares : {R E : Type 0} (r : Result R E) (s t : Walker V F) (x : Bor Text) (at : Span) → OnOk r (Stores s.scopes t.scopes x.now) → t.found ≡ s.found → t.macros.items ≡ s.macros.items ++ (x, at) ∷ [] → t.names_only ≡ s.names_only → t.waiting ≡ s.waiting →
       OnOk r (Walks c s t (λ w. declares x.now at (stores x.now w)))
-  then-declares (Err e) s t x at h found macros waiting = tt
-  then-declares (Ok z) s t x at h found macros waiting = declares-walks s t x at h found macros waiting
+  then-declares (Err e) s t x at h found macros wanted waiting = tt
+  then-declares (Ok z) s t x at h found macros wanted waiting = declares-walks s t x at h found macros wanted waiting

@@ -1,12 +1,13 @@
 //! The walk through expressions, in order of execution.
-ghost use Rattle.std.specs.Prelude.{IfOk, OnOk};
+ghost use Rattle.std.specs.Prelude.{◌<◌, ◌≤◌, IfOk, IfSome, OnOk};
 ghost use Rattle.minijinja_tree.specs.SpannedErasure.{all_compared, args_of, expr_node, optional_of, trees};
 ghost use Rattle.minijinja_tree.specs.SpannedTrees.{comparisons_of, exprs_of};
+ghost use Rattle.minijinja_tree_expr.specs.Sizes.{size_of};
 ghost use Rattle.minijinja_meta.specs.Mentions.{each, in_turn, through, through_all, through_compared, through_if_any, through_keyword, through_positional};
 ghost use Rattle.minijinja_meta.specs.private.Parts as parts;
-ghost use Rattle.minijinja_meta.specs.private.Parts.{any_node};
+ghost use Rattle.minijinja_meta.specs.private.Parts.{HasParts, any_node};
 ghost use Rattle.minijinja_meta.specs.private.Scoped.{IsLogged};
-ghost use Rattle.minijinja_meta.specs.private.Walked.{Descends, Walks};
+ghost use Rattle.minijinja_meta.specs.private.Walked.{Reaches, Walks};
 
 use crate::parts::{Start, base_of, key_at, keyword, positional, start_of, value_at};
 use crate::walker::Walker;
@@ -14,9 +15,8 @@ use minijinja_tree::ast::{CallArg, CompareOp, Expr, Map, Slice};
 use minijinja_value::value::TemplateValue;
 use std::alloc::AllocError;
 
-/// Walks through an expression. Goes down the long side in a loop and back up in another, so that a
-/// row of operators, attributes, filters, calls or if expressions takes no more stack than one of
-/// them.
+/// Walks through an expression.
+#[inline(always)]
 #[cycle(walk)]
 pub fn expression<'a, 's, V: TemplateValue>(
     walker: &mut Walker<'a, 's, V>,
@@ -26,45 +26,83 @@ pub fn expression<'a, 's, V: TemplateValue>(
     ensures { OnOk result (Walks V.contents walker.old walker.new
         (through (expr_node V.contents expr.now))) }
 {
-    let mark = walker.waiting.len();
-    let mut side = Some(expr);
-    while let Some(chain) = side {
-        side = next_side(walker, chain)?;
+    match leaf(walker, expr)? {
+        Some(part) => row(walker, part),
+        None => Ok(()),
     }
-    while walker.waiting.len() > mark {
-        let Some(part) = walker.waiting.pop() else {
-            return Ok(());
-        };
-        rest(walker, part)?;
-    }
-    Ok(())
 }
 
-/// Walks through an expression up to its long side, if it has one, and leaves what comes after it.
-/// Attributes are followed to what they are taken of first.
-#[cycle(walk)]
-fn next_side<'a, 's, V: TemplateValue>(
+/// Walks through a constant, or a variable with its attributes. Of any other expression it returns
+/// what the attributes are taken of.
+#[inline(always)]
+fn leaf<'a, 's, V: TemplateValue>(
     walker: &mut Walker<'a, 's, V>,
     chain: &'a Expr<'s, V>,
 ) -> Result<Option<&'a Expr<'s, V>>, AllocError>
     requires { IsLogged walker.old.scopes }
-    ensures { IfOk result (Descends V.contents walker.old walker.new chain.now) }
+    ensures reaches { IfOk result (λ next. Reaches V.contents walker.old walker.new
+        (through (expr_node V.contents chain.now)) next (λ w. w)) }
+    ensures smaller { IfOk result (λ next. IfSome next (λ e. size_of e.now ≤ size_of chain.now)) }
 {
     let part = base_of(chain);
+    match part {
+        Expr::Var(variable) => {
+            walker.occurs(variable.node().id, variable.span(), chain)?;
+            Ok(None)
+        }
+        Expr::Const(_) => Ok(None),
+        _ => Ok(Some(part)),
+    }
+}
+
+/// Walks through an expression that is no attribute and no variable. Goes down the long side in a loop and back up
+/// in another, so that a row of operators, attributes, filters, calls or if expressions takes no
+/// more stack than one of them.
+#[inline(never)]
+#[cycle(walk)]
+fn row<'a, 's, V: TemplateValue>(
+    walker: &mut Walker<'a, 's, V>,
+    expr: &'a Expr<'s, V>,
+) -> Result<(), AllocError>
+    requires logged { IsLogged walker.old.scopes }
+    requires parts { HasParts (expr_node V.contents expr.now) }
+    ensures { OnOk result (Walks V.contents walker.old walker.new
+        (through (expr_node V.contents expr.now))) }
+{
+    let mark = walker.waiting.len();
+    let mut left = None;
+    let mut side = Some(expr);
+    while let Some(part) = side {
+        left = walker.leaves(left, part)?;
+        side = next_side(walker, part)?;
+    }
+    while let Some(part) = left {
+        rest(walker, part)?;
+        left = walker.left_after(mark);
+    }
+    Ok(())
+}
+
+/// Walks through what comes before the long side of an expression, and through the long side if it
+/// is a leaf. Returns it otherwise.
+#[inline(always)]
+#[cycle(walk)]
+fn next_side<'a, 's, V: TemplateValue>(
+    walker: &mut Walker<'a, 's, V>,
+    part: &'a Expr<'s, V>,
+) -> Result<Option<&'a Expr<'s, V>>, AllocError>
+    requires logged { IsLogged walker.old.scopes }
+    requires parts { HasParts (expr_node V.contents part.now) }
+    ensures reaches { IfOk result (λ next. Reaches V.contents walker.old walker.new
+        (through (expr_node V.contents part.now)) next (parts.rest (expr_node V.contents part.now))) }
+    ensures smaller { IfOk result (λ next. IfSome next (λ e. size_of e.now < size_of part.now)) }
+{
     match start_of(part) {
         Start::Side(test, side) => {
             if_any(walker, test)?;
-            walker.leaves(part)?;
-            Ok(Some(side))
+            leaf(walker, side)
         }
-        Start::Variable(name, span) => {
-            walker.occurs(name, span, chain)?;
-            Ok(None)
-        }
-        Start::Parts => {
-            walker.leaves(part)?;
-            Ok(None)
-        }
+        Start::Parts => Ok(None),
     }
 }
 

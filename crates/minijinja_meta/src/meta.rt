@@ -33,7 +33,7 @@ pub fn find_undeclared<'s, V: TemplateValue>(
         else plain_names (way (stmt_node V.contents stmt.now)))) }
     ensures memory { IfErr result IsOutOfMemory }
 {
-    let mut walker = Walker::new(alloc);
+    let mut walker = Walker::new(alloc, !track_nested);
     statement(&mut walker, stmt)?;
     Ok(mentions::written_names(alloc, &walker.found, track_nested)?)
 }
@@ -48,7 +48,7 @@ pub fn find_macro_closure<'s, V: TemplateValue>(
         (macro_tree V.contents declared.now)) }
     ensures memory { IfErr result IsOutOfMemory }
 {
-    let mut walker = Walker::new(alloc);
+    let mut walker = Walker::new(alloc, true);
     parameters(&mut walker, declared)?;
     statements(&mut walker, &declared.body)?;
     Ok(mentions::plain_names(alloc, &walker.found)?)
@@ -67,7 +67,7 @@ pub fn occurrences<'a, 's, V: TemplateValue>(
         (way (stmt_node V.contents stmt.now))) }
     ensures memory { IfErr result IsOutOfMemory }
 {
-    let mut walker = Walker::new(alloc);
+    let mut walker = Walker::new(alloc, false);
     statement(&mut walker, stmt)?;
     Ok(walker.finish())
 }

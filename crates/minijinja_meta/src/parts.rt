@@ -3,9 +3,8 @@ ghost use Rattle.std.specs.Prelude.{◌≡◌, ◌<◌, ◌≤◌, IfSome, optio
 ghost use Rattle.minijinja_tree.specs.SpannedErasure.{arg_view, expr_node};
 ghost use Rattle.minijinja_tree_expr.specs.Sizes.{size_of};
 ghost use Rattle.minijinja_meta.specs.Mentions.{Way, attributes_of, chained, through};
-ghost use Rattle.minijinja_meta.specs.private.Parts.{IsBase, IsSmaller, IsStart, arg_size, keyword_of, map_size, most_size, positional_of};
+ghost use Rattle.minijinja_meta.specs.private.Parts.{HasParts, IsBase, IsSmaller, IsStart, arg_size, keyword_of, map_size, most_size, positional_of};
 
-use minijinja_syntax::tokens::Span;
 use minijinja_tree::ast::{CallArg, Expr, Map};
 use minijinja_value::value::TemplateValue;
 
@@ -15,8 +14,6 @@ pub enum Start<'a, 's, V: TemplateValue> {
     /// At the long side, as the left operand of an operator. An if expression has a test, which
     /// comes before.
     Side(Option<&'a Expr<'s, V>>, &'a Expr<'s, V>),
-    /// At a variable.
-    Variable(&'s str, Span),
     /// At the first of its parts: no side of it is long.
     Parts,
 }
@@ -36,14 +33,14 @@ pub fn base_of<'a, 's, V: TemplateValue>(chain: &'a Expr<'s, V>) -> &'a Expr<'s,
     part
 }
 
-/// How the way through an expression begins that is no attribute.
+/// How the way through an expression begins that is no attribute and no variable.
 pub fn start_of<'a, 's, V: TemplateValue>(expr: &'a Expr<'s, V>) -> Start<'a, 's, V>
-    requires { IsBase (expr_node V.contents expr.now) }
+    requires { HasParts (expr_node V.contents expr.now) }
     ensures way { IsStart V.contents expr.now result }
     ensures smaller { IsSmaller expr.now result }
 {
     match expr {
-        Expr::Var(variable) => Start::Variable(variable.node().id, variable.span()),
+        Expr::Var(_) => unreachable!(),
         Expr::Const(_) => Start::Parts,
         Expr::Slice(slice) => Start::Side(None, &slice.node().expr),
         Expr::UnaryOp(operation) => Start::Side(None, &operation.node().expr),

@@ -9,7 +9,9 @@ use std::collections::BTreeSet;
 /// The names that are stored where a region is still open.
 #[derive(Drop)]
 pub struct Scopes<'s> {
-    stored: BTreeSet<&'s str>,
+    /// The stored names, each after its length in bytes, since most names differ in length, and
+    /// numbers are compared sooner than texts.
+    stored: BTreeSet<(usize, &'s str)>,
     /// The stored names in the order in which they were stored, so that those of the innermost
     /// region come last.
     log: Vec<&'s str>,
@@ -27,11 +29,11 @@ impl<'s> Scopes<'s> {
     }
 
     /// Whether the name is stored.
-    pub fn has(&self, name: &str) -> bool
+    pub fn has(&self, name: &'s str) -> bool
         requires { IsLogged self.now }
         ensures { result ≡ is_among name.now (log self.now) }
     {
-        self.stored.contains(name)
+        self.stored.contains(&(name.len(), name))
     }
 
     /// Stores a name.
@@ -39,7 +41,7 @@ impl<'s> Scopes<'s> {
         requires { IsLogged self.old }
         ensures { OnOk result (Stores self.old self.new name.now) }
     {
-        if self.stored.insert(name)? {
+        if self.stored.insert((name.len(), name))? {
             self.log.push(name)?;
         }
         Ok(())
@@ -72,6 +74,6 @@ impl<'s> Scopes<'s> {
         let Some(name) = self.log.pop() else {
             return;
         };
-        self.stored.remove(name);
+        self.stored.remove(&(name.len(), name));
     }
 }

@@ -17,6 +17,8 @@ use minijinja_tree::ast::{
 use minijinja_value::value::TemplateValue;
 use std::alloc::AllocError;
 
+/// Walks through statements in order. Text and outputs, of which a template mostly consists, are
+/// not worth a call.
 #[cycle(statements)]
 pub fn statements<'a, 's, V: TemplateValue>(
     walker: &mut Walker<'a, 's, V>,
@@ -27,7 +29,11 @@ pub fn statements<'a, 's, V: TemplateValue>(
         (through_stmts (stmts_of (map (stmt_node V.contents) stmts.now)))) }
 {
     for stmt in stmts {
-        statement(walker, stmt)?;
+        match stmt {
+            Stmt::EmitRaw(_) => {}
+            Stmt::EmitExpr(output) => expression(walker, &output.node().expr)?,
+            _ => statement(walker, stmt)?,
+        }
     }
     Ok(())
 }

@@ -1,10 +1,10 @@
 //! What a walk through a tree has found so far.
-ghost use Rattle.std.specs.Prelude.{◌≡◌, OnOk, length};
+ghost use Rattle.std.specs.Prelude.{◌≡◌, IfOk, OnOk, length};
 ghost use Rattle.minijinja_tree.specs.SpannedErasure.{expr_node};
 ghost use Rattle.minijinja_meta.specs.Mentions as way;
 ghost use Rattle.minijinja_meta.specs.Mentions.{attributes_of, through};
 ghost use Rattle.minijinja_meta.specs.private.Scoped.{IsLogged};
-ghost use Rattle.minijinja_meta.specs.private.Walked.{Forgets, IsNew, Leaves, Walks, log};
+ghost use Rattle.minijinja_meta.specs.private.Walked.{Forgets, IsNew, Leaves, Takes, Walks, log};
 
 use crate::mentions::{Occurrence, Occurrences};
 use crate::scopes::Scopes;
@@ -22,21 +22,26 @@ pub struct Walker<'a, 's, V: TemplateValue> {
     /// Expressions whose long side is being walked through, the innermost last: their other parts
     /// are walked through next.
     pub waiting: Vec<&'a Expr<'s, V>>,
+    /// Whether only names are wanted: then a name that was found free counts as stored, so that it
+    /// is not found again before the region ends.
+    pub names_only: bool,
 }
 
 impl<'a, 's, V: TemplateValue> Walker<'a, 's, V> {
-    pub fn new(alloc: Global) -> Self
-        ensures { IsNew result }
+    pub fn new(alloc: Global, names_only: bool) -> Self
+        ensures { IsNew result names_only }
     {
         Walker {
             found: Vec::new(alloc),
             macros: Vec::new(alloc),
             scopes: Scopes::new(alloc),
             waiting: Vec::new(alloc),
+            names_only,
         }
     }
 
     /// Notes a variable that occurs, in the chain of attributes that are taken right on it.
+    #[inline(never)]
     pub fn occurs(
         &mut self,
         name: &'s str,
@@ -54,12 +59,18 @@ impl<'a, 's, V: TemplateValue> Walker<'a, 's, V> {
             (through (expr_node V.contents chain.now))) }
     {
         let is_free = !self.scopes.has(name);
+        if self.names_only && !is_free {
+            return Ok(());
+        }
         self.found.push(Occurrence {
             name,
             span,
             chain,
             is_free,
         })?;
+        if self.names_only {
+            self.scopes.store(name)?;
+        }
         Ok(())
     }
 
@@ -96,12 +107,30 @@ impl<'a, 's, V: TemplateValue> Walker<'a, 's, V> {
         self.scopes.end(mark);
     }
 
-    /// Leaves the other parts of an expression for after its long side.
-    pub fn leaves(&mut self, expr: &'a Expr<'s, V>) -> Result<(), AllocError>
-        ensures { OnOk result (Leaves self.old self.new expr.entry) }
+    /// Leaves the parts of an expression for after its long side. It is returned, and the one that
+    /// was left before it waits.
+    pub fn leaves(
+        &mut self,
+        before: Option<&'a Expr<'s, V>>,
+        expr: &'a Expr<'s, V>,
+    ) -> Result<Option<&'a Expr<'s, V>>, AllocError>
+        ensures { IfOk result (Leaves self.old self.new before.entry expr.entry) }
     {
-        self.waiting.push(expr)?;
-        Ok(())
+        if let Some(before) = before {
+            self.waiting.push(before)?;
+        }
+        Ok(Some(expr))
+    }
+
+    /// The expression that was left last, if one is left after the mark.
+    pub fn left_after(&mut self, mark: usize) -> Option<&'a Expr<'s, V>>
+        ensures { Takes self.old self.new mark result }
+    {
+        if self.waiting.len() > mark {
+            self.waiting.pop()
+        } else {
+            None
+        }
     }
 
     /// What was found.

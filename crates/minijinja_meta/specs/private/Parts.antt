@@ -12,7 +12,7 @@ use Rattle.minijinja_tree_expr.specs.declared.ast.Expr.{Expr as Node}
 use Rattle.minijinja_tree_expr.specs.declared.ast.Map.{Map, size-Map}
 use Rattle.minijinja_meta.specs.Mentions.{Way, in_turn, chained, through, through_if_any, through_all, each, through_compared, through_positional, through_keyword}
 use Rattle.minijinja_meta.specs.declared.parts.Start.{Start}
-use Rattle.minijinja_meta.specs.declared.parts.Start.TheVariants.{Side, Variable, Parts}
+use Rattle.minijinja_meta.specs.declared.parts.Start.TheVariants.{Side, Parts}
 
 -- the way through the parts of an expression but its long side, and but the test of an if expression
 abbrev pub rest : {C : Type 0} → Expr C → Way → Way
@@ -37,6 +37,11 @@ abbrev pub rests : {V F C : Type 0} → (V → C) → List (Bor (Node V F)) → 
 rests c [] w = w
 rests c (x ∷ xs) w = rests c xs (rest (expr_node c x.now) w)
 
+-- the rest of an expression that may be absent
+abbrev pub rest_if_any : {V F C : Type 0} → (V → C) → Option (Bor (Node V F)) → Way → Way
+rest_if_any c None w = w
+rest_if_any c (Some x) w = rest (expr_node c x.now) w
+
 -- an expression that may be absent
 abbrev pub any_node : {V F C : Type 0} → (V → C) → Option (Bor (Node V F)) → Optional C
 any_node c o = optional_of (option_map (λ e. expr_node c e.now) o)
@@ -46,16 +51,20 @@ abbrev pub IsBase : {C : Type 0} → Expr C → Type 0
 IsBase (attribute e y s) = ⊥
 IsBase _ = Unit {0}
 
--- the way through an expression begins so, if it is no attribute
+-- it is no attribute and no variable
+abbrev pub HasParts : {C : Type 0} → Expr C → Type 0
+HasParts (attribute e y s) = ⊥
+HasParts (variable x s) = ⊥
+HasParts _ = Unit {0}
+
+-- the way through an expression begins so, if it is no attribute and no variable
 abbrev pub IsStart : {V F C : Type 0} → (V → C) → Node V F → Start V F → Type 0
 IsStart c e (Side t x) = (ys : List Text) (w : Way) → chained ys (expr_node c e) w ≡ through_if_any (any_node c t) (through (expr_node c x.now) (rest (expr_node c e) w))
-IsStart c e (Variable x s) = expr_node c e ≡ variable x.now s
 IsStart c e Parts = (ys : List Text) (w : Way) → chained ys (expr_node c e) w ≡ rest (expr_node c e) w
 
 -- what it begins with is smaller than the expression
 abbrev pub IsSmaller : {V F : Type 0} → Node V F → Start V F → Type 0
 IsSmaller e (Side t x) = IfSome t (λ t. size_of t.now < size_of e) × (size_of x.now < size_of e)
-IsSmaller e (Variable x s) = Unit {0}
 IsSmaller e Parts = Unit {0}
 
 -- the expression of a positional or `*` argument

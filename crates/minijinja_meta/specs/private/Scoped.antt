@@ -1,15 +1,24 @@
 -- The names that are stored where a region is still open.
-use Rattle.std.specs.Prelude.{◌≡◌, Bool, false, List, [], ◌∷◌, ◌++◌, map}
+use Rattle.std.specs.Prelude.{◌≡◌, ℕ, Bool, false, List, [], ◌∷◌, ◌++◌, length, map}
 use Rattle.std.specs.Borrow.{Bor}
 use Rattle.std.specs.BTreeSet.{BTreeSet, contains_by}
 use Rattle.std.specs.Cmp.Lexicographic.{slice_cmp}
-use Rattle.std.specs.Ordering.{nat_cmp}
+use Rattle.std.specs.Ordering.{nat_cmp, ordering_then}
+use Rattle.std.specs.declared.cmp.Ordering.{Ordering}
 use Rattle.minijinja_syntax.specs.Texts.{Text}
 use Rattle.minijinja_meta.specs.Mentions.{is_among}
 use Rattle.minijinja_meta.specs.declared.scopes.Scopes.{Scopes}
 
-abbrev pub among : Text → BTreeSet (Bor Text) → Bool
-among y s = contains_by (λ k. slice_cmp nat_cmp y k.now) s
+-- a name after its length
+abbrev pub Sized : Type 0
+Sized = ℕ × Bor Text
+
+-- the order of names by their lengths, and then by their bytes
+abbrev pub by_length : Sized → Sized → Ordering
+by_length x y = ordering_then (nat_cmp x.0 y.0) (slice_cmp nat_cmp x.1.now y.1.now)
+
+abbrev pub among : Text → BTreeSet Sized → Bool
+among y s = contains_by (by_length (length y, record { ref_ptr = (0, 0); now = y })) s
 
 -- the stored names in the order in which they were stored
 abbrev pub log : Scopes → List Text

@@ -7,38 +7,40 @@ use Rattle.minijinja_tree_expr.proofs.NodeRows.{call_is, compare_is, filter_is, 
 use Rattle.minijinja_meta.specs.Mentions.{through_all, through_compared, through_if_any, through_keyword, through_positional}
 use Rattle.minijinja_meta.specs.private.Parts.{any_node, map_size, rest}
 use Rattle.minijinja_meta.specs.private.Walked.{Walks}
-use Rattle.minijinja_meta.proofs.Descending.{descending-begins, descending-goes-on, descends-variable, last-within, rising-begins, rising-goes-on}
+use Rattle.minijinja_meta.proofs.Descending.{descending-begins, descending-goes-on, fewer, rising-begins, rising-goes-on, then-side, walks-reached}
 use Rattle.minijinja_meta.proofs.ExprWays.{arg-below, copied-is, next-compared, next-expr, next-keyword, next-pair, next-positional, no-keyword, no-pairs, no-positional, rest-below}
 use Rattle.minijinja_meta.proofs.Walking.{then-walks, walking-ends, walking-goes-on, walking-left, walks-as, walks-on}
 use Rattle.minijinja_meta.proofs.expressions.+walk.Goals as goal
 
 -- ---- down the long side and back up
 
-pub expression-loop-side-init : goal.expression-loop-side-init
-expression-loop-side-init g t c = descending-begins g.V.TemplateValue.contents c.args.walker.now c.args.expr c.requires
+pub expression-returns-in-Some : goal.expression-returns-in-Some
+expression-returns-in-Some g t c =
+    walks-reached g.V.TemplateValue.contents c.row.result c.args.walker.now c.leaf.new.walker c.row.new.walker _ _ c.in-Some.part c.in-Some.is c.in_ok-part.ensures.reaches c.row.ensures
 
-pub expression-loop-side-preserved : goal.expression-loop-side-preserved
-expression-loop-side-preserved g t c =
-    descending-goes-on g.V.TemplateValue.contents c.args.walker.now c.loop-side.walker c.next_side.new.walker c.args.expr.now c.loop-side.side c.in_ok-side.side c.in-Some.chain c.in-Some.is c.loop-side.invariant c.in_ok-side.ensures
+pub next_side-returns-in_ok-if_any-in-Side-clause-reaches : goal.next_side-returns-in_ok-if_any-in-Side-clause-reaches
+next_side-returns-in_ok-if_any-in-Side-clause-reaches g t c =
+    then-side g.V.TemplateValue.contents c.leaf.result c.args.walker.now c.if_any.new.walker c.leaf.new.walker c.args.part.now c.in-Side.side.now _ c.in_ok-if_any-in-Side.ensures c.leaf.ensures.reaches c.in-Side.ensures.way
 
-pub expression-loop-walker-init : goal.expression-loop-walker-init
-expression-loop-walker-init g t c =
-    rising-begins g.V.TemplateValue.contents c.args.walker.now c.loop-side.walker c.args.expr.now c.loop-side.side c.len-mark.result (c.len-mark.ensures ∙ c.args.walker.now.waiting.ok.0) c.in_default.not-Some c.loop-side.invariant
+pub row-loop-side-init : goal.row-loop-side-init
+row-loop-side-init g t c = descending-begins g.V.TemplateValue.contents c.args.walker.now c.args.expr c.requires.logged c.requires.parts
 
-pub expression-rest-requires : goal.expression-rest-requires
-expression-rest-requires g t c κs within =
-    let past : c.len-mark.result < length c.loop-walker.walker.waiting.items = omega (arith, c.len.ensures, c.loop-walker.walker.waiting.ok.0) in
-    let deep = last-within g.V.TemplateValue.contents c.args.walker.now c.loop-walker.walker c.args.expr.now c.len-mark.result c.loop-walker.invariant c.pop.new.self.items c.in-Some-pop.part c.in-Some-pop.ensures.items past in
-    (omega (arith, deep, c.decreases), search rules)
+pub row-loop-side-preserved : goal.row-loop-side-preserved
+row-loop-side-preserved g t c =
+    descending-goes-on g.V.TemplateValue.contents c.args.walker.now c.loop-side.walker c.leaves.new.self c.next_side.new.walker c.args.expr.now c.loop-side.left c.loop-side.side c.in_ok-left.left c.in_ok-side.side c.in-Some.part
+    c.in-Some.is c.loop-side.invariant c.in_ok-left.ensures c.in_ok-side.ensures.reaches c.in_ok-side.ensures.smaller
 
-pub expression-loop-walker-preserved : goal.expression-loop-walker-preserved
-expression-loop-walker-preserved g t c =
-    let past : c.len-mark.result < length c.loop-walker.walker.waiting.items = omega (arith, c.len.ensures, c.loop-walker.walker.waiting.ok.0) in
-    rising-goes-on g.V.TemplateValue.contents c.args.walker.now c.loop-walker.walker c.args.expr.now c.len-mark.result c.loop-walker.invariant c.pop.new.self.items c.in-Some-pop.part c.in-Some-pop.ensures.items past
-    (record c.loop-walker.walker { waiting = c.pop.new.self }) c.rest.new.walker refl refl refl refl c.in_ok-rest.ensures
+pub row-loop-left-init : goal.row-loop-left-init
+row-loop-left-init g t c =
+    rising-begins g.V.TemplateValue.contents c.args.walker.now c.loop-side.walker c.args.expr.now c.loop-side.left c.loop-side.side c.len-mark.result (c.len-mark.ensures ∙ c.args.walker.now.waiting.ok.0) c.in_default.not-Some c.loop-side.invariant
 
-pub next_side-returns-in_ok-occurs-in-Variable : goal.next_side-returns-in_ok-occurs-in-Variable
-next_side-returns-in_ok-occurs-in-Variable g t c = descends-variable g.V.TemplateValue.contents c.args.walker.now c.occurs.new.self c.args.chain.now c.in_ok-occurs-in-Variable.ensures
+pub row-loop-left-smaller : goal.row-loop-left-smaller
+row-loop-left-smaller g t c =
+    fewer g.V.TemplateValue.contents c.loop-left.walker c.rest.new.walker c.left_after-left.new.self c.len-mark.result c.loop-left.left c.left_after-left.result c.in-Some-left.part c.in-Some-left.is c.in_ok-rest.ensures.waiting c.left_after-left.ensures
+
+pub row-loop-left-preserved : goal.row-loop-left-preserved
+row-loop-left-preserved g t c =
+    rising-goes-on g.V.TemplateValue.contents c.args.walker.now c.loop-left.walker c.rest.new.walker c.left_after-left.new.self c.args.expr.now c.len-mark.result c.loop-left.left c.in-Some-left.part c.in-Some-left.is c.loop-left.invariant c.in_ok-rest.ensures c.left_after-left.result c.left_after-left.ensures
 
 -- ---- the other parts
 

@@ -4,49 +4,52 @@ use Rattle.minijinja_tree.specs.SpannedTrees.{comparisons_of, exprs_of}
 use Rattle.minijinja_tree_expr.proofs.Sizes.{rest_size}
 use Rattle.minijinja_meta.specs.Mentions.{through_all, through_compared, through_keyword, through_positional}
 use Rattle.minijinja_meta.specs.private.Walked.{Walking}
-use Rattle.minijinja_meta.proofs.Descending.{Descending, Rising}
+use Rattle.minijinja_meta.proofs.Descending.{Descending, Rising, at_most_one}
 use Rattle.minijinja_meta.proofs.ExprWays.{turn}
 use Rattle.minijinja_meta.proofs.expressions.+walk.Given as goal
 
 -- how deep the argument is, and among equals the caller above what it calls
 abbrev pub decreases-expression : goal.decreases-expression
-decreases-expression g l = 3 * goal.size-expression g l + 2
+decreases-expression g l = 4 * goal.size-expression g l + 3
+
+abbrev pub decreases-row : goal.decreases-row
+decreases-row g l = 4 * goal.size-row g l + 2
 
 abbrev pub decreases-next_side : goal.decreases-next_side
-decreases-next_side g l = 3 * goal.size-next_side g l + 1
+decreases-next_side g l = 4 * goal.size-next_side g l + 1
 
 abbrev pub decreases-rest : goal.decreases-rest
-decreases-rest g l = 3 * goal.size-rest g l + 1
+decreases-rest g l = 4 * goal.size-rest g l + 1
 
 abbrev pub decreases-bounds : goal.decreases-bounds
-decreases-bounds g l = 3 * goal.size-bounds g l + 1
+decreases-bounds g l = 4 * goal.size-bounds g l + 1
 
 abbrev pub decreases-if_any : goal.decreases-if_any
-decreases-if_any g l = 3 * rest_size l.expr + 0
+decreases-if_any g l = 4 * rest_size l.expr + 0
 
 abbrev pub decreases-expressions : goal.decreases-expressions
-decreases-expressions g l = 3 * goal.size-expressions g l + 3
+decreases-expressions g l = 4 * goal.size-expressions g l + 4
 
 abbrev pub decreases-compared : goal.decreases-compared
-decreases-compared g l = 3 * goal.size-compared g l + 3
+decreases-compared g l = 4 * goal.size-compared g l + 4
 
 abbrev pub decreases-arguments : goal.decreases-arguments
-decreases-arguments g l = 3 * goal.size-arguments g l + 1
+decreases-arguments g l = 4 * goal.size-arguments g l + 1
 
 abbrev pub decreases-pairs : goal.decreases-pairs
-decreases-pairs g l = 3 * goal.size-pairs g l + 1
+decreases-pairs g l = 4 * goal.size-pairs g l + 1
 
-abbrev pub invariant-expression-loop-side : goal.invariant-expression-loop-side
-invariant-expression-loop-side g l = Descending g.V.TemplateValue.contents l.initial.walker l.walker l.fn.expr l.side
+abbrev pub invariant-row-loop-side : goal.invariant-row-loop-side
+invariant-row-loop-side g l = Descending g.V.TemplateValue.contents l.fn.walker l.walker l.fn.expr l.left l.side
 
-abbrev pub decreases-expression-loop-side : goal.decreases-expression-loop-side
-decreases-expression-loop-side g l = rest_size l.side
+abbrev pub decreases-row-loop-side : goal.decreases-row-loop-side
+decreases-row-loop-side g l = rest_size l.side
 
-abbrev pub invariant-expression-loop-walker : goal.invariant-expression-loop-walker
-invariant-expression-loop-walker g l = Rising g.V.TemplateValue.contents l.fn.walker l.walker l.fn.expr l.mark
+abbrev pub invariant-row-loop-left : goal.invariant-row-loop-left
+invariant-row-loop-left g l = Rising g.V.TemplateValue.contents l.fn.walker l.walker l.fn.expr l.mark l.left
 
-abbrev pub decreases-expression-loop-walker : goal.decreases-expression-loop-walker
-decreases-expression-loop-walker g l = length l.walker.waiting.items
+abbrev pub decreases-row-loop-left : goal.decreases-row-loop-left
+decreases-row-loop-left g l = length l.walker.waiting.items + at_most_one l.left
 
 -- what is left is walked through next
 abbrev pub invariant-expressions-loop-expr : goal.invariant-expressions-loop-expr

@@ -1,9 +1,9 @@
-use Rattle.std.proofs.Common.{ap, ◌∙◌, subst}
+use Rattle.std.proofs.Common.{ap, ◌∙◌, refl, subst, true}
 use Rattle.minijinja_tree.specs.SpannedErasure.{trees}
 use Rattle.minijinja_meta.specs.Mentions.{free_of, in_order, names_of, through_stmts, to_parameters}
 use Rattle.minijinja_meta.specs.Occurrences.{found_of}
 use Rattle.minijinja_meta.specs.private.Walked.{Walks}
-use Rattle.minijinja_meta.proofs.Finding.{closure-is, found-is}
+use Rattle.minijinja_meta.proofs.Finding.{closure-is, names-are}
 use Rattle.minijinja_meta.proofs.StatementNodes.{body_of}
 use Rattle.minijinja_meta.proofs.Walking.{walks-on}
 use Rattle.minijinja_meta.proofs.meta.find_macro_closure.Goals as goal
@@ -19,4 +19,4 @@ returns-clause-closure g c =
     let second : Walks v c.parameters.new.walker t body = subst (λ xs. Walks v c.parameters.new.walker t (through_stmts (body_of v xs))) c.deref.ensures.value c.in_ok-statements.ensures in
     let walked = walks-on v s c.parameters.new.walker t heads body c.in_ok-parameters.ensures second in
     c.in_ok-plain_names.ensures ∙ ap (λ os. in_order (names_of (free_of (found_of v os)))) c.deref-2.ensures.value
-    ∙ ap (λ l. in_order (names_of (free_of l))) (found-is v s t c.new-walker.ensures (λ w. heads (body w)) walked) ∙ closure-is v m
+    ∙ names-are v s t true c.new-walker.ensures (λ w. heads (body w)) walked refl ∙ closure-is v m

@@ -1,4 +1,4 @@
-use Rattle.std.proofs.Common.{◌<◌, ◌≤◌, length, arith, refl, sym, ap, ap₂, ◌∙◌, subst}
+use Rattle.std.proofs.Common.{◌+◌, ◌<◌, ◌≤◌, drop, length, arith, refl, sym, ap, ap₂, ◌∙◌, subst}
 use Rattle.std.specs.Prelude.{codes}
 use Rattle.minijinja_syntax.specs.Texts.{Text}
 use Rattle.minijinja_syntax.specs.declared.tokens.Span.{Span}
@@ -11,8 +11,9 @@ use Rattle.minijinja_meta.specs.private.Walked.{Walks}
 use Rattle.minijinja_meta.specs.private.Ways.{in_region, macro_node, nowhere, within_macro}
 use Rattle.minijinja_meta.proofs.StatementNodes.{body_of, call_block_is, call_in, declare_is, macro_in}
 use Rattle.minijinja_meta.proofs.StmtWays.{next-stmt, no-stmts, walking-left-out}
-use Rattle.minijinja_meta.proofs.Walking.{region-ends, then-walks, walking-ends, walking-goes-on, walks-as, walks-on}
+use Rattle.minijinja_meta.proofs.Walking.{region-ends, then-walks, walking-ends, walking-goes-on, walking-left, walks-as, walks-on}
 use Rattle.minijinja_meta.proofs.statements.+statements.Goals as goal
+use Rattle.minijinja_meta.proofs.statements.+statements.Goals.{statements-in-EmitRaw, statements-in-EmitExpr+in_ok-expression-in-EmitExpr, statements-in_default+in_ok-statement-in_default}
 
 -- ---- statements in order
 
@@ -22,7 +23,13 @@ statements-loop-stmt-preserved g t c =
     let xs = c.args.stmts.now in
     let i = c.loop-stmt.stmt-index in
     let within : i < length xs = omega arith in
-    walking-goes-on v c.args.walker.now c.loop-stmt.walker c.statement.new.walker _ _ _ _ c.loop-stmt.invariant c.in_ok-statement.ensures (next-stmt v xs i c.stmt-item.result within c.stmt-item.is)
+    let next = next-stmt v xs i c.stmt-item.result within c.stmt-item.is in
+    let others = through_stmts (body_of v (drop (i + 1) xs)) in
+    elim c.match-stmt.branch [
+      | statements-in-EmitRaw w ↦ rw w.walker-is (walking-left v c.args.walker.now c.loop-stmt.walker _ _ _ c.loop-stmt.invariant (λ u. next u ∙ ap (λ z. through_stmt (stmt_node v z) (others u)) w.in-EmitRaw.is))
+      | statements-in-EmitExpr+in_ok-expression-in-EmitExpr w ↦ rw w.walker-is (walking-goes-on v c.args.walker.now c.loop-stmt.walker w.expression.new.walker _ _ _ _ c.loop-stmt.invariant w.in_ok-expression-in-EmitExpr.ensures (λ u. next u ∙ ap (λ z. through_stmt (stmt_node v z) (others u)) w.in-EmitExpr.is ∙ ap (λ n. through (expr_node v n.expr) (others u)) (sym w.node.ensures)))
+      | statements-in_default+in_ok-statement-in_default w ↦ rw w.walker-is (walking-goes-on v c.args.walker.now c.loop-stmt.walker w.statement.new.walker _ _ _ _ c.loop-stmt.invariant w.in_ok-statement-in_default.ensures next)
+    ]
 
 pub statements-returns : goal.statements-returns
 statements-returns g t c =

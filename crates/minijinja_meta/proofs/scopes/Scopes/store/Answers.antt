@@ -4,8 +4,8 @@ use Rattle.minijinja_meta.proofs.scopes.Scopes.store.Goals as goal
 
 pub returns-in_ok-push : goal.returns-in_ok-push
 returns-in_ok-push c =
-    stored-new c.args.self.now (record { stored = c.insert.new.self; log = c.push.new.self }) c.args.name _ c.requires c.in_ok-insert.ensures.added c.if-branch.true c.in_ok-insert.ensures.updates c.in_ok-push.ensures.items
+    stored-new c.args.self.now (record { stored = c.insert.new.self; log = c.push.new.self }) c.args.name _ _ refl c.requires c.in_ok-insert.ensures.added c.if-branch.true c.in_ok-insert.ensures.updates c.in_ok-push.ensures.items
 
 pub returns-else-branch : goal.returns-else-branch
 returns-else-branch c =
-    stored-again c.args.self.now (record { stored = c.insert.new.self; log = c.args.self.now.log }) c.args.name _ c.requires c.in_ok-insert.ensures.added c.if-branch.false c.in_ok-insert.ensures.unchanged refl
+    stored-again c.args.self.now (record { stored = c.insert.new.self; log = c.args.self.now.log }) c.args.name _ _ refl c.requires c.in_ok-insert.ensures.added c.if-branch.false c.in_ok-insert.ensures.unchanged refl
