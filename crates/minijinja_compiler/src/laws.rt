@@ -1,9 +1,13 @@
 //! The laws of the definitions that the contracts of all layers use, and what one of them says of
 //! compiled code.
-ghost use Rattle.std.specs.Prelude.{[], ◌∷◌, All, IfSome, codes, length};
+ghost use Rattle.std.specs.Prelude.{◌≡◌, [], ◌∷◌, All, IfSome, codes, length};
 ghost use Rattle.minijinja_syntax.specs.Syntax.{Syntax};
 ghost use Rattle.minijinja_syntax.specs.Texts.{Text};
+ghost use Rattle.minijinja_tree.specs.Erasure.{stmt_tree};
+ghost use Rattle.minijinja_tree.specs.SpannedErasure.{stmt_node};
 ghost use Rattle.minijinja_tree.specs.Tree.{blocks};
+ghost use Rattle.minijinja_tree.specs.declared.ast.Stmt.{Stmt};
+ghost use Rattle.minijinja_meta.specs.Mentions.{plain_names, way};
 ghost use Rattle.minijinja_instructions.specs.Instructions.{code_of};
 ghost use Rattle.minijinja_semantics.specs.Correct.{a_statement};
 ghost use Rattle.minijinja_semantics.specs.Needs.{MacrosNeedOnly, RunsNeedOnly, made_in, undeclared};
@@ -27,6 +31,13 @@ pub use minijinja_semantics::laws::{
 };
 pub use minijinja_value::laws::{equality_is_an_equivalence, keys_are_distinct};
 use minijinja_value::value::TemplateValue;
+
+/// The plain names that [`find_undeclared`](crate::meta::find_undeclared) returns of a tree are
+/// those that are undeclared in it, of which the law that closures are enough speaks.
+pub fn plain_names_are_undeclared<V: TemplateValue>()
+    ensures { (s : Stmt V V.Fault) → plain_names (way (stmt_node V.contents s)) ≡ undeclared
+        (stmt_tree V.contents s) }
+{}
 
 /// Closures are enough for what is compiled. Whatever is answered, each name that a run of a
 /// compiled template looks up, calls or encloses while it is not stored is undeclared in its tree,
