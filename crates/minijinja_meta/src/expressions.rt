@@ -55,9 +55,9 @@ fn leaf<'a, 's, V: TemplateValue>(
     }
 }
 
-/// Walks through an expression that is no attribute and no variable. Goes down the long side in a loop and back up
-/// in another, so that a row of operators, attributes, filters, calls or if expressions takes no
-/// more stack than one of them.
+/// Walks through an expression that is no attribute and no variable. Goes down the long side in a
+/// loop and back up in another, so that a row of operators, attributes, filters, calls or if
+/// expressions takes no more stack than one of them.
 #[inline(never)]
 #[cycle(walk)]
 fn row<'a, 's, V: TemplateValue>(
