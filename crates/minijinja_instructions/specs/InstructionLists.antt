@@ -4,6 +4,8 @@ use Rattle.minijinja_syntax.specs.Texts.{Text}
 use Rattle.minijinja_syntax.specs.Errors.{kind_of}
 use Rattle.minijinja_syntax.specs.declared.error.Error.{Error}
 use Rattle.minijinja_syntax.specs.declared.error.ErrorKind.TheVariants.{OutOfMemory, TooManyInstructions}
+use Rattle.minijinja_instructions.specs.Marks.{Mark, marked}
+use Rattle.minijinja_instructions.specs.Runs.{values_of}
 use Rattle.minijinja_instructions.specs.declared.instructions.Instruction.{Instruction}
 use Rattle.minijinja_instructions.specs.declared.instructions.InstructionList.{InstructionList}
 
@@ -19,6 +21,10 @@ name_of code = code.name.now
 
 abbrev pub source_of : {I : Type 0} → InstructionList I → Text
 source_of code = code.source.now
+
+-- the line and the span of each
+abbrev pub marks_of : {I : Type 0} → InstructionList I → List Mark
+marks_of code = marked (values_of code.lines) (values_of code.spans)
 
 -- whether it is that of a block that another template has to override
 abbrev pub is_required : {I : Type 0} → InstructionList I → Bool

@@ -1,14 +1,17 @@
 //! Instructions, and lists of them.
-ghost use Rattle.std.specs.Prelude.{◌≡◌, ◌+◌, ◌≤◌, ◌<◌, ◌^◌, ◌==◌, ◌++◌, ◌∷◌, [], ◌↔◌, length, slice_get, false, IfOk, IfErr, OnOk, OnErr, IsErr, Option};
+ghost use Rattle.std.specs.Prelude.{◌≡◌, ◌+◌, ◌≤◌, ◌<◌, ◌^◌, ◌==◌, ◌++◌, ◌∷◌, [], ◌↔◌, length, slice_get, vec_len, false, Some, IfOk, IfErr, OnOk, OnErr, IsErr, Option};
 ghost use Rattle.std.specs.Option.{option_copied, option_copied_mut};
 ghost use Rattle.std.specs.Slice.Iter.{iter_rest};
 ghost use Rattle.std.specs.Iterator.Adapters.{IterYieldsInOrder, IterYieldsInReverse};
 ghost use Rattle.minijinja_syntax.specs.Errors.{kind_of};
 ghost use Rattle.minijinja_syntax.specs.declared.error.ErrorKind.TheVariants.{OutOfMemory, TooManyInstructions};
-ghost use Rattle.minijinja_instructions.specs.InstructionLists.{instructions_of, is_required, name_of, source_of, IsAddError};
+ghost use Rattle.minijinja_instructions.specs.Runs.{values_of};
 
-use crate::lists::{LIMIT, too_many};
+use crate::lists::reserve_one;
+use crate::marks::{mark_line, mark_span, placed};
+use crate::runs::Runs;
 use minijinja_syntax::error::Error;
+use minijinja_syntax::tokens::Span;
 use minijinja_value::value::{TemplateValue, Value};
 use std::alloc::Global;
 use std::slice;
@@ -197,14 +200,19 @@ pub enum Instruction<'s, V: TemplateValue = Value> {
     IsUndefined,
 }
 
-/// A list of instructions, with the name and the text of the source that they come from. It has
-/// fewer than 2^32.
+/// A list of instructions, with the name and the text of the source that they come from, and the
+/// line and the span of each. It has fewer than 2^32.
 #[derive(Drop)]
 pub struct InstructionList<'s, I> {
     pub(crate) instructions: Vec<I>,
+    pub(crate) lines: Runs<u16>,
+    /// A span of zeros is in force where there is none.
+    pub(crate) spans: Runs<Span>,
     pub(crate) name: &'s str,
     pub(crate) source: &'s str,
     pub(crate) is_required_block: bool,
+    ghost marked: { (length (values_of lines) ≡ vec_len instructions) ×
+        (length (values_of spans) ≡ vec_len instructions) },
 }
 
 /// A list of the instructions of a unit of code.
@@ -212,17 +220,22 @@ pub type Instructions<'s, V = Value> = InstructionList<'s, Instruction<'s, V>>;
 
 impl<'s, I> InstructionList<'s, I> {
     ghost use Rattle.std.specs.Borrow.{sem};
+    ghost use Rattle.minijinja_instructions.specs.InstructionLists.{instructions_of, is_required, marks_of, name_of, source_of, IsAddError};
     ghost use Rattle.minijinja_instructions.specs.Lending.{lends_instruction};
+    ghost use Rattle.minijinja_instructions.specs.Marks.{at_line, at_span, last_mark, line_at, shown, span_at};
 
     /// Makes an empty list, which allocates nothing yet.
     pub fn new(alloc: Global, name: &'s str, source: &'s str) -> Self
         ensures empty { instructions_of result ≡ [] }
+        ensures marks { marks_of result ≡ [] }
         ensures required { is_required result ≡ false }
         ensures name { name_of result ≡ name.now }
         ensures source { source_of result ≡ source.now }
     {
         InstructionList {
             instructions: Vec::new(alloc),
+            lines: Runs::new(alloc, 0),
+            spans: Runs::new(alloc, 0),
             name,
             source,
             is_required_block: false,
@@ -290,15 +303,38 @@ impl<'s, I> InstructionList<'s, I> {
         self.instructions.get_mut(index as usize)
     }
 
-    /// Adds an instruction and returns its index. It fails for want of memory, and where the list
-    /// would have 2^32 instructions; then the list is unchanged.
+    /// The line of the instruction at an index, counted from 1, or none if it has none. Past the
+    /// end it is the line of the last one.
+    pub fn get_line(&self, index: u32) -> Option<usize>
+        ensures { result ≡ line_at (marks_of self.now) index }
+    {
+        match self.lines.at(index as usize) {
+            Some(line) => Some(line as usize),
+            None => None,
+        }
+    }
+
+    /// The span of the instruction at an index, or none if it has none. Past the end it is the span
+    /// of the last one.
+    pub fn get_span(&self, index: u32) -> Option<Span>
+        ensures { result ≡ span_at (marks_of self.now) index }
+    {
+        placed(self.spans.at(index as usize))
+    }
+
+    /// Adds an instruction and returns its index. It has the line and the span of the last one. It
+    /// fails for want of memory, and where the list would have 2^32 instructions; then the list is
+    /// unchanged.
     pub fn add(&mut self, instruction: I) -> Result<u32, Error<'s>>
     where
         I: Drop,
         ensures added { IfOk result
             (λ _. instructions_of self.new ≡ instructions_of self.old ++ instruction ∷ []) }
+        ensures marked { IfOk result (λ _. marks_of self.new ≡ marks_of self.old ++ last_mark
+            (marks_of self.old) ∷ []) }
         ensures index { IfOk result (λ i. i ≡ length (instructions_of self.old)) }
         ensures unchanged { OnErr result (instructions_of self.new ≡ instructions_of self.old) }
+        ensures same_marks { OnErr result (marks_of self.new ≡ marks_of self.old) }
         ensures causes { IfErr result IsAddError }
         ensures too_many { IfErr result (λ e. kind_of e ≡ TooManyInstructions → 2 ^ 32 ≤ length
             (instructions_of self.old) + 1) }
@@ -308,26 +344,91 @@ impl<'s, I> InstructionList<'s, I> {
         ensures name { name_of self.new ≡ name_of self.old }
         ensures source { source_of self.new ≡ source_of self.old }
     {
+        reserve_one(&mut self.instructions)?;
         let index = self.instructions.len();
-        push_within(&mut self.instructions, instruction)?;
+        self.lines.again();
+        self.spans.again();
+        self.instructions.push_reserved(instruction);
         Ok(index as u32)
     }
-}
 
-/// Adds an instruction to a vector, unless memory runs out or it would have 2^32 of them.
-fn push_within<I: Drop>(list: &mut Vec<I>, instruction: I) -> Result<(), Error<'static>>
-    ensures added { OnOk result (list.new.items ≡ list.old.items ++ instruction ∷ []) }
-    ensures unchanged { OnErr result (list.new.items ≡ list.old.items) }
-    ensures fits { OnOk result (length list.new.items < 2 ^ 32) }
-    ensures causes { IfErr result IsAddError }
-    ensures too_many { IfErr result
-        (λ e. kind_of e ≡ TooManyInstructions → 2 ^ 32 ≤ length list.old.items + 1) }
-    ensures full { 2 ^ 32 ≤ length list.old.items + 1 → IfErr result
-        (λ e. kind_of e ≡ TooManyInstructions) × IsErr result }
-{
-    if list.len() + 1 >= LIMIT {
-        return Err(too_many());
+    /// Adds an instruction that stands on a line, counted from 1, and returns its index. It has no
+    /// span. It fails for want of memory, and where the list would have 2^32 instructions; then the
+    /// list is unchanged.
+    pub fn add_with_line(&mut self, instruction: I, line: u16) -> Result<u32, Error<'s>>
+    where
+        I: Drop,
+        ensures added { IfOk result
+            (λ _. instructions_of self.new ≡ instructions_of self.old ++ instruction ∷ []) }
+        ensures marked { IfOk result
+            (λ _. marks_of self.new ≡ marks_of self.old ++ at_line line ∷ []) }
+        ensures index { IfOk result (λ i. i ≡ length (instructions_of self.old)) }
+        ensures unchanged { OnErr result (instructions_of self.new ≡ instructions_of self.old) }
+        ensures same_marks { OnErr result (marks_of self.new ≡ marks_of self.old) }
+        ensures causes { IfErr result IsAddError }
+        ensures too_many { IfErr result (λ e. kind_of e ≡ TooManyInstructions → 2 ^ 32 ≤ length
+            (instructions_of self.old) + 1) }
+        ensures full { 2 ^ 32 ≤ length (instructions_of self.old) + 1 → IfErr result
+            (λ e. kind_of e ≡ TooManyInstructions) × IsErr result }
+        ensures required { is_required self.new ≡ is_required self.old }
+        ensures name { name_of self.new ≡ name_of self.old }
+        ensures source { source_of self.new ≡ source_of self.old }
+    {
+        self.add_marked(instruction, line, Span::default())
     }
-    list.push(instruction)?;
-    Ok(())
+
+    /// Adds an instruction that comes from a span, on whose first line it stands, and returns its
+    /// index. A span of zeros is none. It fails for want of memory, and where the list would have
+    /// 2^32 instructions; then the list is unchanged.
+    pub fn add_with_span(&mut self, instruction: I, span: Span) -> Result<u32, Error<'s>>
+    where
+        I: Drop,
+        ensures added { IfOk result
+            (λ _. instructions_of self.new ≡ instructions_of self.old ++ instruction ∷ []) }
+        ensures marked { IfOk result
+            (λ _. marks_of self.new ≡ marks_of self.old ++ at_span span ∷ []) }
+        ensures index { IfOk result (λ i. i ≡ length (instructions_of self.old)) }
+        ensures unchanged { OnErr result (instructions_of self.new ≡ instructions_of self.old) }
+        ensures same_marks { OnErr result (marks_of self.new ≡ marks_of self.old) }
+        ensures causes { IfErr result IsAddError }
+        ensures too_many { IfErr result (λ e. kind_of e ≡ TooManyInstructions → 2 ^ 32 ≤ length
+            (instructions_of self.old) + 1) }
+        ensures full { 2 ^ 32 ≤ length (instructions_of self.old) + 1 → IfErr result
+            (λ e. kind_of e ≡ TooManyInstructions) × IsErr result }
+        ensures required { is_required self.new ≡ is_required self.old }
+        ensures name { name_of self.new ≡ name_of self.old }
+        ensures source { source_of self.new ≡ source_of self.old }
+    {
+        self.add_marked(instruction, span.start_line, span)
+    }
+
+    /// Adds an instruction with a line and a span. All that may be refused comes before any change.
+    fn add_marked(&mut self, instruction: I, line: u16, span: Span) -> Result<u32, Error<'s>>
+    where
+        I: Drop,
+        ensures added { IfOk result
+            (λ _. instructions_of self.new ≡ instructions_of self.old ++ instruction ∷ []) }
+        ensures marked { IfOk result (λ _. marks_of self.new ≡ marks_of self.old ++
+            (record { line = Some line; span = shown span }) ∷ []) }
+        ensures index { IfOk result (λ i. i ≡ length (instructions_of self.old)) }
+        ensures unchanged { OnErr result (instructions_of self.new ≡ instructions_of self.old) }
+        ensures same_marks { OnErr result (marks_of self.new ≡ marks_of self.old) }
+        ensures causes { IfErr result IsAddError }
+        ensures too_many { IfErr result (λ e. kind_of e ≡ TooManyInstructions → 2 ^ 32 ≤ length
+            (instructions_of self.old) + 1) }
+        ensures full { 2 ^ 32 ≤ length (instructions_of self.old) + 1 → IfErr result
+            (λ e. kind_of e ≡ TooManyInstructions) × IsErr result }
+        ensures required { is_required self.new ≡ is_required self.old }
+        ensures name { name_of self.new ≡ name_of self.old }
+        ensures source { source_of self.new ≡ source_of self.old }
+    {
+        reserve_one(&mut self.instructions)?;
+        self.lines.reserve()?;
+        self.spans.reserve()?;
+        let index = self.instructions.len();
+        mark_line(&mut self.lines, line);
+        mark_span(&mut self.spans, span);
+        self.instructions.push_reserved(instruction);
+        Ok(index as u32)
+    }
 }

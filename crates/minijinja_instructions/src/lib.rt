@@ -4,3 +4,7 @@
 mod display;
 pub mod instructions;
 pub mod lists;
+mod marks;
+mod runs;
+#[cfg(test)]
+mod tests;

@@ -1,11 +1,14 @@
 //! Functions that make lists of instructions, for the crates that generate code.
-ghost use Rattle.std.specs.Prelude.{◌≡◌, None};
+ghost use Rattle.std.specs.Prelude.{◌≡◌, ◌+◌, ◌≤◌, ◌<◌, ◌^◌, length, vec_len, vec_capacity, None, IfErr, OnOk, IsErr};
 ghost use Rattle.minijinja_syntax.specs.Errors as Errors;
 ghost use Rattle.minijinja_syntax.specs.Errors.{kind_of, span_of};
 ghost use Rattle.minijinja_syntax.specs.declared.error.ErrorKind.TheVariants.{TooManyInstructions};
-ghost use Rattle.minijinja_instructions.specs.InstructionLists.{instructions_of, is_required, name_of, source_of};
+ghost use Rattle.minijinja_instructions.specs.InstructionLists.{instructions_of, is_required, marks_of, name_of, source_of, IsAddError};
+ghost use Rattle.minijinja_instructions.specs.Marks.{unmarked};
+ghost use Rattle.minijinja_instructions.specs.Runs.{copies};
 
 use crate::instructions::{Instruction, InstructionList, Instructions};
+use crate::runs::Runs;
 use minijinja_syntax::error::{Detail, Error, ErrorKind};
 use minijinja_value::value::TemplateValue;
 
@@ -27,7 +30,7 @@ pub fn too_many() -> Error<'static>
 }
 
 /// Makes a list of these instructions. It does not check their number: the caller ensures that they
-/// are fewer than [`LIMIT`].
+/// are fewer than [`LIMIT`]. None has a line or a span.
 pub fn listed<'s, V: TemplateValue>(
     instructions: Vec<Instruction<'s, V>>,
     name: &'s str,
@@ -35,14 +38,38 @@ pub fn listed<'s, V: TemplateValue>(
     is_required_block: bool,
 ) -> Instructions<'s, V>
     ensures instructions { instructions_of result ≡ instructions.entry.items }
+    ensures marks { marks_of result ≡ copies (length instructions.entry.items) unmarked }
     ensures required { is_required result ≡ is_required_block }
     ensures name { name_of result ≡ name.now }
     ensures source { source_of result ≡ source.now }
 {
+    let alloc = *instructions.allocator();
+    let len = instructions.len();
     InstructionList {
         instructions,
+        lines: Runs::new(alloc, len),
+        spans: Runs::new(alloc, len),
         name,
         source,
         is_required_block,
     }
+}
+
+/// Makes room for one instruction more, unless memory runs out or there would be 2^32 of them.
+pub(crate) fn reserve_one<I>(list: &mut Vec<I>) -> Result<(), Error<'static>>
+    ensures same { list.new.items ≡ list.old.items }
+    ensures len { vec_len list.new ≡ vec_len list.old }
+    ensures room { OnOk result (vec_len list.new < vec_capacity list.new) }
+    ensures fits { OnOk result (length list.old.items + 1 < 2 ^ 32) }
+    ensures causes { IfErr result IsAddError }
+    ensures too_many { IfErr result
+        (λ e. kind_of e ≡ TooManyInstructions → 2 ^ 32 ≤ length list.old.items + 1) }
+    ensures full { 2 ^ 32 ≤ length list.old.items + 1 → IfErr result
+        (λ e. kind_of e ≡ TooManyInstructions) × IsErr result }
+{
+    if list.len() + 1 >= LIMIT {
+        return Err(too_many());
+    }
+    list.reserve(1)?;
+    Ok(())
 }

@@ -1,0 +1,106 @@
+//! Values that are in force at the places of a list, kept only where they change.
+ghost use Rattle.std.specs.Prelude.{◌≡◌, ◌+◌, ◌<◌, ◌^◌};
+ghost use Rattle.std.specs.Option.{option_map};
+ghost use Rattle.std.specs.List.Sorted.{IsNonDecreasingBy};
+ghost use Rattle.minijinja_instructions.specs.RunLists.{in_force, AreBefore};
+
+use std::alloc::{AllocError, Global};
+
+/// A value that is in force from a place on.
+#[derive(Clone, Copy)]
+struct Run<T> {
+    first: usize,
+    value: T,
+}
+
+/// The value that is in force at each place of a list, kept only where it changes.
+#[derive(Drop)]
+pub struct Runs<T> {
+    runs: Vec<Run<T>>,
+    len: usize,
+    ghost before: { AreBefore len runs.items },
+}
+
+impl<T: Copy> Runs<T> {
+    ghost use Rattle.std.specs.Prelude.{◌++◌, [], ◌∷◌, Some, None, length, OnOk};
+    ghost use Rattle.minijinja_instructions.specs.Runs.{at_or_last, copies, last_or, values_of, HasRoom};
+
+    /// So many places at which none is in force. It allocates nothing yet.
+    pub fn new(alloc: Global, len: usize) -> Self
+        ensures { values_of result ≡ copies len None }
+    {
+        Runs {
+            runs: Vec::new(alloc),
+            len,
+        }
+    }
+
+    /// Makes room for a change.
+    pub fn reserve(&mut self) -> Result<(), AllocError>
+        ensures same { values_of self.new ≡ values_of self.old }
+        ensures room { OnOk result (HasRoom self.new) }
+    {
+        self.runs.reserve(1)
+    }
+
+    /// One place more, at which the last value stays in force.
+    pub fn again(&mut self)
+        requires { length (values_of self.old) + 1 < 2 ^ 64 }
+        ensures { values_of self.new ≡ values_of self.old ++ last_or None
+            (values_of self.old) ∷ [] }
+    {
+        self.len += 1;
+    }
+
+    /// One place more, from which on this value is in force.
+    pub fn put(&mut self, value: T)
+        requires room { HasRoom self.old }
+        requires few { length (values_of self.old) + 1 < 2 ^ 64 }
+        ensures { values_of self.new ≡ values_of self.old ++ Some value ∷ [] }
+    {
+        self.runs.push_reserved(Run {
+            first: self.len,
+            value,
+        });
+        self.len += 1;
+    }
+
+    /// How often the value changes.
+    #[cfg(test)]
+    pub fn changes(&self) -> usize {
+        self.runs.len()
+    }
+
+    /// The value in force at the last place.
+    pub fn last(&self) -> Option<T>
+        ensures { result ≡ last_or None (values_of self.now) }
+    {
+        value_of(self.runs.last())
+    }
+
+    /// The value in force at a place; past the end, that at the last one.
+    pub fn at(&self, place: usize) -> Option<T>
+        ensures { result ≡ at_or_last None (values_of self.now) place }
+    {
+        value_at(&self.runs, place)
+    }
+}
+
+/// The value in force at a place.
+fn value_at<T: Copy>(runs: &[Run<T>], place: usize) -> Option<T>
+    requires { IsNonDecreasingBy (λ r. r.first) runs.now }
+    ensures { result ≡ in_force runs.now place }
+{
+    let after = runs.partition_point(|run| run.first <= place);
+    value_of(runs[..after].last())
+}
+
+/// The value of a run.
+fn value_of<T: Copy>(run: Option<&Run<T>>) -> Option<T>
+    ensures { result ≡ option_map (λ r. r.now.value) run.entry }
+{
+    match run {
+        Some(run) => Some(run.value),
+        None => None,
+    }
+}
