@@ -3,7 +3,7 @@ use Rattle.minijinja_syntax.specs.declared.tokens.Span.{Span}
 use Rattle.minijinja_syntax.specs.Streams.{SpannedTok}
 use Rattle.minijinja_tree.specs.SpannedTrees.{Expr, variable, constant, slice, unary, binary, compare, if_expr, filter, test, attribute, item, call, list, tuple, map, Optional, absent, present, Exprs, no_more, more, Comparisons, compared, against, Args, no_args, pos, pos_splat, kwarg, kwarg_splat, bare_expr, bare_optional, bare_exprs, bare_comparisons, bare_args}
 use Rattle.minijinja_tree.specs.WellFormed.{IsWhole, IsWholeIfAny, AreWhole, AreCompared, AreArguments}
-use Rattle.minijinja_grammar.specs.Standing.{Stands, StandsIfAny, ExprsStand, CompareStand, ArgsStand}
+use Rattle.minijinja_tree.specs.Standing.{Stands, StandsIfAny, ExprsStand, CompareStand, ArgsStand}
 use Rattle.minijinja_grammar.specs.private.Sound.{IsSound, IsSoundIfAny, AreSound, AreComparedSound, AreArgsSound}
 
 module _ {C : Type 0} (T : SpannedTok → Type 0) (S : Span → Type 0) where

@@ -21,7 +21,7 @@ use Rattle.minijinja_grammar.specs.internal.StmtForms as form
 use Rattle.minijinja_grammar.specs.Statements as statements
 use Rattle.minijinja_grammar.specs.Statements.{Ends, at_endfor_or_else, at_endfor, at_endif_else_or_elif, at_endif, at_endwith, at_endset, at_endautoescape, at_endfilter, at_endblock, at_endmacro, at_endcall, Context, inside_loop, inside_block, inside_macro}
 use Rattle.minijinja_grammar.specs.internal.StmtForms.{Parts}
-use Rattle.minijinja_grammar.specs.Standing.{Stands, StandsIfAny, StmtStands, StmtsStand, MacroStands, BindingsStand, NamesStand, AllStand}
+use Rattle.minijinja_tree.specs.Standing.{Stands, StandsIfAny, StmtStands, StmtsStand, MacroStands, BindingsStand, NamesStand, AllStand}
 use Rattle.minijinja_grammar.specs.private.Sound.{IsSound, IsSoundIfAny, AreSound, AreArgsSound}
 use Rattle.minijinja_grammar.specs.private.Ensured.{Holds, Kept, Ensured}
 use Rattle.minijinja_grammar.proofs.Ensured.{weaker}

@@ -10,7 +10,7 @@ use Rattle.minijinja_grammar.specs.internal.ExprForms.{expanded, expr_at}
 use Rattle.minijinja_grammar.specs.internal.StmtForms as stmt
 use Rattle.minijinja_grammar.specs.Statements.{outside, at_end_of_text}
 use Rattle.minijinja_grammar.specs.internal.TemplateForms as form
-use Rattle.minijinja_grammar.specs.Standing.{StmtStands}
+use Rattle.minijinja_tree.specs.Standing.{StmtStands}
 use Rattle.minijinja_grammar.specs.private.Ensured.{Holds, Ensured}
 use Rattle.minijinja_grammar.proofs.Ensured.{weaker}
 use Rattle.minijinja_grammar.proofs.Sound.{alone, spanned, expr_sound}

@@ -13,7 +13,7 @@ use Rattle.minijinja_grammar.specs.internal.Whole.{IsWholeOf}
 use Rattle.minijinja_grammar.specs.private.Sound.{IsSound}
 use Rattle.minijinja_tree.specs.SpannedTrees.{Expr, Stmt, bare_expr, bare_stmt}
 use Rattle.minijinja_tree.specs.WellFormed.{IsWellFormed, IsWhole}
-use Rattle.minijinja_grammar.specs.Standing.{Stands, StmtStands}
+use Rattle.minijinja_tree.specs.Standing.{Stands, StmtStands}
 use Rattle.minijinja_grammar.specs.TokenSpans.{StartsAtToken, token_start, start_before, EndsAtToken, token_end, end_before, IsOfTokens}
 use Rattle.minijinja_grammar.proofs.Ensured.{All, Fine, ensured}
 use Rattle.minijinja_grammar.proofs.Whole.{one_only, ending_in, elsewhere, IsAtEnd, at_end}

@@ -9,6 +9,6 @@ pub mod Stretches
 pub mod Examples
 pub mod DepthRows
 pub mod TokenSpans
-pub mod Standing
+pub use Rattle.minijinja_tree.specs.Standing
 pub mod internal
 pub mod private

@@ -16,7 +16,7 @@ use Rattle.minijinja_tree_expr.specs.declared.ast.Expr.{Expr}
 use Rattle.minijinja_tree.specs.declared.ast.Stmt.{Stmt}
 use Rattle.minijinja_grammar.specs.Derived.{IsTemplateTree, IsExprTree}
 use Rattle.minijinja_grammar.specs.Places.{Place}
-use Rattle.minijinja_grammar.specs.Standing.{Stands, StmtStands}
+use Rattle.minijinja_tree.specs.Standing.{Stands, StmtStands}
 use Rattle.minijinja_grammar.specs.TokenSpans.{IsOfTokens}
 use Rattle.minijinja_parser.specs.Causes.{IsLimit, IsRefusal}
 use Rattle.minijinja_parser.specs.Derived.{IsDerived, IsExprDerived, expr_place, template_place}

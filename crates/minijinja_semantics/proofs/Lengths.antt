@@ -82,10 +82,10 @@ module _ {C : Type 0} where
   comparison_exact is_in = one_exact _
   comparison_exact not_in = then_exact (one_exact _) (one_exact _)
 
-  and_then_exact : (o : CompareOp) {p : Piece C} {r : Failing C} → Exact p → LeadingExact r → LeadingExact (and_then o p r)
+  pub and_then_exact : (o : CompareOp) {p : Piece C} {r : Failing C} → Exact p → LeadingExact r → LeadingExact (and_then o p r)
   and_then_exact o {p} {r} e e' = record { ends = λ failed h. omega (arith, length-append (p.code (behind 1 (behind 1 h))) (r.code failed (p.past (behind 1 (behind 1 h)))), e.ends (behind 1 (behind 1 h)), e'.ends failed (p.past (behind 1 (behind 1 h)))) }
 
-  chained_exact : {p : Piece C} {r : Failing C} → Exact p → LeadingExact r → Exact (chained p r)
+  pub chained_exact : {p : Piece C} {r : Failing C} → Exact p → LeadingExact r → Exact (chained p r)
   chained_exact {p} {r} e e' = record {
     ends = λ h.
         let failed = behind 1 (r.past (p.past h)) in

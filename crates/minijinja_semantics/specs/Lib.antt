@@ -17,3 +17,6 @@ pub mod Places
 pub mod Correct
 pub mod Needs
 pub mod Units
+pub mod MacroBodies
+pub mod Marks
+pub mod Looks

@@ -1,10 +1,16 @@
 //! Laws about what trees mean and about their layout.
-ghost use Rattle.std.specs.Prelude.{◌≡◌, ◌↔◌, List, [], ◌∷◌, All, Some, codes, length, map};
+ghost use Rattle.std.specs.Prelude.{◌≡◌, ◌↔◌, Bool, true, List, [], ◌∷◌, All, Some, codes, length, map};
 ghost use Rattle.minijinja_tree.specs.Folding.{fold};
 ghost use Rattle.minijinja_tree.specs.FreeNames.{closure};
 ghost use Rattle.minijinja_tree.specs.Tree.{Expr, Macro, Stmt, Stmts, blocks};
 ghost use Rattle.minijinja_tree.specs.WellFormed.{IsMacro, IsWellFormed, IsWhole};
+ghost use Rattle.minijinja_syntax.specs.declared.tokens.Span.{Span};
+ghost use Rattle.minijinja_tree.specs.SpannedTrees as spanned;
+ghost use Rattle.minijinja_tree.specs.SpannedTrees.{bare_expr, bare_stmt, bare_stmts};
 ghost use Rattle.minijinja_semantics.specs.Code.{Instr, Load};
+ghost use Rattle.minijinja_semantics.specs.Looks.{AreMarksOf, IsMarkOf, looks, stmt_looks, stmts_looks};
+ghost use Rattle.minijinja_semantics.specs.Marks.{block_marks, expr_marks, stmt_marks};
+ghost use Rattle.minijinja_tree.specs.Standing.{Stands, StmtStands, StmtsStand};
 ghost use Rattle.minijinja_semantics.specs.Correct.{DoesExpr, DoesStmt, a_statement, fresh};
 ghost use Rattle.minijinja_semantics.specs.Events.{Answer, Event, World, Gave};
 ghost use Rattle.minijinja_semantics.specs.Jumps.{LeadsWell};
@@ -135,4 +141,28 @@ pub fn runs_need_only_closures<V: TemplateValue, L>()
         MacrosNeedOnly V.functions code (all_units V.functions [] b.body start)) (blocks t) }
     ensures closure { (m : Macro V.Contents L) →
         closure_of (parameters_of m) (body_of m) ≡ closure m }
+{}
+
+/// Marks, which are the lines and the spans of instructions, are those of nodes. There is one for
+/// each instruction of a layout. Variables and data that have an instruction, in the order of the
+/// code, are the instructions that look up a variable or write data: the line of each is the one on
+/// which its node begins, and its span is none, that of the node, of a node round it, or of the call
+/// of a call block round it. And a test that the spans of all nodes pass is passed by each span of the
+/// marks, and by a span that begins on the line of each.
+pub fn marks_are_of_nodes<V: TemplateValue>()
+    ensures template { (t : spanned.Stmt V.Contents) → AreMarksOf (stmt_code V.functions (bare_stmt t)
+        start) (stmt_marks V.functions t) (stmt_looks V.functions [] t) }
+    ensures block { (at : Span) (ss : spanned.Stmts V.Contents) → AreMarksOf (block_code V.functions
+        (bare_stmts ss)) (block_marks V.functions at ss) (stmts_looks V.functions [] ss) }
+    ensures expression { (e : spanned.Expr V.Contents) → AreMarksOf (expr_code V.functions (bare_expr e)
+        start) (expr_marks V.functions e) (looks V.functions [] e) }
+    ensures each_of_template { (p : Span → Bool) (ss : spanned.Stmts V.Contents) (at : Span) →
+        StmtStands (λ t. p t.1 ≡ true) (λ s. p s ≡ true) (spanned.template ss at) → All (IsMarkOf
+        (λ s. p s ≡ true)) (stmt_marks V.functions (spanned.template ss at)) }
+    ensures each_of_block { (p : Span → Bool) (at : Span) (ss : spanned.Stmts V.Contents) →
+        p at ≡ true → StmtsStand (λ t. p t.1 ≡ true) (λ s. p s ≡ true) ss → All (IsMarkOf
+        (λ s. p s ≡ true)) (block_marks V.functions at ss) }
+    ensures each_of_expression { (p : Span → Bool) (e : spanned.Expr V.Contents) → Stands
+        (λ t. p t.1 ≡ true) (λ s. p s ≡ true) e → All (IsMarkOf (λ s. p s ≡ true))
+        (expr_marks V.functions e) }
 {}

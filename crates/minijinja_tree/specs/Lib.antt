@@ -13,5 +13,6 @@ pub mod Erasure
 pub mod SpannedTrees
 pub mod SpannedErasure
 pub mod WellFormed
+pub mod Standing
 pub mod FreeNames
 pub mod internal
