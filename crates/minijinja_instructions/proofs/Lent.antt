@@ -7,12 +7,12 @@ use Rattle.std.specs.Option.{MatchOption, option_copied_mut}
 use Rattle.std.specs.Vec.{with_item}
 use Rattle.std.proofs.Props.{props}
 use Rattle.std.proofs.lemmas.Option.{slice_get_past, slice_get_read}
-use Rattle.minijinja_instructions.specs.Runs.{values_of}
+use Rattle.minijinja_instructions.specs.MarkLists.{marks_in}
 use Rattle.minijinja_instructions.specs.declared.instructions.InstructionList.{InstructionList}
 
--- as many lines and spans as instructions
+-- as many marks as instructions
 abbrev AreMarked : {I : Type 0} → InstructionList I → Type 0
-AreMarked x = (length (values_of x.lines) ≡ vec_len x.instructions) × (length (values_of x.spans) ≡ vec_len x.instructions)
+AreMarked x = length (marks_in x.marks) ≡ vec_len x.instructions
 
 is-prop : {I : Type 0} (x : InstructionList I) → IsProp (AreMarked x)
 is-prop x = hlevel props

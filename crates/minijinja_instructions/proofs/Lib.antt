@@ -1,3 +1,6 @@
 pub mod Running
 pub mod Marking
 pub mod Lent
+pub mod Reaching
+pub mod EachOnce
+pub mod Scans

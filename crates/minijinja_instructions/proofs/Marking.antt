@@ -1,10 +1,12 @@
 -- Lines and spans side by side.
-use Rattle.std.proofs.Common.{◌≡◌, ℕ, zero, suc, ◌++◌, List, [], ◌∷◌, length, refl, sym, ap, ◌∙◌, arith}
+use Rattle.std.proofs.Common.{◌≡◌, ℕ, zero, suc, ◌++◌, List, [], ◌∷◌, length, take, refl, sym, ap, ◌∙◌, arith}
 use Rattle.std.specs.Prelude.{Option, None}
 use Rattle.std.specs.Option.{option_and_then}
 use Rattle.minijinja_syntax.specs.declared.tokens.Span.{Span}
-use Rattle.minijinja_instructions.specs.Marks.{Mark, last_mark, line_at, marked, shown, span_at, unmarked}
-use Rattle.minijinja_instructions.specs.Runs.{at_or_last, copies, last_or}
+use Rattle.minijinja_semantics.specs.Marks.{Mark, last_mark, shown}
+use Rattle.minijinja_instructions.specs.Marks.{line_at, marked, span_at}
+use Rattle.minijinja_semantics.specs.Marks.{last_or}
+use Rattle.minijinja_instructions.specs.Runs.{at_or_last}
 
 abbrev pub mark : Option ℕ → Option Span → Mark
 mark l s = record { line = l; span = option_and_then shown s }
@@ -43,6 +45,15 @@ module _ (ls : List (Option ℕ)) (ss : List (Option Span)) (h : length ls ≡ l
   pub span-is : (i : ℕ) → option_and_then shown (at_or_last None ss i) ≡ span_at (marked ls ss) i
   span-is i = sym (ap (λ m. m.span) (at-of None None ls ss i h))
 
-pub none-marked : (n : ℕ) → marked (copies n None) (copies n None) ≡ copies n unmarked
-none-marked zero = refl
-none-marked (suc n) = ap (λ ms. unmarked ∷ ms) (none-marked n)
+-- the first so many of both
+pub cut-marks : (n : ℕ) (ls : List (Option ℕ)) (ss : List (Option Span)) → marked (take n ls) (take n ss) ≡ take n (marked ls ss)
+cut-marks zero ls ss = refl
+cut-marks (suc n) [] ss = refl
+cut-marks (suc n) (x ∷ ls) [] = refl
+cut-marks (suc n) (x ∷ ls) (y ∷ ss) = ap (λ ms. mark x y ∷ ms) (cut-marks n ls ss)
+
+-- there are as many marks as lines
+pub length-marked : (ls : List (Option ℕ)) (ss : List (Option Span)) → length ls ≡ length ss → length (marked ls ss) ≡ length ls
+length-marked [] ss h = refl
+length-marked (x ∷ ls) [] h = absurd (omega (arith, h))
+length-marked (x ∷ ls) (y ∷ ss) h = ap suc (length-marked ls ss (omega (arith, h)))

@@ -1,13 +1,16 @@
 -- What runs show at each place.
 use Rattle.std.proofs.Common.{◌≡◌, ℕ, zero, suc, ◌+◌, ◌-◌, ◌<◌, ◌≤◌, ◌++◌, List, [], ◌∷◌, length, take, refl, sym, ap, ap₂, ◌∙◌, arith, length-append, true, false}
-use Rattle.std.specs.Prelude.{Bool, cond, All, Option, Some, None, leb, slice_get}
+use Rattle.std.specs.Prelude.{Bool, cond, All, Option, Some, None, leb, min, slice_get}
 use Rattle.std.specs.Borrow.{Bor}
 use Rattle.std.specs.List.{AllWithin}
 use Rattle.std.specs.Option.{option_copied, option_map}
-use Rattle.std.proofs.lemmas.Bool.{le-leb, leb-false, leb-true, lt-leb}
-use Rattle.std.proofs.lemmas.List.Elements.{All-head, All-tail, All-weaker}
+use Rattle.std.proofs.lemmas.Bool.{le-leb, leb-false, leb-true, lt-leb, ltb-false, ltb-true}
+use Rattle.std.proofs.lemmas.List.Elements.{All-cons, All-head, All-nil, All-tail, All-weaker}
+use Rattle.std.proofs.Math.Dec.{ltb}
+use Rattle.std.proofs.lemmas.List.{take-append-le, take_all}
 use Rattle.minijinja_instructions.specs.RunLists.{in_force, in_force_after, values_up_to}
-use Rattle.minijinja_instructions.specs.Runs.{at_or_last, copies, last_or}
+use Rattle.minijinja_semantics.specs.Marks.{last_or}
+use Rattle.minijinja_instructions.specs.Runs.{at_or_last}
 use Rattle.minijinja_instructions.specs.declared.runs.Run.{Run}
 
 -- ---- lists
@@ -26,14 +29,6 @@ at-pushed d [] y zero h = refl
 at-pushed d [] y (suc i) h = refl
 at-pushed d (x ∷ xs) y zero h = absurd (omega (arith, h))
 at-pushed d (x ∷ xs) y (suc i) h = at-pushed x xs y i (omega (arith, h))
-
-copies-more : {X : Type 0} (n : ℕ) (x : X) → copies n x ++ x ∷ [] ≡ x ∷ copies n x
-copies-more zero x = refl
-copies-more (suc n) x = ap (λ l. x ∷ l) (copies-more n x)
-
-pub length-copies : {X : Type 0} (n : ℕ) (x : X) → length (copies n x) ≡ n
-length-copies zero x = refl
-length-copies (suc n) x = let h = length-copies n x in omega (arith, h)
 
 -- ---- the last run
 
@@ -115,10 +110,6 @@ module _ {X : Type 0} where
       ap₂ (λ l v. l ++ v ∷ []) (values-same rs r r.first (omega arith))
       (in_force-pushed None rs r r.first ∙ ap (λ b. cond b (Some r.value) (in_force rs r.first)) (le-leb r.first r.first (omega arith)))
 
-  pub none-shown : (n : ℕ) → values_up_to {X = X} [] n ≡ copies n None
-  none-shown zero = refl
-  none-shown (suc n) = ap (λ l. l ++ None ∷ []) (none-shown n) ∙ copies-more n None
-
   -- ---- halving
 
   pub halved : (x : Option X) (rs : List (Run X)) (i k : ℕ) → k ≤ length rs → AllWithin (λ r. leb r.first i ≡ true) rs 0 k → AllWithin (λ r. leb r.first i ≡ false) rs k (length rs) → in_force_after x rs i ≡ final x (take k rs)
@@ -145,3 +136,64 @@ module _ {X : Type 0} where
   last-is (r ∷ rs) o h =
       let n : length (r ∷ rs) - 1 ≡ length rs = omega arith in
       copied-value o ∙ ap (option_map (λ r. r.value)) (h ∙ ap (slice_get (r ∷ rs)) n) ∙ sym (final-is None r rs)
+
+  -- ---- fewer places
+
+  -- what begins later is not in force yet
+  in_force-cut : (x : Option X) (rs : List (Run X)) (k n m : ℕ) → m < n → AllWithin (λ r. ltb r.first n ≡ true) rs 0 k → AllWithin (λ r. ltb r.first n ≡ false) rs k (length rs) → in_force_after x (take k rs) m ≡ in_force_after x rs m
+  in_force-cut x [] zero n m h begun after = refl
+  in_force-cut x [] (suc k) n m h begun after = refl
+  in_force-cut x (r ∷ rs) zero n m h begun after =
+      let later : n ≤ r.first = ltb-false r.first n (after 0 r (omega arith) (omega arith)) in
+      in_force-cut x rs zero n m h (λ j d a b. absurd (omega (arith, b))) (λ j d a b. after (suc j) d (omega arith) (omega (arith, b)))
+      ∙ ap (λ b. in_force_after (cond b (Some r.value) x) rs m) (sym (lt-leb r.first m (omega (arith, h, later))))
+  in_force-cut x (r ∷ rs) (suc k) n m h begun after =
+      in_force-cut (cond (leb r.first m) (Some r.value) x) rs k n m h (λ j d a b. begun (suc j) d (omega arith) (omega (arith, b))) (λ j d a b. after (suc j) d (omega (arith, a)) (omega (arith, b)))
+
+  values-cut : (rs : List (Run X)) (k n m : ℕ) → m ≤ n → AllWithin (λ r. ltb r.first n ≡ true) rs 0 k → AllWithin (λ r. ltb r.first n ≡ false) rs k (length rs) → values_up_to (take k rs) m ≡ values_up_to rs m
+  values-cut rs k n zero h begun after = refl
+  values-cut rs k n (suc m) h begun after =
+      ap₂ (λ l v. l ++ v ∷ []) (values-cut rs k n m (omega (arith, h)) begun after) (in_force-cut None rs k n m (omega (arith, h)) begun after)
+
+  all-values : (rs : List (Run X)) (n m : ℕ) → m ≤ n → take n (values_up_to rs m) ≡ values_up_to rs m
+  all-values rs n m h = take_all n (values_up_to rs m) (let k = length-values rs m in omega (arith, h, k))
+
+  first-values : (rs : List (Run X)) (n m : ℕ) → n ≤ m → take n (values_up_to rs m) ≡ values_up_to rs n
+  first-values rs n zero h = let e : n ≡ zero = omega (arith, h) in ap (λ k. take k (values_up_to rs zero)) e ∙ ap (values_up_to rs) (sym e)
+  first-values rs n (suc m) h = go (leb n m) refl (first-values rs n m)
+    where
+      go : (b : Bool) → leb n m ≡ b → (n ≤ m → take n (values_up_to rs m) ≡ values_up_to rs n) → take n (values_up_to rs m ++ in_force rs m ∷ []) ≡ values_up_to rs n
+      go true e before =
+          let within : n ≤ m = leb-true n m e in
+          take-append-le n (values_up_to rs m) (in_force rs m ∷ []) (let k = length-values rs m in omega (arith, within, k)) ∙ before within
+      go false e before =
+          let past : m < n = leb-false n m e in
+          let all : n ≡ suc m = omega (arith, h, past) in
+          all-values rs n (suc m) (omega (arith, past)) ∙ ap (values_up_to rs) (sym all)
+
+  values-min : (rs : List (Run X)) (n m : ℕ) → values_up_to rs (min m n) ≡ take n (values_up_to rs m)
+  values-min rs n m = go (leb m n) refl
+    where
+      go : (b : Bool) → leb m n ≡ b → values_up_to rs (min m n) ≡ take n (values_up_to rs m)
+      go true e =
+          let h : m ≤ n = leb-true m n e in
+          let e : min m n ≡ m = omega (arith, h) in
+          ap (values_up_to rs) e ∙ sym (all-values rs n m h)
+      go false e =
+          let h : n < m = leb-false m n e in
+          let e : min m n ≡ n = omega (arith, h) in
+          ap (values_up_to rs) e ∙ sym (first-values rs n m (omega (arith, h)))
+
+  -- the runs that begin before a place, at the places before it
+  pub cut-shows : (rs : List (Run X)) (k n m : ℕ) → AllWithin (λ r. ltb r.first n ≡ true) rs 0 k → AllWithin (λ r. ltb r.first n ≡ false) rs k (length rs) → values_up_to (take k rs) (min m n) ≡ take n (values_up_to rs m)
+  cut-shows rs k n m begun after = values-cut rs k n (min m n) (omega arith) begun after ∙ values-min rs n m
+
+  -- the runs left begin before the end that is left
+  pub cut-before : (rs : List (Run X)) (k n m : ℕ) → k ≤ length rs → AllWithin (λ r. ltb r.first n ≡ true) rs 0 k → All (λ r. r.first < m) rs → All (λ r. r.first < min m n) (take k rs)
+  cut-before [] zero n m h begun all = All-nil (λ r. r.first < min m n)
+  cut-before [] (suc k) n m h begun all = All-nil (λ r. r.first < min m n)
+  cut-before (r ∷ rs) zero n m h begun all = All-nil (λ r. r.first < min m n)
+  cut-before (r ∷ rs) (suc k) n m h begun all =
+      let first : r.first < n = ltb-true r.first n (begun 0 r (omega arith) (omega arith)) in
+      let last : r.first < m = All-head (λ r. r.first < m) r rs all in
+      All-cons (λ r. r.first < min m n) r (take k rs) (omega (arith, first, last)) (cut-before rs k n m (omega (arith, h)) (λ j d a b. begun (suc j) d (omega arith) (omega (arith, b))) (All-tail (λ r. r.first < m) r rs all))

@@ -4,8 +4,8 @@ use Rattle.minijinja_syntax.specs.Texts.{Text}
 use Rattle.minijinja_syntax.specs.Errors.{kind_of}
 use Rattle.minijinja_syntax.specs.declared.error.Error.{Error}
 use Rattle.minijinja_syntax.specs.declared.error.ErrorKind.TheVariants.{OutOfMemory, TooManyInstructions}
-use Rattle.minijinja_instructions.specs.Marks.{Mark, marked}
-use Rattle.minijinja_instructions.specs.Runs.{values_of}
+use Rattle.minijinja_semantics.specs.Marks.{Mark}
+use Rattle.minijinja_instructions.specs.MarkLists.{marks_in}
 use Rattle.minijinja_instructions.specs.declared.instructions.Instruction.{Instruction}
 use Rattle.minijinja_instructions.specs.declared.instructions.InstructionList.{InstructionList}
 
@@ -24,7 +24,7 @@ source_of code = code.source.now
 
 -- the line and the span of each
 abbrev pub marks_of : {I : Type 0} → InstructionList I → List Mark
-marks_of code = marked (values_of code.lines) (values_of code.spans)
+marks_of code = marks_in code.marks
 
 -- whether it is that of a block that another template has to override
 abbrev pub is_required : {I : Type 0} → InstructionList I → Bool

@@ -2,6 +2,8 @@
 pub mod InstructionLists
 pub mod Instructions
 pub mod Lending
+pub mod MarkLists
 pub mod Marks
 pub mod RunLists
 pub mod Runs
+pub mod private

@@ -13,16 +13,6 @@ at_or_last d [] i = d
 at_or_last d (x ∷ xs) zero = x
 at_or_last d (x ∷ xs) (suc i) = at_or_last x xs i
 
--- the last element, and in an empty list this one
-abbrev pub last_or : {X : Type 0} → X → List X → X
-last_or d [] = d
-last_or d (x ∷ xs) = last_or x xs
-
--- so many of one element
-abbrev pub copies : {X : Type 0} → ℕ → X → List X
-copies zero x = []
-copies (suc n) x = x ∷ copies n x
-
 -- a change needs no memory
 abbrev pub HasRoom : {X : Type 0} → Runs X → Type 0
 HasRoom r = vec_len r.runs < vec_capacity r.runs

@@ -5,11 +5,11 @@ ghost use Rattle.std.specs.Slice.Iter.{iter_rest};
 ghost use Rattle.std.specs.Iterator.Adapters.{IterYieldsInOrder, IterYieldsInReverse};
 ghost use Rattle.minijinja_syntax.specs.Errors.{kind_of};
 ghost use Rattle.minijinja_syntax.specs.declared.error.ErrorKind.TheVariants.{OutOfMemory, TooManyInstructions};
-ghost use Rattle.minijinja_instructions.specs.Runs.{values_of};
+ghost use Rattle.minijinja_instructions.specs.MarkLists.{marks_in};
 
 use crate::lists::reserve_one;
-use crate::marks::{mark_line, mark_span, placed};
-use crate::runs::Runs;
+use crate::marks::MarkList;
+use crate::references::referenced_names;
 use minijinja_syntax::error::Error;
 use minijinja_syntax::tokens::Span;
 use minijinja_value::value::{TemplateValue, Value};
@@ -205,14 +205,11 @@ pub enum Instruction<'s, V: TemplateValue = Value> {
 #[derive(Drop)]
 pub struct InstructionList<'s, I> {
     pub(crate) instructions: Vec<I>,
-    pub(crate) lines: Runs<u16>,
-    /// A span of zeros is in force where there is none.
-    pub(crate) spans: Runs<Span>,
+    pub(crate) marks: MarkList,
     pub(crate) name: &'s str,
     pub(crate) source: &'s str,
     pub(crate) is_required_block: bool,
-    ghost marked: { (length (values_of lines) ≡ vec_len instructions) ×
-        (length (values_of spans) ≡ vec_len instructions) },
+    ghost marked: { length (marks_in marks) ≡ vec_len instructions },
 }
 
 /// A list of the instructions of a unit of code.
@@ -220,9 +217,10 @@ pub type Instructions<'s, V = Value> = InstructionList<'s, Instruction<'s, V>>;
 
 impl<'s, I> InstructionList<'s, I> {
     ghost use Rattle.std.specs.Borrow.{sem};
+    ghost use Rattle.minijinja_semantics.specs.Marks.{at_line, at_span, last_mark, shown};
     ghost use Rattle.minijinja_instructions.specs.InstructionLists.{instructions_of, is_required, marks_of, name_of, source_of, IsAddError};
     ghost use Rattle.minijinja_instructions.specs.Lending.{lends_instruction};
-    ghost use Rattle.minijinja_instructions.specs.Marks.{at_line, at_span, last_mark, line_at, shown, span_at};
+    ghost use Rattle.minijinja_instructions.specs.Marks.{line_at, span_at};
 
     /// Makes an empty list, which allocates nothing yet.
     pub fn new(alloc: Global, name: &'s str, source: &'s str) -> Self
@@ -234,8 +232,7 @@ impl<'s, I> InstructionList<'s, I> {
     {
         InstructionList {
             instructions: Vec::new(alloc),
-            lines: Runs::new(alloc, 0),
-            spans: Runs::new(alloc, 0),
+            marks: MarkList::new(alloc),
             name,
             source,
             is_required_block: false,
@@ -308,7 +305,7 @@ impl<'s, I> InstructionList<'s, I> {
     pub fn get_line(&self, index: u32) -> Option<usize>
         ensures { result ≡ line_at (marks_of self.now) index }
     {
-        match self.lines.at(index as usize) {
+        match self.marks.line(index as usize) {
             Some(line) => Some(line as usize),
             None => None,
         }
@@ -319,7 +316,7 @@ impl<'s, I> InstructionList<'s, I> {
     pub fn get_span(&self, index: u32) -> Option<Span>
         ensures { result ≡ span_at (marks_of self.now) index }
     {
-        placed(self.spans.at(index as usize))
+        self.marks.span(index as usize)
     }
 
     /// Adds an instruction and returns its index. It has the line and the span of the last one. It
@@ -346,8 +343,7 @@ impl<'s, I> InstructionList<'s, I> {
     {
         reserve_one(&mut self.instructions)?;
         let index = self.instructions.len();
-        self.lines.again();
-        self.spans.again();
+        self.marks.again();
         self.instructions.push_reserved(instruction);
         Ok(index as u32)
     }
@@ -423,12 +419,45 @@ impl<'s, I> InstructionList<'s, I> {
         ensures source { source_of self.new ≡ source_of self.old }
     {
         reserve_one(&mut self.instructions)?;
-        self.lines.reserve()?;
-        self.spans.reserve()?;
+        self.marks.reserve()?;
         let index = self.instructions.len();
-        mark_line(&mut self.lines, line);
-        mark_span(&mut self.spans, span);
+        self.marks.put(line, span);
         self.instructions.push_reserved(instruction);
         Ok(index as u32)
+    }
+}
+
+impl<'s, V: TemplateValue> InstructionList<'s, Instruction<'s, V>> {
+    ghost use Rattle.std.specs.Prelude.{map};
+    ghost use Rattle.minijinja_tree.specs.Tree.{Expr, Stmt, Stmts};
+    ghost use Rattle.minijinja_semantics.specs.Layout.{block_code, expr_code, stmt_code};
+    ghost use Rattle.minijinja_semantics.specs.MacroBodies.{all_macro_bodies, macro_bodies, referenced};
+    ghost use Rattle.minijinja_semantics.specs.Pieces.{start};
+    ghost use Rattle.minijinja_instructions.specs.Instructions.{code_of};
+
+    /// The names that are referenced at an index, the last one first and each once. They are those
+    /// of variables that are looked up or stored at the index or before it, those of functions that
+    /// are called, and `loop` where a loop with this variable begins. Within the body of a macro
+    /// they are those in the innermost one. Bodies of macros that ended before the index do not
+    /// count. An index past the end counts as the last one, and an empty list has no names.
+    ///
+    /// This holds of the code of a template, of the body of a block and of an expression, as the
+    /// compiler makes them. It fails only for want of memory.
+    pub fn get_referenced_names(&self, index: u32) -> Result<Vec<&'s str>, Error<'s>>
+        ensures template { IfOk result (λ names. (t : Stmt V.Contents (Unit {0})) →
+            code_of V.contents self.now ≡ stmt_code V.functions t start →
+            map (λ x. x.now) names.items ≡ referenced (code_of V.contents self.now)
+            (macro_bodies V.functions [] t start) index) }
+        ensures block { IfOk result (λ names. (body : Stmts V.Contents (Unit {0})) →
+            code_of V.contents self.now ≡ block_code V.functions body →
+            map (λ x. x.now) names.items ≡ referenced (code_of V.contents self.now)
+            (all_macro_bodies V.functions [] body start) index) }
+        ensures expression { IfOk result (λ names. (e : Expr V.Contents) →
+            code_of V.contents self.now ≡ expr_code V.functions e start →
+            map (λ x. x.now) names.items ≡ referenced (code_of V.contents self.now) [] index) }
+        ensures causes { IfErr result (λ e. kind_of e ≡ OutOfMemory) }
+    {
+        let alloc = *self.instructions.allocator();
+        Ok(referenced_names(alloc, &self.instructions, index as usize)?)
     }
 }

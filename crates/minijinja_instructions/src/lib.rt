@@ -4,7 +4,8 @@
 mod display;
 pub mod instructions;
 pub mod lists;
-mod marks;
+pub mod marks;
+mod references;
 mod runs;
 #[cfg(test)]
 mod tests;

@@ -4,11 +4,10 @@ ghost use Rattle.minijinja_syntax.specs.Errors as Errors;
 ghost use Rattle.minijinja_syntax.specs.Errors.{kind_of, span_of};
 ghost use Rattle.minijinja_syntax.specs.declared.error.ErrorKind.TheVariants.{TooManyInstructions};
 ghost use Rattle.minijinja_instructions.specs.InstructionLists.{instructions_of, is_required, marks_of, name_of, source_of, IsAddError};
-ghost use Rattle.minijinja_instructions.specs.Marks.{unmarked};
-ghost use Rattle.minijinja_instructions.specs.Runs.{copies};
+ghost use Rattle.minijinja_instructions.specs.MarkLists.{marks_in};
 
 use crate::instructions::{Instruction, InstructionList, Instructions};
-use crate::runs::Runs;
+use crate::marks::MarkList;
 use minijinja_syntax::error::{Detail, Error, ErrorKind};
 use minijinja_value::value::TemplateValue;
 
@@ -29,26 +28,25 @@ pub fn too_many() -> Error<'static>
     )
 }
 
-/// Makes a list of these instructions. It does not check their number: the caller ensures that they
-/// are fewer than [`LIMIT`]. None has a line or a span.
+/// Makes a list of these instructions with their lines and spans. It does not check their number:
+/// the caller ensures that they are fewer than [`LIMIT`].
 pub fn listed<'s, V: TemplateValue>(
     instructions: Vec<Instruction<'s, V>>,
+    marks: MarkList,
     name: &'s str,
     source: &'s str,
     is_required_block: bool,
 ) -> Instructions<'s, V>
+    requires { length (marks_in marks) ≡ length instructions.items }
     ensures instructions { instructions_of result ≡ instructions.entry.items }
-    ensures marks { marks_of result ≡ copies (length instructions.entry.items) unmarked }
+    ensures marks { marks_of result ≡ marks_in marks }
     ensures required { is_required result ≡ is_required_block }
     ensures name { name_of result ≡ name.now }
     ensures source { source_of result ≡ source.now }
 {
-    let alloc = *instructions.allocator();
-    let len = instructions.len();
     InstructionList {
         instructions,
-        lines: Runs::new(alloc, len),
-        spans: Runs::new(alloc, len),
+        marks,
         name,
         source,
         is_required_block,

@@ -22,16 +22,17 @@ pub struct Runs<T> {
 }
 
 impl<T: Copy> Runs<T> {
-    ghost use Rattle.std.specs.Prelude.{◌++◌, [], ◌∷◌, Some, None, length, OnOk};
-    ghost use Rattle.minijinja_instructions.specs.Runs.{at_or_last, copies, last_or, values_of, HasRoom};
+    ghost use Rattle.std.specs.Prelude.{◌++◌, [], ◌∷◌, Some, None, length, take, OnOk};
+    ghost use Rattle.minijinja_semantics.specs.Marks.{last_or};
+    ghost use Rattle.minijinja_instructions.specs.Runs.{at_or_last, values_of, HasRoom};
 
-    /// So many places at which none is in force. It allocates nothing yet.
-    pub fn new(alloc: Global, len: usize) -> Self
-        ensures { values_of result ≡ copies len None }
+    /// No places. It allocates nothing yet.
+    pub fn new(alloc: Global) -> Self
+        ensures { values_of result ≡ [] }
     {
         Runs {
             runs: Vec::new(alloc),
-            len,
+            len: 0,
         }
     }
 
@@ -63,6 +64,15 @@ impl<T: Copy> Runs<T> {
             value,
         });
         self.len += 1;
+    }
+
+    /// Drops all places from one on.
+    pub fn cut(&mut self, place: usize)
+        ensures { values_of self.new ≡ take place (values_of self.old) }
+    {
+        let begun = self.runs.partition_point(|run| run.first < place);
+        self.runs.truncate(begun);
+        self.len = self.len.min(place);
     }
 
     /// How often the value changes.

@@ -1,7 +1,9 @@
-//! Which lines and spans a list keeps, and which it returns.
-use crate::instructions::InstructionList;
+//! Which lines and spans a list keeps and which it returns, and which names it refers to.
+use crate::instructions::{Instruction, InstructionList, Instructions, LOOP_FLAG_WITH_LOOP_VAR};
 use minijinja_syntax::error::Error;
 use minijinja_syntax::tokens::Span;
+use minijinja_value::value::Value;
+use std::alloc::Global;
 use std::test::Fail;
 
 /// The entry of an instruction in a plain list.
@@ -28,7 +30,7 @@ fn a_line_is_kept_once(rt: HostRuntime) -> Result<(), Fail> {
         list.add_with_line(0u8, 7)?;
     }
     assert!(rt; list.len() == 100_000);
-    assert!(rt; list.lines.changes() == 1 && list.spans.changes() == 0);
+    assert!(rt; list.marks.changes() == (1, 0));
     assert!(rt; list.get_line(0) == Some(7) && list.get_line(99_999) == Some(7));
     Ok(())
 }
@@ -110,5 +112,94 @@ fn mixed_adds_are_a_plain_list(rt: HostRuntime) -> Result<(), Fail> {
         assert!(rt; list.get_span(index) == entry.span);
         index = index.wrapping_add(1);
     }
+    Ok(())
+}
+
+/// The names that are referenced at an index, each after a space.
+fn names_at(
+    alloc: Global,
+    list: &Instructions<'static>,
+    index: u32,
+) -> Result<String, Error<'static>> {
+    let mut words = String::from_str(alloc, "at")?;
+    for name in list.get_referenced_names(index)? {
+        write!(words, " {name}")?;
+    }
+    Ok(words)
+}
+
+/// A list of these instructions.
+fn list_of(
+    alloc: Global,
+    instructions: Vec<Instruction<'static>>,
+) -> Result<Instructions<'static>, Error<'static>> {
+    let mut list = InstructionList::new(alloc, "name", "source");
+    for instruction in instructions {
+        list.add(instruction)?;
+    }
+    Ok(list)
+}
+
+/// The code of `{% for x in y %}{{ x }}{% endfor %}`.
+fn loop_code(alloc: Global) -> Result<Instructions<'static>, Error<'static>> {
+    let instructions = vec![in alloc;
+        Instruction::Lookup("y"),
+        Instruction::PushLoop(LOOP_FLAG_WITH_LOOP_VAR),
+        Instruction::Iterate(7),
+        Instruction::StoreLocal("x"),
+        Instruction::Lookup("x"),
+        Instruction::Emit,
+        Instruction::Jump(2),
+        Instruction::PopLoopFrame,
+    ]?;
+    list_of(alloc, instructions)
+}
+
+/// The code of `{{ a }}{% macro m(x) %}{{ x }}{{ b }}{% endmacro %}{{ m() }}`.
+fn macro_code(alloc: Global) -> Result<Instructions<'static>, Error<'static>> {
+    let instructions = vec![in alloc;
+        Instruction::Lookup("a"),
+        Instruction::Emit,
+        Instruction::Jump(9),
+        Instruction::StoreLocal("x"),
+        Instruction::Lookup("x"),
+        Instruction::Emit,
+        Instruction::Lookup("b"),
+        Instruction::Emit,
+        Instruction::Return,
+        Instruction::Enclose("b"),
+        Instruction::GetClosure,
+        Instruction::LoadConst(Value::None),
+        Instruction::BuildMacro("m", 3, 0),
+        Instruction::StoreLocal("m"),
+        Instruction::CallFunction("m", Some(0)),
+        Instruction::Emit,
+    ]?;
+    list_of(alloc, instructions)
+}
+
+#[test]
+fn names_of_a_loop(rt: HostRuntime) -> Result<(), Fail> {
+    let alloc = rt.alloc();
+    let list = loop_code(alloc)?;
+    assert!(rt; names_at(alloc, &list, 0)?.as_str() == "at y");
+    assert!(rt; names_at(alloc, &list, 2)?.as_str() == "at loop y");
+    assert!(rt; names_at(alloc, &list, 7)?.as_str() == "at x loop y");
+    assert!(rt; names_at(alloc, &list, 99)?.as_str() == "at x loop y");
+    let empty = InstructionList::new(alloc, "name", "source");
+    assert!(rt; names_at(alloc, &empty, 0)?.as_str() == "at");
+    Ok(())
+}
+
+#[test]
+fn names_of_a_macro(rt: HostRuntime) -> Result<(), Fail> {
+    let alloc = rt.alloc();
+    let list = macro_code(alloc)?;
+    assert!(rt; names_at(alloc, &list, 1)?.as_str() == "at a");
+    assert!(rt; names_at(alloc, &list, 2)?.as_str() == "at");
+    assert!(rt; names_at(alloc, &list, 4)?.as_str() == "at x");
+    assert!(rt; names_at(alloc, &list, 8)?.as_str() == "at b x");
+    assert!(rt; names_at(alloc, &list, 10)?.as_str() == "at a");
+    assert!(rt; names_at(alloc, &list, 99)?.as_str() == "at m a");
     Ok(())
 }
