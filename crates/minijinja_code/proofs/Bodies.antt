@@ -8,9 +8,9 @@ use Rattle.minijinja_tree.specs.Tree.{Stmt as Tree, template, done, also, are_an
 use Rattle.minijinja_tree.specs.WellFormed.{IsInner, AreInner, IsWellFormed}
 use Rattle.minijinja_tree.specs.declared.ast.Stmt.{Stmt}
 use Rattle.minijinja_semantics.specs.Layout.{stmts}
-use Rattle.minijinja_semantics.specs.Pieces.{Open}
+use Rattle.minijinja_semantics.specs.Pieces.{Open, Piece, Leading, Exits}
 use Rattle.minijinja_code_parts.specs.Hint.{all_data_bytes}
-use Rattle.minijinja_code_expr.specs.internal.Making.{Made}
+use Rattle.minijinja_emitter.specs.internal.Making.{Made, Adds}
 use Rattle.minijinja_code.specs.private.Statements.{MayStand}
 use Rattle.minijinja_code_parts.specs.internal.EnclosingLoops.{Around, Follows}
 use Rattle.minijinja_tree.proofs.Rows.{body_of}
@@ -55,3 +55,11 @@ root_stands l s e w = subst (λ b. IsInner b s) (sym e) w.0
 module _ {V K C F : Type 0} (f : Functions C F) (c : V → C) where
   pub body_as : {t u : Around} {a b : Made C} (os : List Open) {xs ys : List (Stmt V K)} → xs ≡ ys → Follows t a u b (all_data_bytes (body_of c xs)) (stmts f os (body_of c xs)) → Follows t a u b (all_data_bytes (body_of c ys)) (stmts f os (body_of c ys))
   body_as {t} {u} {a} {b} os e r = subst (λ zs. Follows t a u b (all_data_bytes (body_of c zs)) (stmts f os (body_of c zs))) e r
+
+-- what follows after something that added no code
+module _ {C : Type 0} where
+  pub follows_from : {t u : Around} {a' a b : Made C} {n : ℕ} {p : Leading Exits C} → a' ≡ a → Follows t a' u b n p → Follows t a u b n p
+  follows_from {t} {u} {b = b} {n = n} {p = p} e r = subst (λ m. Follows t m u b n p) e r
+
+  pub adds_from : {a' a b : Made C} {p : Piece C} → a' ≡ a → Adds a' b p → Adds a b p
+  adds_from {b = b} {p = p} e s = subst (λ m. Adds m b p) e s

@@ -11,7 +11,7 @@ use Rattle.minijinja_code_parts.specs.Hint.{all_data_bytes}
 use Rattle.minijinja_code_expr.specs.internal.Branching.{BeginsElse, Opened, ending_at, set_at}
 use Rattle.minijinja_code_parts.specs.internal.IfParts.{Tests}
 use Rattle.minijinja_code_expr.specs.internal.Leading.{Tested}
-use Rattle.minijinja_code_expr.specs.internal.Making.{Made, Adds, hole, reach}
+use Rattle.minijinja_emitter.specs.internal.Making.{Made, Adds, hole, reach}
 use Rattle.minijinja_code_parts.specs.internal.EnclosingLoops.{Around, AreBefore, AreOthers, Follows, FollowsStmt, FollowsStmts, exits, ending}
 use Rattle.minijinja_code_expr.proofs.Branching.{choice_added}
 use Rattle.minijinja_code_parts.proofs.Filling.{before_later, before_others, ends_length, ends_apart, filled_adds, adds_on}
@@ -98,3 +98,8 @@ module _ {C L F : Type 0} (f : Functions C F) where
       let both = follows_then (plain (expr f e)) (skipping_out JumpIfFalse (stmts f t.opened true_body)) (follows_plain t (expr f e) tests.test_added) skips in
       let all = follows_bytes (omega (arith, none_bytes false_body none)) both in
       subst (λ has. Follows t a u jumped (all_data_bytes true_body + all_data_bytes false_body) (plain (expr f e) ▹ either has (stmts f t.opened true_body) (stmts f t.opened false_body))) (sym none) all
+
+module _ {C F : Type 0} (f : Functions C F) where
+  -- a test that was added after something that added no code
+  pub tests_from : {a' a b : Made C} {e : Expr C} {place : ℕ} → a' ≡ a → Tests f e place a' b → Tests f e place a b
+  tests_from {b = b} {e = e} {place = place} is s = subst (λ m. Tests f e place m b) is s

@@ -8,7 +8,7 @@ use Rattle.minijinja_value.specs.Values.{Functions}
 use Rattle.minijinja_tree.specs.Tree.{Block}
 use Rattle.minijinja_semantics.specs.Code.{Instr}
 use Rattle.minijinja_code.specs.Generator.{HaveTooLong, OnlyWhereOneIsTooLong, OnlyWhereTooLong}
-use Rattle.minijinja_code_expr.specs.internal.Making.{Made, here_of, Adds}
+use Rattle.minijinja_emitter.specs.internal.Making.{Made, here_of, Adds}
 use Rattle.minijinja_code.proofs.Uncapped.{added_length}
 use Rattle.minijinja_semantics.specs.Pieces.{Piece}
 

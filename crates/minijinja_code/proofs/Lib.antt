@@ -9,3 +9,6 @@ pub mod ConditionSteps
 pub mod StatementArms
 pub mod Templates
 pub mod MacroSteps
+pub mod MarkWalks
+pub mod SpannedArms
+pub mod MarkSteps

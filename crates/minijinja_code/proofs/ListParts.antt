@@ -27,7 +27,7 @@ use Rattle.minijinja_semantics.proofs.Lengths.{exact_to, stmts_exact}
 use Rattle.minijinja_semantics.proofs.Whole.{block_does}
 use Rattle.minijinja_code.specs.BlockLists.{IsBlockList, list_of, AddsLists}
 use Rattle.minijinja_code_parts.specs.internal.EnclosingLoops.{Around, FollowsStmts}
-use Rattle.minijinja_code_expr.specs.internal.Making.{Made, here_of, capped, Adds}
+use Rattle.minijinja_emitter.specs.internal.Making.{Made, here_of, capped, Adds}
 use Rattle.minijinja_code_parts.proofs.Rounds.{nowhere, adds_outside}
 use Rattle.minijinja_code.proofs.Uncapped.{uncapped}
 

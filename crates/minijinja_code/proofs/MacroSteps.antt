@@ -19,8 +19,8 @@ use Rattle.minijinja_code_parts.specs.internal.Macros.{building}
 use Rattle.minijinja_code_parts.specs.internal.EnclosingLoops.{Around, Counted, Follows, FollowsStmt, FollowsStmts, counting}
 use Rattle.minijinja_code_expr.specs.internal.Callers.{TakesCaller, WholeBlock, arguments_end, behind_caller, called, end_count}
 use Rattle.minijinja_code_expr.specs.internal.Calling.{captured}
-use Rattle.minijinja_code_expr.specs.internal.Making.{Made, here_of, Adds, hole, reach, capped}
-use Rattle.minijinja_code_expr.proofs.Adding.{adds_nested, adds_then, adds_assoc, adds_length, adds_skipping}
+use Rattle.minijinja_emitter.specs.internal.Making.{Made, here_of, Adds, hole, reach, capped}
+use Rattle.minijinja_emitter.proofs.Adding.{adds_nested, adds_then, adds_assoc, adds_length, adds_skipping}
 use Rattle.minijinja_code_parts.proofs.Rounds.{nowhere, adds_outside, follows_counted, follows_plain, follows_bytes}
 
 module _ {C : Type 0} where

@@ -4,7 +4,8 @@ use Rattle.std.specs.Prelude.{false, IfErr, IsErrAnd}
 use Rattle.minijinja_value.specs.Values.{Functions}
 use Rattle.minijinja_tree_expr.specs.declared.ast.Spanned.{Spanned}
 use Rattle.minijinja_tree.specs.Erasure.{stmt_tree}
-use Rattle.minijinja_tree.specs.Nodes.{node_of}
+use Rattle.minijinja_tree.specs.Nodes.{node_of, span_of}
+use Rattle.minijinja_tree.specs.SpannedErasure.{stmt_node}
 use Rattle.minijinja_tree.specs.Tree.{Block, named_block}
 use Rattle.minijinja_tree.specs.WellFormed.{AreInner}
 use Rattle.minijinja_tree.specs.declared.ast.Block.{Block as BlockNode}
@@ -15,8 +16,9 @@ use Rattle.minijinja_tree.specs.declared.ast.Stmt.TheVariants as stmt
 use Rattle.minijinja_tree.specs.declared.ast.Stmt.TheVariants.{Block', CallBlock'}
 use Rattle.minijinja_semantics.specs.Layout.{block_code}
 use Rattle.minijinja_code.specs.Generator.{HaveTooLong}
-use Rattle.minijinja_code.specs.private.Lists.{block_tree, own_block}
+use Rattle.minijinja_code.specs.private.Lists.{block_tree, marked_block, own_block, own_marked}
 use Rattle.minijinja_code.specs.private.Statements.{MayStand, StandsSomewhere}
+use Rattle.minijinja_code.proofs.SpannedArms.{block_node}
 use Rattle.minijinja_code.proofs.StatementArms.{block_arm}
 
 -- the node of a block
@@ -37,8 +39,16 @@ module _ {V F C : Type 0} (c : V → C) where
   no_block (CallBlock' p (stmt_block.struct-CallBlock call q x args defaults k xs at) s) n = refl
   no_block _ n = refl
 
+  pub no_marked_block : (s : Stmt V F) → ((b : Spanned (BlockNode V F)) → s ≡ stmt.Block b → ⊥) → own_marked (stmt_node c s) ≡ []
+  no_marked_block (Block' p x required k xs s) n = let w = blocked p x required k xs s in absurd (n w.0 w.1)
+  no_marked_block (CallBlock' p (stmt_block.struct-CallBlock call q x args defaults k xs at) s) n = refl
+  no_marked_block _ n = refl
+
   pub one_block : (s : Stmt V F) (b : Spanned (BlockNode V F)) (n : BlockNode V F) → s ≡ stmt.Block b → n ≡ node_of b → own_block (stmt_tree c s) ≡ block_tree c n ∷ []
   one_block s b n is at = ap own_block (block_arm c s b n is at)
+
+  pub one_marked_block : (s : Stmt V F) (b : Spanned (BlockNode V F)) → s ≡ stmt.Block b → own_marked (stmt_node c s) ≡ marked_block c b ∷ []
+  one_marked_block s b is = ap own_marked (block_node c s b (node_of b) (span_of b) is refl refl)
 
 -- its body stands outside of loops
 named_inner : {C L : Type 0} (l : _) (b : Block C L) → MayStand l (named_block b.name b.required b.body) → AreInner false b.body

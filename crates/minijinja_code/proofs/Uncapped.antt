@@ -8,7 +8,7 @@ use Rattle.minijinja_semantics.specs.Code.{Instr, BuildMacro, Jump, JumpIfFalse,
 use Rattle.minijinja_semantics.specs.Jumps.{jump_target}
 use Rattle.minijinja_semantics.specs.Layout as layout
 use Rattle.minijinja_semantics.specs.Pieces.{Piece, outside}
-use Rattle.minijinja_code_expr.specs.internal.Making.{Made, here_of, capped, last_target, reach, Adds}
+use Rattle.minijinja_emitter.specs.internal.Making.{Made, here_of, capped, last_target, reach, Adds}
 use Rattle.minijinja_code.specs.private.Statements.{stmt_piece}
 use Rattle.minijinja_semantics.proofs.Leads.{AllLead, Leads, entry_of, expr_leads, root_leads, target_leads}
 use Rattle.minijinja_semantics.proofs.Lengths.{Exact, exact_to, expr_exact, stmt_exact, target_exact}

@@ -1,5 +1,6 @@
 pub use Rattle.minijinja_code_parts.specs.Hint
 pub mod BlockLists
+pub mod BlockMarks
 pub mod Generator
 pub mod internal
 pub mod private

@@ -10,25 +10,29 @@ ghost use Rattle.minijinja_syntax.specs.Errors.{kind_of};
 ghost use Rattle.minijinja_syntax.specs.declared.error.ErrorKind.TheVariants.{TooManyInstructions};
 ghost use Rattle.minijinja_code.specs.Generator.{HasNoPlaceOrName, HaveTooLong, OnlyWhereOneIsTooLong, OnlyWhereTooLong};
 ghost use Rattle.minijinja_code.specs.BlockLists.{AddsLists};
+ghost use Rattle.minijinja_code.specs.BlockMarks.{HaveMarks, marked_blocks};
 ghost use Rattle.minijinja_code_parts.specs.Hint.{IsHint, data_bytes};
-ghost use Rattle.minijinja_instructions.specs.InstructionLists.{IsAddError, is_required, name_of, source_of};
+ghost use Rattle.minijinja_instructions.specs.InstructionLists.{IsAddError, is_required, marks_of, name_of, source_of};
 ghost use Rattle.minijinja_semantics.specs.Places.{placed_stmt};
 ghost use Rattle.minijinja_semantics.specs.Units.{DoUnits};
 ghost use Rattle.minijinja_semantics.specs.Layout.{expr_code, past_expr, target_code, past_target, stmt_code, past_stmt};
 ghost use Rattle.minijinja_code.specs.private.Statements.{stmt_piece};
-ghost use Rattle.minijinja_code.specs.internal.AtGenerator.{generated, here_so_far, counted_bytes, blocks_of, file_of, text_of, refusal_of};
-ghost use Rattle.minijinja_code_expr.specs.internal.Making.{made_of, Adds};
+ghost use Rattle.minijinja_tree.specs.SpannedErasure.{expr_node, stmt_node};
+ghost use Rattle.minijinja_semantics.specs.Marks as marks;
+ghost use Rattle.minijinja_code.specs.internal.AtGenerator.{generated, here_so_far, margin_so_far, counted_bytes, blocks_of, file_of, text_of, refusal_of};
+ghost use Rattle.minijinja_emitter.specs.internal.AtEmitter.{made_of, margin_of};
+ghost use Rattle.minijinja_emitter.specs.internal.Making.{Adds};
 ghost use Rattle.minijinja_semantics.specs.Pieces.{start};
 
 mod lists;
 
 use crate::codegen::lists::{ListError, Lists, Source, add_lists};
 use crate::stmt::statement;
-use minijinja_code_expr::emit::Emitter;
 use minijinja_code_expr::expr::expression;
-use minijinja_code_expr::memory::OutOfMemory;
 use minijinja_code_parts::enclosing_loop::EnclosingLoop;
 use minijinja_code_parts::targets::assign;
+use minijinja_emitter::emit::Emitter;
+use minijinja_emitter::memory::OutOfMemory;
 use minijinja_instructions::instructions::Instructions;
 use minijinja_instructions::lists::{LIMIT, listed, too_many};
 use minijinja_syntax::error::Error;
@@ -55,6 +59,7 @@ impl<'s, V: TemplateValue> CodeGenerator<'s, V> {
     pub fn new(alloc: Global, file: &'s str, source: &'s str) -> Self
         ensures empty { generated V.contents result ≡ [] }
         ensures here { here_so_far V.contents result ≡ start }
+        ensures margin { margin_so_far result ≡ marks.start }
         ensures bytes { counted_bytes result ≡ 0 }
         ensures refusal { refusal_of result ≡ None }
         ensures blocks { IsEmpty (blocks_of result) }
@@ -83,6 +88,9 @@ impl<'s, V: TemplateValue> CodeGenerator<'s, V> {
             (here_so_far V.contents self.old)) }
         ensures past { OnOk result (here_so_far V.contents self.new ≡ past_stmt V.functions
             (stmt_tree V.contents stmt.now) (here_so_far V.contents self.old)) }
+        // Each instruction has the line and the span of the part of the tree that it comes from.
+        ensures marked { OnOk result (margin_so_far self.new ≡ marks.stmt V.functions []
+            (stmt_node V.contents stmt.now) (margin_so_far self.old)) }
         // Run from their start, the instructions do what the statement means, on answers that
         // number, with the values in them, under 2^64.
         ensures does { OnOk result (DoesStmt V.functions (generated V.contents self.new)
@@ -115,6 +123,9 @@ impl<'s, V: TemplateValue> CodeGenerator<'s, V> {
         ensures blocks { OnOk result (AddsLists V.functions V.contents (text_of self.old)
             (file_of self.old) (blocks (stmt_tree V.contents stmt.now)) (blocks_of self.old)
             (blocks_of self.new)) }
+        // That list has the lines and the spans of the block's body.
+        ensures block_marks { OnOk result (HaveMarks V.functions
+            (marked_blocks (stmt_node V.contents stmt.now)) (blocks_of self.new)) }
         ensures name { file_of self.new ≡ file_of self.old }
         ensures source { text_of self.new ≡ text_of self.old }
     {
@@ -141,6 +152,8 @@ impl<'s, V: TemplateValue> CodeGenerator<'s, V> {
         ensures few { OnOk result (length (generated V.contents self.new) < 2 ^ 32) }
         ensures past { OnOk result (here_so_far V.contents self.new ≡ past_expr V.functions
             (expr_tree V.contents expr.now) (here_so_far V.contents self.old)) }
+        ensures marked { OnOk result (margin_so_far self.new ≡ marks.expr V.functions
+            (expr_node V.contents expr.now) (margin_so_far self.old)) }
         // Run from their start, the instructions leave the value that the expression means, on
         // answers that number, with the values in them, under 2^64.
         ensures does { OnOk result (DoesExpr V.functions (generated V.contents self.new)
@@ -176,6 +189,8 @@ impl<'s, V: TemplateValue> CodeGenerator<'s, V> {
         ensures few { OnOk result (length (generated V.contents self.new) < 2 ^ 32) }
         ensures past { OnOk result (here_so_far V.contents self.new ≡ past_target V.functions
             (expr_tree V.contents target.now) (here_so_far V.contents self.old)) }
+        ensures marked { OnOk result (margin_so_far self.new ≡ marks.target V.functions
+            (expr_node V.contents target.now) (margin_so_far self.old)) }
         ensures causes { IfNone (refusal_of self.old) (IfErr result IsAddError) }
         ensures unplaced { IfNone (refusal_of self.old) (IfErr result HasNoPlaceOrName) }
         ensures too_many { IfNone (refusal_of self.old) (IfErr result
@@ -216,6 +231,7 @@ impl<'s, V: TemplateValue> CodeGenerator<'s, V> {
     pub fn finish(self) -> (Instructions<'s, V>, BTreeMap<&'s str, Instructions<'s, V>>)
         requires { refusal_of self ≡ None }
         ensures code { code_of V.contents result.0 ≡ generated V.contents self.entry }
+        ensures marks { marks_of result.0 ≡ (margin_so_far self.entry).marks }
         // It is no list of a block, so it is none that has to be overridden.
         ensures required { is_required result.0 ≡ false }
         ensures blocks { result.1 ≡ blocks_of self.entry }
@@ -228,7 +244,8 @@ impl<'s, V: TemplateValue> CodeGenerator<'s, V> {
             lists,
             ..
         } = self;
-        let code = listed(code.into_list(), source.name, source.text, false);
+        let (instructions, marks) = code.into_parts();
+        let code = listed(instructions, marks, source.name, source.text, false);
         (code, lists)
     }
 
@@ -239,6 +256,8 @@ impl<'s, V: TemplateValue> CodeGenerator<'s, V> {
         ensures added { OnOk result (AddsLists V.functions V.contents (text_of self.old)
             (file_of self.old) (blocks (stmt_tree V.contents stmt.now)) (blocks_of self.old)
             (blocks_of self.new)) }
+        ensures marked { OnOk result (HaveMarks V.functions
+            (marked_blocks (stmt_node V.contents stmt.now)) (blocks_of self.new)) }
         ensures too_many { IfErr result (λ e. kind_of e ≡ TooManyInstructions →
             HaveTooLong V.functions (blocks (stmt_tree V.contents stmt.now))) }
         ensures causes { IfErr result IsAddError }
@@ -248,6 +267,7 @@ impl<'s, V: TemplateValue> CodeGenerator<'s, V> {
 
         ensures code { generated V.contents self.new ≡ generated V.contents self.old }
         ensures here { here_so_far V.contents self.new ≡ here_so_far V.contents self.old }
+        ensures margin { margin_so_far self.new ≡ margin_so_far self.old }
         ensures counted { counted_bytes self.new ≡ counted_bytes self.old }
         ensures name { file_of self.new ≡ file_of self.old }
         ensures source { text_of self.new ≡ text_of self.old }
@@ -267,6 +287,7 @@ impl<'s, V: TemplateValue> CodeGenerator<'s, V> {
         ensures kept { refusal_of self.new ≡ Some refusal.entry }
         ensures code { generated V.contents self.new ≡ generated V.contents self.old }
         ensures here { here_so_far V.contents self.new ≡ here_so_far V.contents self.old }
+        ensures margin { margin_so_far self.new ≡ margin_so_far self.old }
         ensures counted { counted_bytes self.new ≡ counted_bytes self.old }
         ensures blocks { blocks_of self.new ≡ blocks_of self.old }
         ensures name { file_of self.new ≡ file_of self.old }
@@ -290,6 +311,7 @@ impl<'s, V: TemplateValue> CodeGenerator<'s, V> {
 
         ensures code { generated V.contents self.new ≡ generated V.contents self.old }
         ensures here { here_so_far V.contents self.new ≡ here_so_far V.contents self.old }
+        ensures margin { margin_so_far self.new ≡ margin_so_far self.old }
         ensures counted { counted_bytes self.new ≡ counted_bytes self.old }
         ensures blocks { blocks_of self.new ≡ blocks_of self.old }
         ensures name { file_of self.new ≡ file_of self.old }
@@ -315,6 +337,8 @@ fn compile_stmt<'s, V: TemplateValue>(
     requires { IsWellFormed (stmt_tree V.contents stmt.now) }
     ensures added { OnOk result (Adds (made_of V.contents code.old) (made_of V.contents code.new)
         (stmt_piece V.functions (stmt_tree V.contents stmt.now))) }
+    ensures marked { OnOk result (margin_of code.new ≡ marks.stmt V.functions []
+        (stmt_node V.contents stmt.now) (margin_of code.old)) }
     ensures counted { IfOk result
         (λ n. n ≡ min usize.MAX (data_bytes (stmt_tree V.contents stmt.now))) }
 {
@@ -354,7 +378,8 @@ fn make_room<'s, V: TemplateValue>(
     code: &mut Emitter<'s, V>,
     stmt: &Stmt<'s, V>,
 ) -> Result<(), OutOfMemory>
-    ensures { made_of V.contents code.new ≡ made_of V.contents code.old }
+    ensures made { made_of V.contents code.new ≡ made_of V.contents code.old }
+    ensures marked { margin_of code.new ≡ margin_of code.old }
 {
     match stmt {
         Stmt::Template(template) => {

@@ -12,7 +12,7 @@ use Rattle.minijinja_semantics.specs.Code.{Instr, Do, Call, Operate, Jump, JumpI
 use Rattle.minijinja_semantics.specs.Events.{Div, Slice, GetAttr, GetItem, CallFunction, CallMethod, CallObject, CallBlock, BeginCapture, EndCapture, Capture}
 use Rattle.minijinja_semantics.specs.Layout.{folded, unary_instr, operation, Failing, chained, arguments, argument_count, apply_filter, perform_test, call_of, expr, base, optional, operand, positional, keyword, comparisons}
 use Rattle.minijinja_semantics.specs.Pieces.{Here, behind, Piece, one, ◌▸◌, skipping, branches}
-use Rattle.minijinja_code_expr.specs.internal.Making.{capped, loaded_by, alone}
+use Rattle.minijinja_emitter.specs.internal.Making.{capped, loaded_by, alone}
 use Rattle.minijinja_semantics.proofs.Runs.{append_nil}
 
 module _ {C : Type 0} where

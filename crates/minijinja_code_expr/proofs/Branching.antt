@@ -9,8 +9,8 @@ use Rattle.minijinja_semantics.specs.Layout.{optional}
 use Rattle.minijinja_semantics.specs.Pieces.{Here, behind, Piece, one, ◌▸◌, branches}
 use Rattle.minijinja_code_expr.specs.internal.Branching.{BeginsElse, Opened, ending_at, set_at}
 use Rattle.minijinja_code_expr.specs.internal.Leading.{Finishes, Tested}
-use Rattle.minijinja_code_expr.specs.internal.Making.{Made, here_of, hole, capped, reach, Adds}
-use Rattle.minijinja_code_expr.proofs.Adding.{adds_then, adds_filled}
+use Rattle.minijinja_emitter.specs.internal.Making.{Made, here_of, hole, capped, reach, Adds}
+use Rattle.minijinja_emitter.proofs.Adding.{adds_then, adds_filled}
 
 module _ {C : Type 0} where
   pub opened : {test end n : ℕ} {now room jumped : Made C} → Adds now room (one hole) → end ≡ length now.code → jumped ≡ set_at room test (JumpIfFalse n) → n ≡ reach (length room.code) → Opened test end now room jumped

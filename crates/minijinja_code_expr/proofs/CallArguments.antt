@@ -15,11 +15,12 @@ use Rattle.minijinja_semantics.specs.Code.{Load, Do}
 use Rattle.minijinja_semantics.specs.Events.{MergeKwargs, UnpackLists}
 use Rattle.minijinja_semantics.specs.Pieces.{Here, Piece, nothing, one, ◌▸◌}
 use Rattle.minijinja_semantics.specs.Layout.{Count, batch_count, count_one, count_batch, count_positional, count_keyword, argument_count, list_batch, map_batch, merged, map_count, spreading, counted, expr, positional, keyword}
-use Rattle.minijinja_code_expr.specs.internal.Making.{Made, here_of, operands, given, keyword_map, capped, Adds, AddsIf}
+use Rattle.minijinja_emitter.specs.internal.Making.{Made, here_of, capped, Adds}
+use Rattle.minijinja_code_expr.specs.internal.Parts.{operands, given, keyword_map, AddsIf}
 use Rattle.minijinja_semantics.proofs.Arguments.{AllCounted, all_counted, one_map, none_counted}
 use Rattle.minijinja_semantics.proofs.FoldedCode.{folded_some, folded_none}
 use Rattle.minijinja_semantics.proofs.Runs.{append_nil}
-use Rattle.minijinja_code_expr.proofs.Adding.{adds_then, adds_as, adds_nothing}
+use Rattle.minijinja_emitter.proofs.Adding.{adds_then, adds_as, adds_nothing}
 use Rattle.minijinja_code_expr.proofs.InOrder.{Leads}
 
 -- The batches: how they are closed, merged and spread.

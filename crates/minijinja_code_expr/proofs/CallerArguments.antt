@@ -4,8 +4,8 @@ use Rattle.minijinja_tree.specs.Tree.{Args}
 use Rattle.minijinja_semantics.specs.Layout.{Count, map_count, merged, spreading, counted}
 use Rattle.minijinja_code_expr.specs.declared.arguments.Counts.{Counts}
 use Rattle.minijinja_code_expr.specs.internal.Callers.{AreCounts, arguments_end, end_count}
-use Rattle.minijinja_code_expr.specs.internal.Making.{Made, Adds}
-use Rattle.minijinja_code_expr.proofs.Adding.{adds_as, adds_then}
+use Rattle.minijinja_emitter.specs.internal.Making.{Made, Adds}
+use Rattle.minijinja_emitter.proofs.Adding.{adds_as, adds_then}
 
 -- with the macro there is a map
 one_map : (b n : ℕ) → map_count b (suc n) ≡ 1
@@ -17,7 +17,7 @@ module _ {C : Type 0} (args : Args C) (front : ℕ) (cs : Counts) (are : AreCoun
   with_map : maps ≡ 1
   with_map = is ∙ ap (λ (k : Count). map_count k.batches k.waiting) are.keyword ∙ one_map _ _
 
-  one_more : cs.positional.waiting + maps ≡ suc cs.positional.waiting
+  pub one_more : cs.positional.waiting + maps ≡ suc cs.positional.waiting
   one_more = ap (λ n. cs.positional.waiting + n) with_map ∙ add-one cs.positional.waiting
 
   pub counted_end : counted cs.positional.batches (cs.positional.waiting + maps) ≡ end_count args front

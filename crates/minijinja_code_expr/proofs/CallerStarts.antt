@@ -6,8 +6,8 @@ use Rattle.minijinja_tree.specs.Callees.{Callee, method, object, callee}
 use Rattle.minijinja_tree.specs.Tree.{Expr, Args}
 use Rattle.minijinja_semantics.specs.Layout.{expr, up_to_caller}
 use Rattle.minijinja_semantics.specs.Places.{before_caller}
-use Rattle.minijinja_code_expr.specs.internal.Making.{Made, Adds}
-use Rattle.minijinja_code_expr.proofs.Adding.{adds_as, adds_then}
+use Rattle.minijinja_emitter.specs.internal.Making.{Made, Adds}
+use Rattle.minijinja_emitter.proofs.Adding.{adds_as, adds_then}
 use Rattle.minijinja_code_expr.proofs.Finishing.{method_base, object_is}
 
 module _ {C F : Type 0} (f : Functions C F) (e : Expr C) (args : Args C) {a o b : Made C} where

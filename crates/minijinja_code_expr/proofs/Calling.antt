@@ -11,8 +11,9 @@ use Rattle.minijinja_semantics.specs.Layout.{expr, argument_count}
 use Rattle.minijinja_semantics.specs.Pieces.{one}
 use Rattle.minijinja_code_expr.specs.internal.Calling.{captured}
 use Rattle.minijinja_code_expr.specs.internal.Leading.{After, called_on, piece_of, Finishes}
-use Rattle.minijinja_code_expr.specs.internal.Making.{Made, Adds, given}
-use Rattle.minijinja_code_expr.proofs.Adding.{adds_nothing}
+use Rattle.minijinja_emitter.specs.internal.Making.{Made, Adds}
+use Rattle.minijinja_code_expr.specs.internal.Parts.{given}
+use Rattle.minijinja_emitter.proofs.Adding.{adds_nothing}
 use Rattle.minijinja_code_expr.proofs.Finishing.{function_finishes, method_finishes, block_finishes, object_finishes, leading_whole}
 
 module _ {C F : Type 0} (f : Functions C F) (e : Expr C) (args : Args C) where

@@ -6,10 +6,10 @@ use Rattle.minijinja_tree.specs.CompareOps.{CompareOp}
 use Rattle.minijinja_semantics.specs.Code.{Instr, CompareAndPreserve, JumpIfFalseOrPop}
 use Rattle.minijinja_semantics.specs.Pieces.{Here, behind, Piece, one, ◌▸◌, leading_to}
 use Rattle.minijinja_semantics.specs.Layout.{Failing, and_then, chained}
-use Rattle.minijinja_code_expr.specs.internal.Making.{Made, here_of, hole, reach, capped, Adds}
+use Rattle.minijinja_emitter.specs.internal.Making.{Made, here_of, hole, reach, capped, Adds}
 use Rattle.minijinja_code_expr.specs.private.Comparing.{with_jumps, jumping, operand_then, Leads, leaving, Closes}
 use Rattle.minijinja_semantics.proofs.Runs.{append_nil}
-use Rattle.minijinja_code_expr.proofs.Adding.{set_between, adds_length, adds_then}
+use Rattle.minijinja_emitter.proofs.Adding.{set_between, adds_length, adds_then}
 
 -- two places that come to hold the same may be set in either order
 sets_swap : {X : Type 0} (xs : List X) (p q : ℕ) (x : X) → slice_set (slice_set xs p x) q x ≡ slice_set (slice_set xs q x) p x

@@ -12,11 +12,11 @@ use Rattle.minijinja_tree_expr.specs.declared.ast.CompareOp.{CompareOp as Compar
 use Rattle.minijinja_tree_expr.proofs.SpannedNodes.{compare_is}
 use Rattle.minijinja_semantics.specs.Code.{Instr, Load}
 use Rattle.minijinja_semantics.specs.Layout.{comparisons, expr}
-use Rattle.minijinja_code_expr.specs.internal.Leading.{Finishes}
-use Rattle.minijinja_code_expr.specs.internal.Making.{Made, Adds}
+use Rattle.minijinja_code_expr.specs.internal.Leading.{After, Finishes}
+use Rattle.minijinja_emitter.specs.internal.Making.{Made, Adds}
 use Rattle.minijinja_code_expr.specs.private.Comparing.{operand_then, after_one, ahead, Closes, Holds}
 use Rattle.minijinja_semantics.proofs.FoldedCode.{folded_none}
-use Rattle.minijinja_code_expr.proofs.Adding.{adds_as}
+use Rattle.minijinja_emitter.proofs.Adding.{adds_as}
 use Rattle.minijinja_code_expr.proofs.ChainCode.{leads_closes, adds_chain}
 use Rattle.minijinja_code_expr.proofs.ChainFolds.{no_constant}
 use Rattle.minijinja_code_expr.proofs.ChainTurns.{Turning, Turn, Answers, turn_fails, adds_folded}
@@ -50,25 +50,36 @@ module _ {V K C F : Type 0} (f : Functions C F) (c : V → C) where
   closes_chain e (x ∷ xs) h none k = adds_as (sym (folded_none _ none)) (adds_chain (expr f e) (expr f (expr_tree c x.expr)) (comparisons f (compare_op x.op) (comparisons_of c xs)) k)
 
   module _ {old m : Made C} {e : Expr C} {xs : List (Comparison V K)} {start n : ℕ} {ps : List ℕ} {held : Option ℕ} (t : Turning f c old e xs start n m ps held) where
+    -- a chain of which all comparisons hold is true
+    pub end_true : length xs ≤ n → is_some held ≡ true → (a : Made C) → After (expr f e) start a old → fold f (compare e (comparisons_of c xs)) ≡ Some (f.of_bool true)
+    unfolding if_some fold_chain
+    end_true past some a r =
+        let u = t.underway a r in
+        let v = is_known m.code held t.value t.holds some in
+        u.folds ∙ ap (λ k. if_some k (λ v. fold_chain f v (comparisons_of c (drop n xs)))) v.1 ∙ at_drop_all (λ ys. fold_chain f v.0 (comparisons_of c ys)) xs n past
+
+    -- and one with an operand that is not known folds to nothing
+    pub end_unknown : is_some held ≡ false → (a : Made C) → After (expr f e) start a old → fold f (compare e (comparisons_of c xs)) ≡ None
+    unfolding if_some
+    end_unknown none a r =
+        let u = t.underway a r in
+        u.folds ∙ ap (λ k. if_some k (λ v. fold_chain f v (comparisons_of c (drop n xs)))) (not_known m.code held t.value t.holds none)
+
     -- all comparisons hold
     end_holds : {d : Made C} → length xs ≤ n → is_some held ≡ true → d ≡ record m { code = take start m.code ++ Load (f.of_bool true) ∷ [] } → Finishes f (compare e (comparisons_of c xs)) start old d
-    unfolding if_some fold_chain
     end_holds past some put a r =
         let u = t.underway a r in
         let v = is_known m.code held t.value t.holds some in
         let back = u.back v.0 v.1 in
-        adds_folded f (compare e (comparisons_of c xs)) (f.of_bool true) start back.0
-        (u.folds ∙ ap (λ k. if_some k (λ v. fold_chain f v (comparisons_of c (drop n xs)))) v.1 ∙ at_drop_all (λ ys. fold_chain f v.0 (comparisons_of c ys)) xs n past)
-        r.at back.1 put
+        adds_folded f (compare e (comparisons_of c xs)) (f.of_bool true) start back.0 (end_true past some a r) r.at back.1 put
 
     -- the chain does not fold
     end_closes : {d : Made C} {ys : List (Comparison V K)} {qs : List ℕ} → IsChain (comparisons_of c xs) → n ≡ length xs → is_some held ≡ false → ys ≡ xs → qs ≡ ps → Closes m qs (ahead f c ys (length ys)) d → Finishes f (compare e (comparisons_of c xs)) start old d
-    unfolding if_some
     end_closes {d} {ys} {qs} chain all none same jumps k a r =
         let u = t.underway a r in
         let last : Closes m ps (ahead f c xs n) d =
         subst (λ j. Closes m ps (ahead f c xs j) d) (sym all) (subst (λ rs. Closes m rs (ahead f c xs (length xs)) d) jumps (subst (λ zs. Closes m qs (ahead f c zs (length zs)) d) same k)) in
-        closes_chain e xs chain (u.folds ∙ ap (λ k. if_some k (λ v. fold_chain f v (comparisons_of c (drop n xs)))) (not_known m.code held t.value t.holds none))
+        closes_chain e xs chain (end_unknown none a r)
         (leads_closes u.leads last)
 
   module _ (q : Compare V K) where

@@ -11,11 +11,11 @@ use Rattle.minijinja_tree_expr.proofs.Chains.{chain-holds, chain-fails, chain-fa
 use Rattle.minijinja_semantics.specs.Code.{Instr, Load}
 use Rattle.minijinja_semantics.specs.Layout.{expr}
 use Rattle.minijinja_semantics.specs.Pieces.{one}
-use Rattle.minijinja_code_expr.specs.internal.Making.{Made, here_of, followed, capped, loaded_by, alone, between, Adds}
+use Rattle.minijinja_emitter.specs.internal.Making.{Made, here_of, followed, capped, loaded_by, alone, between, Adds}
 use Rattle.minijinja_code_expr.specs.private.Comparing.{Holds, known}
 use Rattle.minijinja_semantics.proofs.FoldedCode.{folded_code}
 use Rattle.minijinja_semantics.proofs.Runs.{append_nil}
-use Rattle.minijinja_code_expr.proofs.Adding.{adds_as, between_added}
+use Rattle.minijinja_emitter.proofs.Adding.{adds_as, between_added}
 use Rattle.minijinja_code_expr.proofs.Alone.{fold_alone}
 
 get_before : {X : Type 0} (xs ys : List X) (p : ℕ) (x : X) → slice_get xs p ≡ Some x → slice_get (xs ++ ys) p ≡ Some x

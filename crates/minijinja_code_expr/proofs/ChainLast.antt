@@ -7,8 +7,8 @@ use Rattle.minijinja_tree_expr.specs.declared.ast.CompareOp.{CompareOp as Compar
 use Rattle.minijinja_semantics.specs.Layout.{comparison}
 use Rattle.minijinja_semantics.specs.Pieces.{plain, leading_to}
 use Rattle.minijinja_code_expr.specs.private.Comparing.{after_two, ahead}
-use Rattle.minijinja_code_expr.specs.internal.Making.{Made, Adds}
-use Rattle.minijinja_code_expr.proofs.Adding.{adds_nothing}
+use Rattle.minijinja_emitter.specs.internal.Making.{Made, Adds}
+use Rattle.minijinja_emitter.proofs.Adding.{adds_nothing}
 
 module _ {V K C F : Type 0} (f : Functions C F) (c : V → C) where
   only_left : (x : Comparison V K) (xs : List (Comparison V K)) (y : Comparison V K) → slice_get (x ∷ xs) (length xs) ≡ Some y → after_two f (comparisons_of c (drop (length xs) (x ∷ xs))) ≡ plain (comparison (compare_op y.op))

@@ -14,10 +14,10 @@ use Rattle.minijinja_semantics.specs.Code.{Instr, Load, CompareAndPreserve}
 use Rattle.minijinja_semantics.specs.Layout.{Failing, and_then, expr, comparisons}
 use Rattle.minijinja_semantics.specs.Pieces.{Here, one, ◌▸◌}
 use Rattle.minijinja_code_expr.specs.internal.Leading.{After, Finishes}
-use Rattle.minijinja_code_expr.specs.internal.Making.{Made, here_of, followed, hole, capped, alone, between, Adds}
+use Rattle.minijinja_emitter.specs.internal.Making.{Made, here_of, followed, hole, capped, alone, between, Adds}
 use Rattle.minijinja_code_expr.specs.private.Comparing.{operand_then, after_one, after_two, ahead, Leads, Holds, known}
 use Rattle.minijinja_semantics.proofs.FoldedCode.{folded_code}
-use Rattle.minijinja_code_expr.proofs.Adding.{adds_as, adds_followed}
+use Rattle.minijinja_emitter.proofs.Adding.{adds_as, adds_followed}
 use Rattle.minijinja_code_expr.proofs.ChainCode.{leads_then, leads_operand, leads_comparison}
 use Rattle.minijinja_code_expr.proofs.ChainFolds.{held_from, held_before, added_alone, added_load, known_first, known_second, chain_true, chain_false, chain_none}
 
@@ -191,12 +191,17 @@ module _ {V K C F : Type 0} (f : Functions C F) (c : V → C) where
           };
         }
 
+    -- a comparison that does not hold makes the chain false
+    pub turn_false : {answer : Option Bool} → Answers answer → answer ≡ Some false → (a : Made C) → After (expr f e) start a old → fold f (compare e (comparisons_of c xs)) ≡ Some (f.of_bool false)
+    turn_false {answer} answers h a r =
+        let o : CompareOp = compare_op x.op in
+        let k : Some false ≡ known f o t.before.value right = sym h ∙ answers t.before.value turn_held in
+        turn_folds a r ∙ chain_false f o (expr_tree c x.expr) rest t.before.value right turn_right k
+
     -- one that does not hold ends the chain
     pub turn_fails : {n : Made C} {answer : Option Bool} → Answers answer → answer ≡ Some false → n ≡ record m2 { code = take start m2.code ++ Load (f.of_bool false) ∷ [] } → Finishes f (compare e (comparisons_of c xs)) start old n
     turn_fails {n} {answer} answers h put a r =
         let o : CompareOp = compare_op x.op in
         let k : Some false ≡ known f o t.before.value right = sym h ∙ answers t.before.value turn_held in
         let back = turn_back false k a r in
-        adds_folded f (compare e (comparisons_of c xs)) (f.of_bool false) start back.0
-        (turn_folds a r ∙ chain_false f o (expr_tree c x.expr) rest t.before.value right turn_right k)
-        r.at back.1 put
+        adds_folded f (compare e (comparisons_of c xs)) (f.of_bool false) start back.0 (turn_false answers h a r) r.at back.1 put

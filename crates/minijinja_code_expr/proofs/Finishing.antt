@@ -14,10 +14,11 @@ use Rattle.minijinja_semantics.specs.Events.{ApplyFilter, PerformTest, Lookup, G
 use Rattle.minijinja_semantics.specs.Layout.{expr, base, operand, optional, items, each, paired, argument_count, call_of, apply_filter, perform_test}
 use Rattle.minijinja_semantics.specs.Pieces.{Piece, nothing, one, ◌▸◌, noted, id_of}
 use Rattle.minijinja_code_expr.specs.internal.Calling.{captured}
-use Rattle.minijinja_code_expr.specs.internal.Making.{Made, given, Adds, AddsIf}
+use Rattle.minijinja_emitter.specs.internal.Making.{Made, Adds}
+use Rattle.minijinja_code_expr.specs.internal.Parts.{given, AddsIf}
 use Rattle.minijinja_code_expr.specs.internal.Leading.{After, called_on, leading, test_in, piece_of, Finishes, FinishesIf, before_right}
 use Rattle.minijinja_code_expr.specs.private.Operating.{EndsBinary}
-use Rattle.minijinja_code_expr.proofs.Adding.{adds_then, adds_as}
+use Rattle.minijinja_emitter.proofs.Adding.{adds_then, adds_as}
 use Rattle.minijinja_semantics.proofs.FoldedCode.{folded_code, folded_none}
 
 chosen : {C : Type 0} (b : Bool) (a e : Expr C) (y x : Text) → (if b then block y else method a y) ≡ method e x → a ≡ e

@@ -8,8 +8,8 @@ use Rattle.minijinja_tree_expr.specs.declared.ast.Expr.{Expr}
 use Rattle.minijinja_semantics.specs.Layout as layout
 use Rattle.minijinja_semantics.specs.Layout.{items, each, paired}
 use Rattle.minijinja_semantics.specs.Pieces.{Piece, nothing, ◌▸◌}
-use Rattle.minijinja_code_expr.specs.internal.Making.{Made, Adds}
-use Rattle.minijinja_code_expr.proofs.Adding.{adds_as, adds_then, adds_nothing}
+use Rattle.minijinja_emitter.specs.internal.Making.{Made, Adds}
+use Rattle.minijinja_emitter.proofs.Adding.{adds_as, adds_then, adds_nothing}
 
 pub count_length : {V K C : Type 0} (c : V → C) (xs : List (Expr V K)) → expr_count (exprs_of c xs) ≡ length xs
 count_length c [] = refl

@@ -1,5 +1,11 @@
-pub mod Adding
 pub mod Alone
+pub mod NodeMarking
+pub mod NodeArms
+pub mod PendingMarks
+pub mod ItemMarks
+pub mod CycleMarks
+pub mod ChainMarking
+pub mod LoadedMarks
 pub mod CallArguments
 pub mod Arms
 pub mod Branching
@@ -9,11 +15,9 @@ pub mod ChainEnds
 pub mod ChainFolds
 pub mod ChainLast
 pub mod ChainTurns
-pub mod Constants
 pub mod FilterChains
 pub mod Finishing
 pub mod LiteralNodes
-pub mod FoundNames
 pub mod InOrder
 pub mod OperatorCode
 pub mod Outputs
@@ -21,3 +25,7 @@ pub mod Results
 pub mod PendingNodes
 pub mod CallerArguments
 pub mod CallerStarts
+pub mod CallMarks
+pub mod FilterMarks
+pub mod FoldedMarks
+pub mod ArgumentMarks

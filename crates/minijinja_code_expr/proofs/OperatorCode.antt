@@ -2,7 +2,7 @@
 use Rattle.std.proofs.Common.{◌≡◌, ℕ, ◌+◌, ◌-◌, ◌^◌, min, ◌<◌, ◌≤◌, List, [], ◌∷◌, ◌++◌, length, map, take, drop, Option, Some, None, refl, sym, ap, ◌∙◌, arith, append_assoc, length-append, subst}
 use Rattle.std.specs.Option.{option_map}
 use Rattle.std.specs.Prelude.{Bool, true, false, is_some, slice_set}
-use Rattle.std.proofs.lemmas.List.{take-map, take-take, map-append, take-append-le}
+use Rattle.std.proofs.lemmas.List.{take-take, take-append-drop}
 use Rattle.std.proofs.Math.Seq.{take-append_seam, drop-append_seam}
 use Rattle.minijinja_value.specs.Values.{Functions}
 use Rattle.minijinja_tree.specs.BinOps.{BinOp, concat}
@@ -14,24 +14,15 @@ use Rattle.minijinja_semantics.specs.Code.{Instr, Load}
 use Rattle.minijinja_semantics.specs.Layout.{expr, unary_instr, operation}
 use Rattle.minijinja_semantics.specs.Pieces.{behind, Piece, nothing, one, ◌▸◌, skipping}
 use Rattle.minijinja_code_expr.specs.internal.Leading.{After, Finishes, FinishesIf, before_right}
-use Rattle.minijinja_code_expr.specs.internal.Making.{Made, here_of, hole, capped, reach, Adds, alone, between, is_lazy, jump_of, operator_of}
-use Rattle.minijinja_code_expr.specs.private.Constants.{Joins, TakesConstants, are_both}
+use Rattle.minijinja_emitter.specs.internal.Making.{Made, here_of, hole, capped, reach, Adds, alone, between, with_last}
+use Rattle.minijinja_code_expr.specs.internal.Parts.{is_lazy, jump_of, operator_of}
+use Rattle.minijinja_emitter.specs.internal.Constants.{Joins, TakesConstants, are_both}
 use Rattle.minijinja_code_expr.specs.private.Operating.{Sides, EndsBinary, known_between}
+use Rattle.minijinja_code_expr.specs.private.OperatorMarks.{Folds}
 use Rattle.minijinja_semantics.proofs.FoldedCode.{folded_some, folded_none, folded_code}
 use Rattle.minijinja_semantics.proofs.Runs.{append_nil}
-use Rattle.minijinja_code_expr.proofs.Adding.{adds_nothing, adds_then, adds_as, adds_skipping, between_added}
+use Rattle.minijinja_emitter.proofs.Adding.{adds_nothing, adds_then, adds_as, adds_skipping, between_added}
 use Rattle.minijinja_code_expr.proofs.Alone.{fold_alone}
-
--- the last of a list stays, and what stands before a place
-pub last_kept : {X Y : Type 0} (h : X → Y) (n : ℕ) (old front cut new : List X) (x : X) → old ≡ front ++ x ∷ [] → cut ≡ take n front → new ≡ cut ++ x ∷ [] → n < length (map h old) → map h new ≡ take n (map h old) ++ drop (length (map h old) - 1) (map h old)
-last_kept h n old front cut new x eo ec en within =
-    let ys = map h front in
-    let all : map h old ≡ ys ++ h x ∷ [] = ap (map h) eo ∙ map-append h front (x ∷ []) in
-    let end : length (map h old) ≡ length ys + 1 = ap length all ∙ length-append ys (h x ∷ []) in
-    let place : length (map h old) - 1 ≡ length ys = omega arith in
-    let first : take n (map h old) ≡ take n ys = ap (take n) all ∙ take-append-le n ys (h x ∷ []) (omega arith) in
-    let last : drop (length (map h old) - 1) (map h old) ≡ h x ∷ [] = ap (λ k. drop k (map h old)) place ∙ ap (λ l. drop (length ys) l) all ∙ drop-append_seam ys (h x ∷ []) in
-    ap (map h) (en ∙ ap (λ l. l ++ x ∷ []) ec) ∙ map-append h (take n front) (x ∷ []) ∙ ap (λ l. l ++ h x ∷ []) (sym (take-map h n front) ∙ sym first) ∙ ap (λ l. take n (map h old) ++ l) (sym last)
 
 -- a value that comes of another one
 both_are : {X Y : Type 0} {k : X → Option Y} {y : Y} (o : Option X) → if_some o k ≡ Some y → (x : X) × (o ≡ Some x) × (k x ≡ Some y)
@@ -131,11 +122,11 @@ module _ {C F : Type 0} (f : Functions C F) where
   unfolding fold
   unary_value o e = refl
 
-  unary_of : (o : UnaryOp) (e : Expr C) {x : C} → fold f e ≡ Some x → fold f (unary o e) ≡ fold_unary f o x
+  pub unary_of : (o : UnaryOp) (e : Expr C) {x : C} → fold f e ≡ Some x → fold f (unary o e) ≡ fold_unary f o x
   unfolding if_some
   unary_of o e {x} k = unary_value o e ∙ ap (λ r. if_some r (λ v. fold_unary f o v)) k
 
-  unary_of_none : (o : UnaryOp) (e : Expr C) → fold f e ≡ None → fold f (unary o e) ≡ None
+  pub unary_of_none : (o : UnaryOp) (e : Expr C) → fold f e ≡ None → fold f (unary o e) ≡ None
   unfolding if_some
   unary_of_none o e k = unary_value o e ∙ ap (λ r. if_some r (λ v. fold_unary f o v)) k
 
@@ -177,11 +168,11 @@ module _ {C F : Type 0} (f : Functions C F) where
   unfolding fold
   binary_value o p q = refl
 
-  binary_of : (o : BinOp) (p q : Expr C) {x y : C} → fold f p ≡ Some x → fold f q ≡ Some y → fold f (binary o p q) ≡ fold_binary f (working o) x y
+  pub binary_of : (o : BinOp) (p q : Expr C) {x y : C} → fold f p ≡ Some x → fold f q ≡ Some y → fold f (binary o p q) ≡ fold_binary f (working o) x y
   unfolding if_some
   binary_of o p q {x} {y} ex ey = binary_value o p q ∙ ap (λ r. if_some r (λ x. if_some (fold f q) (λ y. fold_binary f (working o) x y))) ex ∙ ap (λ r. if_some r (λ y. fold_binary f (working o) x y)) ey
 
-  binary_left_open : (o : BinOp) (p q : Expr C) → fold f p ≡ None → fold f (binary o p q) ≡ None
+  pub binary_left_open : (o : BinOp) (p q : Expr C) → fold f p ≡ None → fold f (binary o p q) ≡ None
   unfolding if_some
   binary_left_open o p q ex = binary_value o p q ∙ ap (λ r. if_some r (λ x. if_some (fold f q) (λ y. fold_binary f (working o) x y))) ex
 
@@ -190,7 +181,7 @@ module _ {C F : Type 0} (f : Functions C F) where
   none_of_none None = refl
   none_of_none (Some x) = refl
 
-  binary_right_open : (o : BinOp) (p q : Expr C) → fold f q ≡ None → fold f (binary o p q) ≡ None
+  pub binary_right_open : (o : BinOp) (p q : Expr C) → fold f q ≡ None → fold f (binary o p q) ≡ None
   unfolding if_some
   binary_right_open o p q ey = binary_value o p q ∙ ap (λ r. if_some (fold f p) (λ x. if_some r (λ y. fold_binary f (working o) x y))) ey ∙ none_of_none (fold f p)
 
@@ -245,12 +236,17 @@ module _ {C F : Type 0} (f : Functions C F) where
       adds_as (sym (folded_none _ ef ∙ ap (λ r. expr f p ▸ r) (lazy_operation w (expr f q) e))) (adds_then s.left_added skipped)
 
   -- the left one of two constants stays
+  left_loaded : (o : BinOp) (p q : Expr C) {x : C} {start middle : ℕ} {a b : Made C} → Sides f o p q start middle a b → fold f p ≡ Some x → take middle b.code ≡ a.code ++ Load x ∷ []
+  left_loaded o p q {x} {start} {middle} {a} {b} s ex =
+      let more : List (Instr C) = map capped ((before_right {C = C} (working o)).code (here_of s.left)) ++ map capped ((expr f q).code (here_of s.room)) in
+      ap (λ l. take middle l) (both_sides p q s) ∙ ap (λ n. take n (s.left.code ++ more)) s.at ∙ take-append_seam s.left.code more ∙ s.left_added.code ∙ ap (λ (r : Piece C). a.code ++ map capped (r.code (here_of a))) (folded_code f p x ex)
+
+  pub left_size : (o : BinOp) (p q : Expr C) {x : C} {start middle : ℕ} {a b : Made C} → Sides f o p q start middle a b → fold f p ≡ Some x → length (take middle b.code) ≡ start + 1
+  left_size o p q {x} {a = a} s ex = omega (arith, ap length (left_loaded o p q s ex), length-append a.code (Load x ∷ []), s.from)
+
   pub left_stays : (o : BinOp) (p q : Expr C) {x y : C} {start middle : ℕ} {a b c : Made C} → Sides f o p q start middle a b → fold f p ≡ Some x → fold f q ≡ Some y → fold_binary f (working o) x y ≡ Some x → c ≡ record b { code = take middle b.code } → Adds a c (expr f (binary o p q))
   left_stays o p q {x} {y} {start} {middle} {a} {b} s ex ey e ec =
-      let more : List (Instr C) = map capped ((before_right {C = C} (working o)).code (here_of s.left)) ++ map capped ((expr f q).code (here_of s.room)) in
-      let left : take middle b.code ≡ a.code ++ Load x ∷ [] =
-      ap (λ l. take middle l) (both_sides p q s) ∙ ap (λ n. take n (s.left.code ++ more)) s.at ∙ take-append_seam s.left.code more ∙ s.left_added.code ∙ ap (λ (r : Piece C). a.code ++ map capped (r.code (here_of a))) (folded_code f p x ex) in
-      adds_as (sym (folded_some _ (binary_of o p q ex ey ∙ e))) (loads_instead x (take middle b.code) (sides_nameless p q s ex ey) left ec)
+      adds_as (sym (folded_some _ (binary_of o p q ex ey ∙ e))) (loads_instead x (take middle b.code) (sides_nameless p q s ex ey) (left_loaded o p q s ex) ec)
 
   -- and the right one
   pub right_stays : (o : BinOp) (p q : Expr C) {x y : C} {start middle : ℕ} {a b c : Made C} → Sides f o p q start middle a b → fold f p ≡ Some x → fold f q ≡ Some y → fold_binary f (working o) x y ≡ Some y → c ≡ record b { code = take start b.code ++ drop (length b.code - 1) b.code } → Adds a c (expr f (binary o p q))
@@ -265,7 +261,7 @@ module _ {C F : Type 0} (f : Functions C F) where
   starts_within p q {a = a} s e = omega (arith, lazy_within p q e s, s.from, s.at, ap length s.left_added.code, length-append a.code (map capped ((expr f p).code (here_of a))))
 
   -- what an operand folds to, known by what stands there
-  operand_given : (e : Expr C) (r : Option C) {place end : ℕ} {a b : Made C} → IsWhole e → After (expr f e) place a b → end ≡ length b.code → (end ≤ length b.code → r ≡ alone (between place end b.code)) → fold f e ≡ r
+  pub operand_given : (e : Expr C) (r : Option C) {place end : ℕ} {a b : Made C} → IsWhole e → After (expr f e) place a b → end ≡ length b.code → (end ≤ length b.code → r ≡ alone (between place end b.code)) → fold f e ≡ r
   operand_given e r {place} {end} {b = b} w s ee k =
       let within : end ≤ length b.code = omega arith in
       sym (operand_alone e w s) ∙ ap (λ n. alone (between place n b.code)) (sym ee) ∙ sym (k within)
@@ -299,7 +295,7 @@ module _ {C F : Type 0} (f : Functions C F) where
   pub strict_unknown : (o : BinOp) (old new : Made C) {start middle : ℕ} → is_lazy (working o) ≡ false → (middle ≤ length old.code → None ≡ known_between f (working o) start middle old.code) → Adds old new (one (operator_of (working o))) → EndsBinary f o start middle old new
   strict_unknown o old new e k t p q begun wp wq s = binary_added o p q e s (sym (k (middle_within p q s) ∙ strict_known o p q e wp wq s)) t
 
-  not_both : (w : Working) (x y : Option C) → are_both x y ≡ false → ◌≡◌ {A = Option C} None (if_some x (λ a. if_some y (λ b. fold_binary f w a b)))
+  pub not_both : (w : Working) (x y : Option C) → are_both x y ≡ false → ◌≡◌ {A = Option C} None (if_some x (λ a. if_some y (λ b. fold_binary f w a b)))
   unfolding if_some
   not_both w None y e = refl
   not_both w (Some a) None e = refl
@@ -324,7 +320,7 @@ module _ {C F : Type 0} (f : Functions C F) where
   unfolding fold
   constant_value k = refl
 
-  joined_value : (e : Expr C) (k : C) {x : C} → fold f e ≡ Some x → fold f (binary concat e (constant k)) ≡ Some (f.concat x k)
+  pub joined_value : (e : Expr C) (k : C) {x : C} → fold f e ≡ Some x → fold f (binary concat e (constant k)) ≡ Some (f.concat x k)
   unfolding compute
   joined_value e k ex = binary_of concat e (constant k) ex (constant_value k)
 
@@ -341,10 +337,15 @@ module _ {C F : Type 0} (f : Functions C F) where
   joins_finish old new k place true j e w = λ start s. joined_with e k s (sym (operand_alone e w s) ∙ sym j.1) j.2
   joins_finish old new k place false j e w = j.1
 
-  left_given : {o : BinOp} (p q : Expr C) (r : Option C) {start middle : ℕ} {a b : Made C} → IsWhole p → Sides f o p q start middle a b → (middle ≤ length b.code → r ≡ alone (between start middle b.code)) → fold f p ≡ r
+  -- where it was joined, the whole folds
+  pub joins_folds : (old new : Made C) (k : C) (place : ℕ) (joined : Bool) → joined ≡ true → Joins f place k joined old new → (e : Expr C) → IsWhole e → Folds f (binary concat e (constant k)) place old
+  joins_folds old new k place true is j e w = λ start s. (f.concat j.0 k, joined_value e k (sym (operand_alone e w s) ∙ sym j.1))
+  joins_folds old new k place false is j e w = absurd (cc)
+
+  pub left_given : {o : BinOp} (p q : Expr C) (r : Option C) {start middle : ℕ} {a b : Made C} → IsWhole p → Sides f o p q start middle a b → (middle ≤ length b.code → r ≡ alone (between start middle b.code)) → fold f p ≡ r
   left_given p q r w s k = sym (k (middle_within p q s) ∙ left_alone p q w s)
 
-  right_given : {o : BinOp} (p q : Expr C) (r : Option C) {start middle right end : ℕ} {a b : Made C} → is_lazy (working o) ≡ true → IsWhole q → Sides f o p q start middle a b → end ≡ length b.code → end < 2 ^ 64 → right ≡ min (middle + 1) 18446744073709551615 → (end ≤ length b.code → r ≡ alone (between right end b.code)) → fold f q ≡ r
+  pub right_given : {o : BinOp} (p q : Expr C) (r : Option C) {start middle right end : ℕ} {a b : Made C} → is_lazy (working o) ≡ true → IsWhole q → Sides f o p q start middle a b → end ≡ length b.code → end < 2 ^ 64 → right ≡ min (middle + 1) 18446744073709551615 → (end ≤ length b.code → r ≡ alone (between right end b.code)) → fold f q ≡ r
   right_given p q r {start} {middle} {right} {end} {b = b} e w s ee fits er k =
       let within : end ≤ length b.code = omega arith in
       let room : right ≡ length s.room.code = omega (arith, lazy_right p q e s, lazy_within p q e s) in
@@ -355,10 +356,20 @@ module _ {C F : Type 0} (f : Functions C F) where
   gives_right_on o old new c (Some y) {x} e ee fits er kx ky some on en p q begun wp wq s =
       right_stays o p q s (left_given p q (Some x) wp s kx) (right_given p q (Some (c y)) e wq s ee fits er ky) (on (c y)) (en (starts_within p q s e))
 
-  pub gives_left_on : (o : BinOp) (old new : Made C) {Y : Type 0} (c : Y → C) (r : Option Y) {x : C} {start middle right end : ℕ} → is_lazy (working o) ≡ true → end ≡ length old.code → end < 2 ^ 64 → right ≡ min (middle + 1) 18446744073709551615 → (middle ≤ length old.code → Some x ≡ alone (between start middle old.code)) → (end ≤ length old.code → option_map c r ≡ alone (between right end old.code)) → is_some r ≡ true → ((y : C) → fold_binary f (working o) x y ≡ Some x) → new ≡ record old { code = take middle old.code } → EndsBinary f o start middle old new
-  gives_left_on o old new c None e ee fits er kx ky some on en p q begun wp wq s = absurd (cc)
-  gives_left_on o old new c (Some y) {x} e ee fits er kx ky some on en p q begun wp wq s =
-      left_stays o p q s (left_given p q (Some x) wp s kx) (right_given p q (Some (c y)) e wq s ee fits er ky) (on (c y)) en
+  -- the last instruction after those before a place is all of them, if that is where it stands
+  last_stays : (n : ℕ) (code : List (Instr C)) → length code ≡ n + 1 → with_last n code ≡ code
+  last_stays n code e =
+      let place : length code - 1 ≡ n = omega arith in
+      ap (λ k. take n code ++ drop k code) place ∙ take-append-drop n code
+
+  pub gives_left_on : (o : BinOp) (old cut new : Made C) {Y : Type 0} (c : Y → C) (r : Option Y) {x : C} {start middle right end : ℕ} → is_lazy (working o) ≡ true → end ≡ length old.code → end < 2 ^ 64 → right ≡ min (middle + 1) 18446744073709551615 → (middle ≤ length old.code → Some x ≡ alone (between start middle old.code)) → (end ≤ length old.code → option_map c r ≡ alone (between right end old.code)) → is_some r ≡ true → ((y : C) → fold_binary f (working o) x y ≡ Some x) → cut ≡ record old { code = take middle old.code } → (start < length cut.code → new ≡ record cut { code = with_last start cut.code }) → EndsBinary f o start middle old new
+  gives_left_on o old cut new c None e ee fits er kx ky some on ec en p q begun wp wq s = absurd (cc)
+  gives_left_on o old cut new c (Some y) {x} {start} {middle} e ee fits er kx ky some on ec en p q begun wp wq s =
+      let ex = left_given p q (Some x) wp s kx in
+      let size : length cut.code ≡ start + 1 = ap (λ (m : Made C). length m.code) ec ∙ left_size o p q s ex in
+      let kept : new ≡ record old { code = take middle old.code } =
+      en (omega arith) ∙ ap (λ l. record cut { code = l }) (last_stays start cut.code size) ∙ ec in
+      left_stays o p q s ex (right_given p q (Some (c y)) e wq s ee fits er ky) (on (c y)) kept
 
   pub lazy_left_unknown : (o : BinOp) (old new : Made C) {start middle : ℕ} → is_lazy (working o) ≡ true → (middle ≤ length old.code → None ≡ alone (between start middle old.code)) → new ≡ record old { code = slice_set old.code middle (jump_of (working o) (reach (length old.code))) } → EndsBinary f o start middle old new
   lazy_left_unknown o old new e k en p q begun wp wq s = lazy_added o p q e s (binary_left_open o p q (left_given p q None wp s k)) en

@@ -3,6 +3,7 @@ use Rattle.std.proofs.Common.{◌≡◌, ◌≤◌, List, [], ◌∷◌, length,
 use Rattle.std.specs.Prelude.{Bool, true, false, codes, bytes_eq}
 use Rattle.minijinja_syntax.specs.Texts.{Text}
 use Rattle.minijinja_tree.specs.Erasure.{expr_tree, compare_tree, arg_tree, args_of}
+use Rattle.minijinja_tree.specs.SpannedErasure as node
 use Rattle.minijinja_tree.specs.Tree as tree
 use Rattle.minijinja_tree.specs.WellFormed.{IsWhole}
 use Rattle.minijinja_tree_expr.specs.declared.ast.CallArg.TheBlock as block
@@ -11,6 +12,8 @@ use Rattle.minijinja_tree_expr.specs.declared.ast.Expr.TheVariants as expr
 use Rattle.minijinja_tree_expr.specs.declared.ast.Expr.TheVariants.{Compare'}
 use Rattle.minijinja_semantics.specs.Calls.{Recursion, Plain, written_loop, written_super, written_function, written}
 use Rattle.minijinja_semantics.proofs.StatementSimulation.{WrittenWhole, written_whole}
+use Rattle.minijinja_code_expr.specs.declared.output.Output.{Output}
+use Rattle.minijinja_code_expr.specs.internal.Outputs.{ItemsAre}
 
 compare_plain : {V F C : Type 0} (c : V → C) (q : block.the_data-4 V F) → written (compare_tree c q) ≡ Plain
 compare_plain c (block.struct-Compare e k ops) = refl
@@ -62,3 +65,9 @@ pub one_written : {V F C : Type 0} (c : V → C) (x : Text) (a : block.the_data 
 one_written c x a [] h e n = absurd (omega (arith, h))
 one_written {V} {F} c x a (b ∷ []) h e n = ap (λ (d : block.the_data V F). written_function (codes "loop") (args_of c (d ∷ []))) e ∙ loop_written c x b n
 one_written c x a (b ∷ d ∷ rest) h e n = absurd (omega (arith, h))
+
+-- the items of a recursion are the only argument of a list
+pub items_of_one : {V F C : Type 0} (c : V → C) (o : Output V F) (a : block.the_data V F) (args : List (block.the_data V F)) → length args ≡ 1 → a ≡ get_or args 0 a → ItemsAre c o (node.args_of c (a ∷ [])) → ItemsAre c o (node.args_of c args)
+items_of_one c o a [] h e w = absurd (omega (arith, h))
+items_of_one {V} {F} c o a (b ∷ []) h e w = subst (λ (d : block.the_data V F). ItemsAre c o (node.args_of c (d ∷ []))) e w
+items_of_one c o a (b ∷ d ∷ rest) h e w = absurd (omega (arith, h))

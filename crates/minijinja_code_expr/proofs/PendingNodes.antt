@@ -9,10 +9,10 @@ use Rattle.minijinja_tree.specs.WellFormed.{IsWhole}
 use Rattle.minijinja_tree_expr.specs.declared.ast.Expr.{size-Expr}
 use Rattle.minijinja_semantics.specs.Layout.{expr}
 use Rattle.minijinja_semantics.specs.Pieces.{one}
-use Rattle.minijinja_code_expr.specs.internal.Making.{Made, Adds, hole}
+use Rattle.minijinja_emitter.specs.internal.Making.{Made, Adds, hole}
 use Rattle.minijinja_code_expr.specs.internal.Leading.{leading, piece_of, test_in, Ready, Finishes}
 use Rattle.minijinja_code_expr.specs.declared.pending.PendingNode.{PendingNode}
-use Rattle.minijinja_code_expr.proofs.Adding.{adds_as, adds_nothing}
+use Rattle.minijinja_emitter.proofs.Adding.{adds_as, adds_nothing}
 
 module _ {C F : Type 0} (f : Functions C F) where
   none_added : (m : Made C) (o : Option (Expr C)) → is_some o ≡ false → Adds m m (piece_of f o)
@@ -60,6 +60,10 @@ module _ {V K C F : Type 0} (f : Functions C F) (c : V → C) (old : Made C) (wh
   rest_less ws w now next finishes r =
       let k = subst (λ l. Rest l now) (reverse-append ws (w ∷ [])) r in
       k.4 next (finishes k.0 k.1)
+
+  -- its leading operand was added
+  pub rest_ready : (ws : List (PendingNode V K)) (w : PendingNode V K) (now : Made C) → Rest (reverse (ws ++ w ∷ [])) now → (start : Made C) × Ready f (expr_tree c w.node.now) w.place start now
+  rest_ready ws w now r = let k = subst (λ l. Rest l now) (reverse-append ws (w ∷ [])) r in (k.0, k.1)
 
   -- what is known of it
   pub rest_whole : (ws : List (PendingNode V K)) (w : PendingNode V K) (now : Made C) → Rest (reverse (ws ++ w ∷ [])) now → IsWhole (expr_tree c w.node.now)

@@ -3,5 +3,6 @@ pub mod Branching
 pub mod Callers
 pub mod Calling
 pub mod Leading
-pub mod Making
+pub mod NodeMarks
 pub mod Outputs
+pub mod Parts

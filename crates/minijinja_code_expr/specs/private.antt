@@ -1,6 +1,7 @@
 -- What the crate says of its own private functions.
 pub mod Comparing
+pub mod ChainMarks
 pub mod Filtering
-pub mod Constants
 pub mod Operating
+pub mod OperatorMarks
 pub mod PendingNodes

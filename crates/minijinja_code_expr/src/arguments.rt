@@ -3,17 +3,23 @@ ghost use Rattle.std.specs.Prelude.{◌≡◌, ◌+◌, ◌≤◌, ◌<◌, ◌^
 ghost use Rattle.minijinja_tree.specs.Erasure.{args_of};
 ghost use Rattle.minijinja_tree.specs.Folding.{constant_keywords, fold_keywords};
 ghost use Rattle.minijinja_tree.specs.WellFormed.{AreArguments, arg_count, most_arguments};
+ghost use Rattle.minijinja_tree.specs.SpannedErasure as node;
 ghost use Rattle.minijinja_semantics.specs.Layout as layout;
+ghost use Rattle.minijinja_semantics.specs.Marks as marks;
 ghost use Rattle.minijinja_semantics.specs.Layout.{batch_count, count_one, count_batch, count_positional, count_keyword, counted, list_batch, map_batch, map_count, merged, spreading};
 ghost use Rattle.minijinja_semantics.specs.Code.{Load};
 ghost use Rattle.minijinja_semantics.specs.Pieces.{one};
 ghost use Rattle.minijinja_code_expr.specs.internal.Callers.{AreCounts, arguments_end, end_count};
-ghost use Rattle.minijinja_code_expr.specs.internal.Making.{made_of, count_of, operands, given, Adds, AddsIf};
+ghost use Rattle.minijinja_code_expr.specs.internal.NodeMarks as node_marks;
+ghost use Rattle.minijinja_code_expr.specs.internal.NodeMarks.{added_if, given_marks};
+ghost use Rattle.minijinja_emitter.specs.internal.AtEmitter.{made_of, margin_of};
+ghost use Rattle.minijinja_emitter.specs.internal.Making.{Adds};
+ghost use Rattle.minijinja_code_expr.specs.internal.Parts.{count_of, operands, given, AddsIf};
 
-use crate::emit::Emitter;
 use crate::expr::expression;
 use crate::literals::load;
-use crate::memory::{OutOfMemory, memory_alone};
+use minijinja_emitter::emit::Emitter;
+use minijinja_emitter::memory::{OutOfMemory, memory_alone};
 use minijinja_instructions::instructions::Instruction;
 use minijinja_tree::ast::CallArg;
 use minijinja_tree::constants::constant_kwargs;
@@ -79,6 +85,8 @@ pub(crate) fn arguments<'s, V: TemplateValue>(
         (λ n. n ≡ layout.argument_count (args_of V.contents args.now) front) }
     ensures added { OnOk result (Adds (made_of V.contents code.old) (made_of V.contents code.new)
         (given V.functions (args_of V.contents args.now) front)) }
+    ensures marked { OnOk result (margin_of code.new ≡ given_marks V.functions
+        (node.args_of V.contents args.now) front (margin_of code.old)) }
 {
     let count = positional_arguments(code, args, front)?;
     if load_keywords(code, args)? {
@@ -110,6 +118,8 @@ pub(crate) fn up_to_caller<'s, V: TemplateValue>(
     ensures counts { IfOk result (AreCounts (args_of V.contents args.now) front) }
     ensures added { OnOk result (Adds (made_of V.contents code.old) (made_of V.contents code.new)
         (layout.up_to_caller V.functions (args_of V.contents args.now) front)) }
+    ensures marked { OnOk result (margin_of code.new ≡ node_marks.up_to_caller V.functions
+        (node.args_of V.contents args.now) front (margin_of code.old)) }
 {
     let positional = positional_arguments(code, args, front)?;
     let keyword = keyword_pairs(code, args)?;
@@ -134,6 +144,8 @@ pub(crate) fn end_arguments<'s, V: TemplateValue>(
     ensures count { IfOk result (λ n. n ≡ end_count (args_of V.contents args.now) front) }
     ensures added { OnOk result (Adds (made_of V.contents code.old) (made_of V.contents code.new)
         (arguments_end (args_of V.contents args.now) front)) }
+    ensures marked { OnOk result (margin_of code.new ≡ node_marks.behind_caller
+        (node.args_of V.contents args.now) front (margin_of code.old)) }
 {
     let map = merge(code, counts.keyword)?;
     spread(code, counts.positional, map)
@@ -153,6 +165,8 @@ fn positional_arguments<'s, V: TemplateValue>(
         (λ c. count_of c ≡ count_positional (args_of V.contents args.now) (operands front)) }
     ensures added { OnOk result (Adds (made_of V.contents code.old) (made_of V.contents code.new)
         (layout.positional V.functions (args_of V.contents args.now) front)) }
+    ensures marked { OnOk result (margin_of code.new ≡ marks.positional V.functions
+        (node.args_of V.contents args.now) front (margin_of code.old)) }
 {
     let mut count = Count {
         batches: 0,
@@ -180,9 +194,11 @@ fn load_keywords<V: TemplateValue>(
     code: &mut Emitter<'_, V>,
     args: &[CallArg<'_, V>],
 ) -> Result<bool, OutOfMemory>
-    ensures { IfOk result (λ loaded. AddsIf loaded (fold_keywords V.functions
+    ensures added { IfOk result (λ loaded. AddsIf loaded (fold_keywords V.functions
         (constant_keywords V.functions (args_of V.contents args.now))) (made_of V.contents code.old)
         (made_of V.contents code.new)) }
+    ensures marked { IfOk result
+        (λ loaded. margin_of code.new ≡ added_if loaded (margin_of code.old)) }
 {
     match memory_alone(constant_kwargs(code.alloc(), args))? {
         Some(map) => load(code, map),
@@ -202,6 +218,8 @@ fn keyword_pairs<'s, V: TemplateValue>(
         (λ c. count_of c ≡ count_keyword (args_of V.contents args.now) (operands 0)) }
     ensures added { OnOk result (Adds (made_of V.contents code.old) (made_of V.contents code.new)
         (layout.keyword V.functions (args_of V.contents args.now) 0)) }
+    ensures marked { OnOk result (margin_of code.new ≡ marks.keyword V.functions
+        (node.args_of V.contents args.now) 0 (margin_of code.old)) }
 {
     let mut count = Count {
         batches: 0,
@@ -227,8 +245,9 @@ fn keyword_pairs<'s, V: TemplateValue>(
 
 /// Loads the name of a keyword argument.
 fn load_name<V: TemplateValue>(code: &mut Emitter<'_, V>, name: &str) -> Result<(), OutOfMemory>
-    ensures { OnOk result (Adds (made_of V.contents code.old) (made_of V.contents code.new)
+    ensures added { OnOk result (Adds (made_of V.contents code.old) (made_of V.contents code.new)
         (one (Load (V.functions.of_str name.now)))) }
+    ensures marked { OnOk result (margin_of code.new ≡ marks.here 1 (margin_of code.old)) }
 {
     let name = V::of_str(code.alloc(), name)?;
     code.add(Instruction::LoadConst(name))
@@ -242,6 +261,8 @@ fn merge<V: TemplateValue>(code: &mut Emitter<'_, V>, count: Count) -> Result<us
         (λ n. n ≡ map_count (count_of count).batches (count_of count).waiting) }
     ensures added { OnOk result (Adds (made_of V.contents code.old) (made_of V.contents code.new)
         (merged (count_of count).batches (count_of count).waiting)) }
+    ensures marked { OnOk result (margin_of code.new ≡ marks.merged (count_of count).batches
+        (count_of count).waiting (margin_of code.old)) }
 {
     close_map(code, count.waiting)?;
     if count.batches == 0 {
@@ -265,6 +286,8 @@ fn spread<V: TemplateValue>(
         (λ n. n ≡ counted (count_of count).batches ((count_of count).waiting + more)) }
     ensures added { OnOk result (Adds (made_of V.contents code.old) (made_of V.contents code.new)
         (spreading (count_of count).batches ((count_of count).waiting + more))) }
+    ensures marked { OnOk result (margin_of code.new ≡ marks.spreading (count_of count).batches
+        ((count_of count).waiting + more) (margin_of code.old)) }
 {
     let count = Count {
         batches: count.batches,
@@ -285,6 +308,7 @@ fn close_list<V: TemplateValue>(
 ) -> Result<(), OutOfMemory>
     ensures added { OnOk result
         (Adds (made_of V.contents code.old) (made_of V.contents code.new) (list_batch waiting)) }
+    ensures marked { OnOk result (margin_of code.new ≡ marks.here (batch_count waiting) (margin_of code.old)) }
 {
     if waiting > 0 {
         code.add(Instruction::BuildList(Some(waiting)))?;
@@ -296,6 +320,7 @@ fn close_list<V: TemplateValue>(
 fn close_map<V: TemplateValue>(code: &mut Emitter<'_, V>, waiting: usize) -> Result<(), OutOfMemory>
     ensures added { OnOk result
         (Adds (made_of V.contents code.old) (made_of V.contents code.new) (map_batch waiting)) }
+    ensures marked { OnOk result (margin_of code.new ≡ marks.here (batch_count waiting) (margin_of code.old)) }
 {
     if waiting > 0 {
         code.add(Instruction::BuildKwargs(waiting))?;

@@ -1,10 +1,11 @@
 //! Jumps around the part that a test does not choose.
-ghost use Rattle.std.specs.Prelude.{◌≡◌, IfOk};
+ghost use Rattle.std.specs.Prelude.{◌≡◌, IfOk, OnOk};
+ghost use Rattle.minijinja_semantics.specs.Marks as marks;
 ghost use Rattle.minijinja_code_expr.specs.internal.Branching.{BeginsElse, ending_at};
-ghost use Rattle.minijinja_code_expr.specs.internal.Making.{made_of};
+ghost use Rattle.minijinja_emitter.specs.internal.AtEmitter.{made_of, margin_of};
 
-use crate::emit::Emitter;
-use crate::memory::OutOfMemory;
+use minijinja_emitter::emit::Emitter;
+use minijinja_emitter::memory::OutOfMemory;
 use minijinja_instructions::instructions::Instruction;
 use minijinja_value::value::TemplateValue;
 
@@ -14,8 +15,9 @@ pub fn begin_else<V: TemplateValue>(
     code: &mut Emitter<'_, V>,
     test: usize,
 ) -> Result<usize, OutOfMemory>
-    ensures { IfOk result (λ end. BeginsElse test end (made_of V.contents code.old)
+    ensures begun { IfOk result (λ end. BeginsElse test end (made_of V.contents code.old)
         (made_of V.contents code.new)) }
+    ensures marked { OnOk result (margin_of code.new ≡ marks.here 1 (margin_of code.old)) }
 {
     let end = code.reserve()?;
     code.fill(test, Instruction::JumpIfFalse(code.here()));
@@ -24,7 +26,8 @@ pub fn begin_else<V: TemplateValue>(
 
 /// Ends what comes where a test is false: the jump past it leads to the end of the instructions.
 pub fn end_else<V: TemplateValue>(code: &mut Emitter<'_, V>, end: usize)
-    ensures { made_of V.contents code.new ≡ ending_at end (made_of V.contents code.old) }
+    ensures ended { made_of V.contents code.new ≡ ending_at end (made_of V.contents code.old) }
+    ensures marked { margin_of code.new ≡ margin_of code.old }
 {
     code.fill(end, Instruction::Jump(code.here()));
 }

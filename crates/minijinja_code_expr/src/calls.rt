@@ -1,16 +1,21 @@
 //! Instructions of calls that take a macro along.
-ghost use Rattle.std.specs.Prelude.{IfOk, OnOk};
+ghost use Rattle.std.specs.Prelude.{◌≡◌, IfOk, OnOk};
 ghost use Rattle.minijinja_tree.specs.Callees.{callee};
 ghost use Rattle.minijinja_tree.specs.Erasure.{args_of, expr_tree};
+ghost use Rattle.minijinja_tree.specs.SpannedErasure as node;
 ghost use Rattle.minijinja_tree.specs.Tree as tree;
 ghost use Rattle.minijinja_tree.specs.WellFormed.{IsWhole};
 ghost use Rattle.minijinja_code_expr.specs.internal.Callers.{AreCounts, BeginsCall, TakesCaller, behind_caller, front_of};
-ghost use Rattle.minijinja_code_expr.specs.internal.Making.{made_of, Adds};
+ghost use Rattle.minijinja_semantics.specs.Marks as marks;
+ghost use Rattle.minijinja_code_expr.specs.internal.NodeMarks as node_marks;
+ghost use Rattle.minijinja_code_expr.specs.internal.NodeMarks.{call_begin, call_end};
+ghost use Rattle.minijinja_emitter.specs.internal.AtEmitter.{made_of, margin_of};
+ghost use Rattle.minijinja_emitter.specs.internal.Making.{Adds};
 
 use crate::arguments::{Counts, end_arguments, up_to_caller};
-use crate::emit::Emitter;
 use crate::expr::{capture_block, expression};
-use crate::memory::OutOfMemory;
+use minijinja_emitter::emit::Emitter;
+use minijinja_emitter::memory::OutOfMemory;
 use minijinja_instructions::instructions::Instruction;
 use minijinja_tree::ast::{Call, CallType};
 use minijinja_value::value::TemplateValue;
@@ -24,9 +29,15 @@ pub fn begin_call<'s, V: TemplateValue>(
 ) -> Result<Option<Counts>, OutOfMemory>
     requires { IsWhole (tree.call (expr_tree V.contents call.now.expr)
         (args_of V.contents call.now.args.items)) }
-    ensures { IfOk result (λ counts. BeginsCall V.functions (expr_tree V.contents call.now.expr)
-        (args_of V.contents call.now.args.items) counts (made_of V.contents code.old)
-        (made_of V.contents code.new)) }
+    ensures begun { IfOk result (λ counts. BeginsCall V.functions
+        (expr_tree V.contents call.now.expr) (args_of V.contents call.now.args.items) counts
+        (made_of V.contents code.old) (made_of V.contents code.new)) }
+    ensures marked { OnOk result (margin_of code.new ≡ call_begin
+        (callee (expr_tree V.contents call.now.expr))
+        (marks.base V.functions (node.expr_node V.contents call.now.expr))
+        (marks.expr V.functions (node.expr_node V.contents call.now.expr))
+        (node_marks.up_to_caller V.functions (node.args_of V.contents call.now.args.items))
+        (margin_of code.old)) }
 {
     match call.identify_call() {
         CallType::Function(_) => {
@@ -61,9 +72,13 @@ pub fn end_call<'s, V: TemplateValue>(
     requires takes { TakesCaller (callee (expr_tree V.contents call.now.expr)) }
     requires counts { AreCounts (args_of V.contents call.now.args.items)
         (front_of (callee (expr_tree V.contents call.now.expr))) counts }
-    ensures { OnOk result (Adds (made_of V.contents code.old) (made_of V.contents code.new)
+    ensures added { OnOk result (Adds (made_of V.contents code.old) (made_of V.contents code.new)
         (behind_caller (callee (expr_tree V.contents call.now.expr))
         (args_of V.contents call.now.args.items))) }
+    ensures marked { OnOk result (margin_of code.new ≡ call_end
+        (callee (expr_tree V.contents call.now.expr))
+        (node_marks.behind_caller (node.args_of V.contents call.now.args.items))
+        (margin_of code.old)) }
 {
     match call.identify_call() {
         CallType::Function(name) => {

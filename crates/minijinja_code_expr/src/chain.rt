@@ -4,15 +4,21 @@ ghost use Rattle.minijinja_tree.specs.Erasure.{compare_op, compare_tree, compari
 ghost use Rattle.minijinja_tree.specs.WellFormed.{IsWhole};
 ghost use Rattle.minijinja_semantics.specs.Code.{Instr, Load, CompareAndPreserve};
 ghost use Rattle.minijinja_semantics.specs.Layout.{comparison};
+ghost use Rattle.minijinja_semantics.specs.Marks as marks;
 ghost use Rattle.minijinja_semantics.specs.Pieces.{one, ◌▸◌, leading_to};
 ghost use Rattle.minijinja_instructions.specs.Instructions.{compared_by};
+ghost use Rattle.minijinja_tree.specs.SpannedErasure.{all_compared, compare_node};
+ghost use Rattle.minijinja_emitter.specs.internal.Margins.{replaced};
+ghost use Rattle.minijinja_code_expr.specs.internal.NodeMarks.{FinishesMarks};
+ghost use Rattle.minijinja_code_expr.specs.private.ChainMarks.{after_comparison, chain_end, last_comparison};
 ghost use Rattle.minijinja_code_expr.specs.private.Comparing.{ahead, after_one, known, jumping, leaving, places_of, Closes, Holds, Leads};
 ghost use Rattle.minijinja_code_expr.specs.internal.Leading.{Finishes};
-ghost use Rattle.minijinja_code_expr.specs.internal.Making.{made_of, followed, alone, between, hole, reach, Adds};
+ghost use Rattle.minijinja_emitter.specs.internal.AtEmitter.{made_of, margin_of};
+ghost use Rattle.minijinja_emitter.specs.internal.Making.{followed, alone, between, hole, reach, Adds};
 
-use crate::emit::Emitter;
 use crate::expr::expression;
-use crate::memory::{OutOfMemory, memory_alone};
+use minijinja_emitter::emit::{Emitter, Site};
+use minijinja_emitter::memory::{OutOfMemory, memory_alone};
 use minijinja_instructions::instructions::{CompareOp as Operator, Instruction};
 use minijinja_tree::ast::{Compare, CompareOp, CompareOpKind};
 use minijinja_value::value::TemplateValue;
@@ -56,10 +62,14 @@ pub(crate) fn compare<'s, V: TemplateValue>(
     code: &mut Emitter<'s, V>,
     chain: &Compare<'s, V>,
     start: usize,
+    site: Site,
 ) -> Result<(), OutOfMemory>
     requires { IsWhole (compare_tree V.contents chain.now) }
-    ensures { OnOk result (Finishes V.functions (compare_tree V.contents chain.now) start
+    ensures added { OnOk result (Finishes V.functions (compare_tree V.contents chain.now) start
         (made_of V.contents code.old) (made_of V.contents code.new)) }
+    ensures marked { OnOk result (FinishesMarks V.functions (compare_tree V.contents chain.now)
+        (compare_node V.contents chain.now site.node) start site.outer
+        (made_of V.contents code.old) (margin_of code.old) (margin_of code.new)) }
 {
     let mut jumps = Jumps::new(code.alloc());
     let mut last = first_constant(code, start);
@@ -70,12 +80,12 @@ pub(crate) fn compare<'s, V: TemplateValue>(
         expression(code, &comparison.expr)?;
         match compare_constants(code, comparison.op, last, place)? {
             Some(true) => last = Some(place),
-            Some(false) => return fold_to(code, start, false),
+            Some(false) => return fold_to(code, start, false, site),
             None => last = None,
         }
     }
     if last.is_some() {
-        return fold_to(code, start, true);
+        return fold_to(code, start, true, site);
     }
     close(code, &chain.ops, &jumps)
 }
@@ -122,13 +132,15 @@ fn fold_to<V: TemplateValue>(
     code: &mut Emitter<'_, V>,
     start: usize,
     holds: bool,
+    site: Site,
 ) -> Result<(), OutOfMemory>
-    ensures { OnOk result (made_of V.contents code.new ≡ record (made_of V.contents code.old) {
+    ensures replaced { OnOk result (made_of V.contents code.new ≡ record (made_of V.contents code.old) {
       code = take start (made_of V.contents code.old).code
           ++ Load (V.functions.of_bool holds) ∷ [];
     }) }
+    ensures marked { OnOk result (margin_of code.new ≡ replaced start site (margin_of code.old)) }
 {
-    code.replace(start, V::of_bool(holds))
+    code.replace(start, V::of_bool(holds), site)
 }
 
 /// Adds the comparison before the one at an index, if there is one.
@@ -144,6 +156,7 @@ fn add_comparison_before<'s, V: TemplateValue>(
         (after_one V.functions (comparisons_of V.contents (drop i ops.now)))) }
     ensures followed { OnOk result ((more : List (Instr V.Contents)) ×
         (made_of V.contents code.new ≡ followed (made_of V.contents code.old) more)) }
+    ensures marked { OnOk result (margin_of code.new ≡ after_comparison i (margin_of code.old)) }
 {
     if i == 0 {
         return Ok(());
@@ -163,6 +176,7 @@ fn add_comparison<V: TemplateValue>(
         (length (made_of V.contents code.old).code + 1) ∷ []) }
     ensures added { OnOk result (Adds (made_of V.contents code.old) (made_of V.contents code.new)
         (one (CompareAndPreserve (compare_op op)) ▸ one hole)) }
+    ensures marked { OnOk result (margin_of code.new ≡ marks.here 2 (margin_of code.old)) }
 {
     code.add(Instruction::CompareAndPreserve(operator(op)))?;
     jumps.push(code.reserve()?)?;
@@ -176,8 +190,10 @@ fn close<'s, V: TemplateValue>(
     ops: &[CompareOp<'s, V>],
     jumps: &Jumps,
 ) -> Result<(), OutOfMemory>
-    ensures { OnOk result (Closes (made_of V.contents code.old) (places_of jumps.now)
+    ensures closed { OnOk result (Closes (made_of V.contents code.old) (places_of jumps.now)
         (ahead V.functions V.contents ops.now (length ops.now)) (made_of V.contents code.new)) }
+    ensures marked { OnOk result (margin_of code.new ≡ chain_end V.contents ops.now
+        (margin_of code.old)) }
 {
     add_last(code, ops)?;
     let failed = leave(code)?;
@@ -190,9 +206,11 @@ fn add_last<'s, V: TemplateValue>(
     code: &mut Emitter<'s, V>,
     ops: &[CompareOp<'s, V>],
 ) -> Result<(), OutOfMemory>
-    ensures { OnOk result ((failed : ℕ) → Adds (made_of V.contents code.old)
+    ensures added { OnOk result ((failed : ℕ) → Adds (made_of V.contents code.old)
         (made_of V.contents code.new) (leading_to failed
         (ahead V.functions V.contents ops.now (length ops.now)))) }
+    ensures marked { OnOk result (margin_of code.new ≡ last_comparison V.contents ops.now
+        (margin_of code.old)) }
 {
     match ops.last() {
         Some(last) => add_plain(code, last.op),
@@ -205,8 +223,10 @@ fn add_plain<V: TemplateValue>(
     code: &mut Emitter<'_, V>,
     op: CompareOpKind,
 ) -> Result<(), OutOfMemory>
-    ensures { OnOk result (Adds (made_of V.contents code.old) (made_of V.contents code.new)
+    ensures added { OnOk result (Adds (made_of V.contents code.old) (made_of V.contents code.new)
         (comparison (compare_op op))) }
+    ensures marked { OnOk result (margin_of code.new ≡ marks.comparison (compare_op op)
+        (margin_of code.old)) }
 {
     match op {
         CompareOpKind::Eq => code.add(Instruction::Eq),
@@ -229,6 +249,7 @@ fn leave<V: TemplateValue>(code: &mut Emitter<'_, V>) -> Result<u32, OutOfMemory
         (λ failed. failed ≡ reach (length (made_of V.contents code.old).code + 1)) }
     ensures added { OnOk result
         (Adds (made_of V.contents code.old) (made_of V.contents code.new) leaving) }
+    ensures marked { OnOk result (margin_of code.new ≡ marks.here 3 (margin_of code.old)) }
 {
     let jump = code.reserve()?;
     let failed = code.here();
@@ -241,8 +262,9 @@ fn leave<V: TemplateValue>(code: &mut Emitter<'_, V>) -> Result<u32, OutOfMemory
 
 /// Fills in the jumps out of the chain.
 fn lead_out<V: TemplateValue>(code: &mut Emitter<'_, V>, jumps: &Jumps, target: u32)
-    ensures { made_of V.contents code.new ≡ jumping (places_of jumps.now) target
+    ensures led { made_of V.contents code.new ≡ jumping (places_of jumps.now) target
         (made_of V.contents code.old) }
+    ensures marked { margin_of code.new ≡ margin_of code.old }
 {
     if let Some(latest) = jumps.latest {
         code.fill(latest, Instruction::JumpIfFalseOrPop(target));
@@ -252,8 +274,9 @@ fn lead_out<V: TemplateValue>(code: &mut Emitter<'_, V>, jumps: &Jumps, target: 
 
 /// Puts a jump out of the chain at each of these places.
 fn fill_jumps<V: TemplateValue>(code: &mut Emitter<'_, V>, places: &[usize], target: u32)
-    ensures { made_of V.contents code.new ≡ jumping places.now target
+    ensures filled { made_of V.contents code.new ≡ jumping places.now target
         (made_of V.contents code.old) }
+    ensures marked { margin_of code.new ≡ margin_of code.old }
 {
     for place in places {
         code.fill(*place, Instruction::JumpIfFalseOrPop(target));

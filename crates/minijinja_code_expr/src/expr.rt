@@ -1,23 +1,31 @@
 //! Instructions of expressions.
-ghost use Rattle.std.specs.Prelude.{◌≤◌, ℕ, OnOk};
+ghost use Rattle.std.specs.Prelude.{◌≡◌, ◌≤◌, ℕ, OnOk};
+ghost use Rattle.minijinja_tree.specs.Callees.{callee};
 ghost use Rattle.minijinja_tree.specs.Erasure.{expr_tree, optional_of, args_of, bin_op};
 ghost use Rattle.minijinja_tree.specs.WellFormed.{IsWhole, IsWholeIfAny, AreArguments, arg_count, most_arguments};
+ghost use Rattle.minijinja_tree.specs.SpannedErasure.{expr_node};
+ghost use Rattle.minijinja_tree.specs.SpannedErasure as node;
+ghost use Rattle.minijinja_tree.specs.SpannedTrees as spanned;
 ghost use Rattle.minijinja_tree.specs.Tree as tree;
 ghost use Rattle.minijinja_semantics.specs.Layout as layout;
+ghost use Rattle.minijinja_semantics.specs.Marks as marks;
 ghost use Rattle.minijinja_code_expr.specs.internal.Calling.{captured};
 ghost use Rattle.minijinja_code_expr.specs.internal.Leading.{Finishes, IsLiteral};
-ghost use Rattle.minijinja_code_expr.specs.internal.Making.{made_of, Adds};
+ghost use Rattle.minijinja_code_expr.specs.internal.NodeMarks.{FinishesMarks, begun, call_ending, ending, given_marks};
+ghost use Rattle.minijinja_emitter.specs.internal.AtEmitter.{made_of, margin_of};
+ghost use Rattle.minijinja_emitter.specs.internal.Making.{Adds};
 
 use crate::arguments::arguments;
 use crate::branches::{begin_else, end_else};
 use crate::chain::compare;
-use crate::emit::Emitter;
-use crate::leading::{has_leading_operand, leading_operand, test_of};
+use crate::leading::{begin, has_leading_operand, leading_operand, test_of};
 use crate::literals::{load_constant, load_list, load_map, load_tuple};
-use crate::memory::OutOfMemory;
 use crate::operators::{begin_right, end_binary, end_unary, join_constant};
 use crate::pending::{PendingNode, PendingNodes};
+use minijinja_emitter::emit::{Emitter, Site};
+use minijinja_emitter::memory::OutOfMemory;
 use minijinja_instructions::instructions::{CaptureMode, Instruction};
+use minijinja_syntax::tokens::Span;
 use minijinja_tree::ast::{BinOp, Call, CallType, Expr};
 use minijinja_value::value::TemplateValue;
 
@@ -30,12 +38,15 @@ pub fn expression<'s, V: TemplateValue>(
     expr: &Expr<'s, V>,
 ) -> Result<(), OutOfMemory>
     requires { IsWhole (expr_tree V.contents expr.now) }
-    ensures { OnOk result (Adds (made_of V.contents code.old) (made_of V.contents code.new)
+    ensures added { OnOk result (Adds (made_of V.contents code.old) (made_of V.contents code.new)
         (layout.expr V.functions (expr_tree V.contents expr.now))) }
+    ensures marked { OnOk result (margin_of code.new ≡ marks.expr V.functions
+        (expr_node V.contents expr.now) (margin_of code.old)) }
 {
     let mut pending = PendingNodes::new(code.alloc());
     let mut part = expr;
     while has_leading_operand(part) {
+        let outer = begin(code, part);
         let place = match test_of(part) {
             Some(test) => {
                 expression(code, test)?;
@@ -43,27 +54,39 @@ pub fn expression<'s, V: TemplateValue>(
             }
             None => code.place(),
         };
-        pending.push(PendingNode { node: part, place })?;
+        pending.push(PendingNode {
+            node: part,
+            place,
+            outer,
+        })?;
         part = leading_operand(part);
     }
+    let outer = begin(code, part);
     let place = code.place();
-    finish(code, part, place)?;
+    finish(code, part, place, outer)?;
+    code.close(outer);
     while let Some(last) = pending.pop() {
-        finish(code, last.node, last.place)?;
+        finish(code, last.node, last.place, last.outer)?;
+        code.close(last.outer);
     }
     Ok(())
 }
 
-/// Adds what comes after the leading operand of a node, or all of its code if it has none.
+/// Adds what comes after the leading operand of a node, or all of its code if it has none. `outer`
+/// is the span that was open before the node.
 #[cycle(expr)]
 fn finish<'s, V: TemplateValue>(
     code: &mut Emitter<'s, V>,
     node: &Expr<'s, V>,
     place: usize,
+    outer: Span,
 ) -> Result<(), OutOfMemory>
     requires { IsWhole (expr_tree V.contents node.now) }
-    ensures { OnOk result (Finishes V.functions (expr_tree V.contents node.now) place
+    ensures added { OnOk result (Finishes V.functions (expr_tree V.contents node.now) place
         (made_of V.contents code.old) (made_of V.contents code.new)) }
+    ensures marked { OnOk result (FinishesMarks V.functions (expr_tree V.contents node.now)
+        (expr_node V.contents node.now) place outer (made_of V.contents code.old)
+        (margin_of code.old) (margin_of code.new)) }
 {
     match node {
         Expr::Var(variable) => code.add(Instruction::Lookup(variable.node().id)),
@@ -78,9 +101,18 @@ fn finish<'s, V: TemplateValue>(
             optional(code, &slice.step, V::none())?;
             code.add(Instruction::Slice)
         }
-        Expr::UnaryOp(operation) => end_unary(code, operation.node().op, place),
-        Expr::BinOp(operation) => finish_binary(code, operation.node(), place),
-        Expr::Compare(chain) => compare(code, chain.node(), place),
+        Expr::UnaryOp(operation) => {
+            let node = operation.span();
+            end_unary(code, operation.node().op, place, Site { node, outer })
+        }
+        Expr::BinOp(operation) => {
+            let node = operation.span();
+            finish_binary(code, operation.node(), place, Site { node, outer })
+        }
+        Expr::Compare(chain) => {
+            let node = chain.span();
+            compare(code, chain.node(), place, Site { node, outer })
+        }
         Expr::IfExpr(choice) => {
             let end = begin_else(code, place)?;
             optional(code, &choice.node().false_expr, V::silent_undefined())?;
@@ -113,20 +145,26 @@ fn finish_binary<'s, V: TemplateValue>(
     code: &mut Emitter<'s, V>,
     operation: &BinOp<'s, V>,
     place: usize,
+    site: Site,
 ) -> Result<(), OutOfMemory>
     requires left { IsWhole (expr_tree V.contents operation.now.left) }
     requires right { IsWhole (expr_tree V.contents operation.now.right) }
-    ensures { OnOk result (Finishes V.functions (tree.binary (bin_op operation.now.op)
+    ensures added { OnOk result (Finishes V.functions (tree.binary (bin_op operation.now.op)
         (expr_tree V.contents operation.now.left) (expr_tree V.contents operation.now.right)) place
         (made_of V.contents code.old) (made_of V.contents code.new)) }
+    ensures marked { OnOk result (FinishesMarks V.functions (tree.binary (bin_op operation.now.op)
+        (expr_tree V.contents operation.now.left) (expr_tree V.contents operation.now.right))
+        (spanned.binary (bin_op operation.now.op) (expr_node V.contents operation.now.left)
+        (expr_node V.contents operation.now.right) site.node) place site.outer
+        (made_of V.contents code.old) (margin_of code.old) (margin_of code.new)) }
 {
-    let joined = join_constant(code, operation, place)?;
+    let joined = join_constant(code, operation, place, site)?;
     if joined {
         return Ok(());
     }
     let middle = begin_right(code, operation.op)?;
     expression(code, &operation.right)?;
-    end_binary(code, operation.op, place, middle)
+    end_binary(code, operation.op, place, middle, site)
 }
 
 /// Adds the arguments of a call after what it is made on, and the call.
@@ -137,9 +175,13 @@ fn finish_call<'s, V: TemplateValue>(
 ) -> Result<(), OutOfMemory>
     requires whole { AreArguments (args_of V.contents call.now.args.items) }
     requires few { arg_count (args_of V.contents call.now.args.items) ≤ most_arguments }
-    ensures { OnOk result ((place : ℕ) → Finishes V.functions (tree.call
+    ensures added { OnOk result ((place : ℕ) → Finishes V.functions (tree.call
         (expr_tree V.contents call.now.expr) (args_of V.contents call.now.args.items)) place
         (made_of V.contents code.old) (made_of V.contents code.new)) }
+    ensures marked { OnOk result (margin_of code.new ≡ call_ending
+        (callee (expr_tree V.contents call.now.expr))
+        (given_marks V.functions (node.args_of V.contents call.now.args.items))
+        (margin_of code.old)) }
 {
     match call.identify_call() {
         CallType::Function(name) => {
@@ -167,8 +209,10 @@ fn literal<'s, V: TemplateValue>(
 ) -> Result<(), OutOfMemory>
     requires literal { IsLiteral (expr_tree V.contents node.now) }
     requires whole { IsWhole (expr_tree V.contents node.now) }
-    ensures { OnOk result ((place : ℕ) → Finishes V.functions (expr_tree V.contents node.now) place
-        (made_of V.contents code.old) (made_of V.contents code.new)) }
+    ensures added { OnOk result ((place : ℕ) → Finishes V.functions (expr_tree V.contents node.now)
+        place (made_of V.contents code.old) (made_of V.contents code.new)) }
+    ensures marked { OnOk result (margin_of code.new ≡ ending V.functions
+        (expr_node V.contents node.now) (margin_of code.old)) }
 {
     match node {
         Expr::List(list) => {
@@ -214,8 +258,10 @@ fn optional<'s, V: TemplateValue>(
     absent: V,
 ) -> Result<(), OutOfMemory>
     requires { IsWholeIfAny (optional_of V.contents expr.now) }
-    ensures { OnOk result (Adds (made_of V.contents code.old) (made_of V.contents code.new)
+    ensures added { OnOk result (Adds (made_of V.contents code.old) (made_of V.contents code.new)
         (layout.optional V.functions (V.contents absent) (optional_of V.contents expr.now))) }
+    ensures marked { OnOk result (margin_of code.new ≡ marks.optional V.functions
+        (node.optional_of V.contents expr.now) (margin_of code.old)) }
 {
     match expr {
         Some(expr) => expression(code, expr),
@@ -223,16 +269,43 @@ fn optional<'s, V: TemplateValue>(
     }
 }
 
-/// Adds the code of a call that stands by itself.
+/// Adds the code of a call that stands by itself, with the call's span.
 pub fn call<'s, V: TemplateValue>(
+    code: &mut Emitter<'s, V>,
+    call: &Call<'s, V>,
+    span: Span,
+) -> Result<(), OutOfMemory>
+    requires { IsWhole (tree.call (expr_tree V.contents call.now.expr)
+        (args_of V.contents call.now.args.items)) }
+    ensures added { OnOk result (Adds (made_of V.contents code.old) (made_of V.contents code.new)
+        (layout.expr V.functions (tree.call (expr_tree V.contents call.now.expr)
+        (args_of V.contents call.now.args.items)))) }
+    ensures marked { OnOk result (margin_of code.new ≡ marks.expr V.functions
+        (spanned.call (expr_node V.contents call.now.expr)
+        (node.args_of V.contents call.now.args.items) span) (margin_of code.old)) }
+{
+    let outer = code.open(span);
+    parts_of_call(code, call)?;
+    code.close(outer);
+    Ok(())
+}
+
+/// Adds what a call is made on, its arguments, and the call.
+fn parts_of_call<'s, V: TemplateValue>(
     code: &mut Emitter<'s, V>,
     call: &Call<'s, V>,
 ) -> Result<(), OutOfMemory>
     requires { IsWhole (tree.call (expr_tree V.contents call.now.expr)
         (args_of V.contents call.now.args.items)) }
-    ensures { OnOk result (Adds (made_of V.contents code.old) (made_of V.contents code.new)
+    ensures added { OnOk result (Adds (made_of V.contents code.old) (made_of V.contents code.new)
         (layout.expr V.functions (tree.call (expr_tree V.contents call.now.expr)
         (args_of V.contents call.now.args.items)))) }
+    ensures marked { OnOk result (margin_of code.new ≡ marks.call_of
+        (callee (expr_tree V.contents call.now.expr))
+        (marks.base V.functions (expr_node V.contents call.now.expr))
+        (marks.expr V.functions (expr_node V.contents call.now.expr))
+        (given_marks V.functions (node.args_of V.contents call.now.args.items))
+        (margin_of code.old)) }
 {
     match call.identify_call() {
         CallType::Function(name) => {
@@ -260,8 +333,9 @@ pub(crate) fn apply_filter<'s, V: TemplateValue>(
     name: &'s str,
     count: Option<u16>,
 ) -> Result<(), OutOfMemory>
-    ensures { OnOk result (Adds (made_of V.contents code.old) (made_of V.contents code.new)
+    ensures added { OnOk result (Adds (made_of V.contents code.old) (made_of V.contents code.new)
         (layout.apply_filter name.now count)) }
+    ensures marked { OnOk result (margin_of code.new ≡ marks.here 1 (margin_of code.old)) }
 {
     let id = code.filter_id(name)?;
     code.add(Instruction::ApplyFilter(name, count, id))
@@ -274,8 +348,9 @@ fn perform_test<'s, V: TemplateValue>(
     name: &'s str,
     count: Option<u16>,
 ) -> Result<(), OutOfMemory>
-    ensures { OnOk result (Adds (made_of V.contents code.old) (made_of V.contents code.new)
+    ensures added { OnOk result (Adds (made_of V.contents code.old) (made_of V.contents code.new)
         (layout.perform_test name.now count)) }
+    ensures marked { OnOk result (margin_of code.new ≡ marks.here 1 (margin_of code.old)) }
 {
     let id = code.test_id(name)?;
     code.add(Instruction::PerformTest(name, count, id))
@@ -286,8 +361,9 @@ pub(crate) fn capture_block<'s, V: TemplateValue>(
     code: &mut Emitter<'s, V>,
     name: &'s str,
 ) -> Result<(), OutOfMemory>
-    ensures { OnOk result (Adds (made_of V.contents code.old) (made_of V.contents code.new)
+    ensures added { OnOk result (Adds (made_of V.contents code.old) (made_of V.contents code.new)
         (captured name.now)) }
+    ensures marked { OnOk result (margin_of code.new ≡ marks.here 3 (margin_of code.old)) }
 {
     code.add(Instruction::BeginCapture(CaptureMode::Capture))?;
     code.add(Instruction::CallBlock(name))?;

@@ -11,12 +11,16 @@ ghost use Rattle.minijinja_semantics.specs.Jumps as Jumps;
 ghost use Rattle.minijinja_semantics.specs.Layout.{unary_instr};
 ghost use Rattle.minijinja_instructions.specs.Instructions.{instr_of};
 ghost use Rattle.minijinja_code_expr.specs.internal.Leading.{Finishes, FinishesIf, before_right};
-ghost use Rattle.minijinja_code_expr.specs.internal.Making as spec;
-ghost use Rattle.minijinja_code_expr.specs.internal.Making.{made_of, jump_of, operator_of, Adds};
+ghost use Rattle.minijinja_code_expr.specs.internal.Parts as spec;
+ghost use Rattle.minijinja_emitter.specs.internal.AtEmitter.{made_of, margin_of};
+ghost use Rattle.minijinja_emitter.specs.internal.Making.{Adds};
+ghost use Rattle.minijinja_code_expr.specs.internal.Parts.{jump_of, operator_of};
 ghost use Rattle.minijinja_code_expr.specs.private.Operating.{EndsBinary, known_between};
+ghost use Rattle.minijinja_code_expr.specs.private.OperatorMarks.{EndsBinaryMarks, EndsUnaryMarks, Folds, before_right_marks};
+ghost use Rattle.minijinja_emitter.specs.internal.Margins.{replaced_if};
 
-use crate::emit::Emitter;
-use crate::memory::{OutOfMemory, memory_alone};
+use minijinja_emitter::emit::{Emitter, Site};
+use minijinja_emitter::memory::{OutOfMemory, memory_alone};
 use minijinja_instructions::instructions::Instruction;
 use minijinja_tree::ast::{BinOp, BinOpKind, Expr, UnaryOpKind};
 use minijinja_value::value::TemplateValue;
@@ -27,17 +31,24 @@ pub(crate) fn end_unary<V: TemplateValue>(
     code: &mut Emitter<'_, V>,
     op: UnaryOpKind,
     place: usize,
+    site: Site,
 ) -> Result<(), OutOfMemory>
-    ensures { OnOk result ((e : tree.Expr V.Contents) → IsWhole e → Finishes V.functions
+    ensures added { OnOk result ((e : tree.Expr V.Contents) → IsWhole e → Finishes V.functions
         (tree.unary (unary_op op) e) place (made_of V.contents code.old)
         (made_of V.contents code.new)) }
+    ensures marked { OnOk result (EndsUnaryMarks V.functions (unary_op op) place site
+        (made_of V.contents code.old) (margin_of code.old) (margin_of code.new)) }
 {
     if let Some(operand) = code.constant(place, code.place()) {
         if let Some(value) = memory_alone(op.fold(code.alloc(), operand))? {
-            return code.replace(place, value);
+            return code.replace(place, value, site);
         }
     }
-    code.add(unary_operator(op))
+    match op {
+        UnaryOpKind::Not => code.add(Instruction::Not),
+        // Of a chain of signs, each stands for itself.
+        UnaryOpKind::Neg => code.add_at(Instruction::Neg, site.node),
+    }
 }
 
 /// Joins the left side of a `~`, whose code is at `place`, with the right side, if both are
@@ -46,15 +57,22 @@ pub(crate) fn join_constant<'s, V: TemplateValue>(
     code: &mut Emitter<'s, V>,
     operation: &BinOp<'s, V>,
     place: usize,
+    site: Site,
 ) -> Result<bool, OutOfMemory>
-    ensures { IfOk result (λ joined. IsWhole (expr_tree V.contents operation.now.left) →
+    ensures added { IfOk result (λ joined. IsWhole (expr_tree V.contents operation.now.left) →
         FinishesIf V.functions joined (tree.binary (bin_op operation.now.op)
         (expr_tree V.contents operation.now.left) (expr_tree V.contents operation.now.right)) place
         (made_of V.contents code.old) (made_of V.contents code.new)) }
+    ensures marked { IfOk result (λ joined. margin_of code.new ≡ replaced_if joined place site
+        (margin_of code.old)) }
+    ensures folds { IfOk result (λ joined. joined ≡ true → IsWhole
+        (expr_tree V.contents operation.now.left) → Folds V.functions
+        (tree.binary (bin_op operation.now.op) (expr_tree V.contents operation.now.left)
+        (expr_tree V.contents operation.now.right)) place (made_of V.contents code.old)) }
 {
     match operation.op {
         BinOpKind::Concat => match &operation.right {
-            Expr::Const(right) => code.join(place, &right.node().value),
+            Expr::Const(right) => code.join(place, &right.node().value, site),
             _ => Ok(false),
         },
         _ => Ok(false),
@@ -70,9 +88,11 @@ pub(crate) fn begin_right<V: TemplateValue>(
     ensures middle { IfOk result (λ middle. middle ≡ length (made_of V.contents code.old).code) }
     ensures added { OnOk result (Adds (made_of V.contents code.old) (made_of V.contents code.new)
         (before_right (working (bin_op op)))) }
+    ensures marked { OnOk result (margin_of code.new ≡ before_right_marks (working (bin_op op))
+        (margin_of code.old)) }
 {
     if is_lazy(op) {
-        code.reserve()
+        code.reserve_again()
     } else {
         Ok(code.place())
     }
@@ -85,18 +105,21 @@ pub(crate) fn end_binary<V: TemplateValue>(
     op: BinOpKind,
     start: usize,
     middle: usize,
+    site: Site,
 ) -> Result<(), OutOfMemory>
-    ensures { OnOk result (EndsBinary V.functions (bin_op op) start middle
+    ensures added { OnOk result (EndsBinary V.functions (bin_op op) start middle
         (made_of V.contents code.old) (made_of V.contents code.new)) }
+    ensures marked { OnOk result (EndsBinaryMarks V.functions (bin_op op) start middle site
+        (made_of V.contents code.old) (margin_of code.old) (margin_of code.new)) }
 {
     if is_lazy(op) {
-        return end_lazy(code, op, start, middle);
+        return end_lazy(code, op, start, middle, site);
     }
     if let BinOpKind::Concat = op {
-        return end_concat(code, start, middle);
+        return end_concat(code, start, middle, site);
     }
     match fold_between(code, op, start, middle)? {
-        Some(value) => code.replace(start, value),
+        Some(value) => code.replace(start, value, site),
         None => code.add(operator(op)),
     }
 }
@@ -107,14 +130,17 @@ fn end_concat<V: TemplateValue>(
     code: &mut Emitter<'_, V>,
     start: usize,
     middle: usize,
+    site: Site,
 ) -> Result<(), OutOfMemory>
-    ensures { OnOk result (EndsBinary V.functions concat start middle
+    ensures added { OnOk result (EndsBinary V.functions concat start middle
         (made_of V.contents code.old) (made_of V.contents code.new)) }
+    ensures marked { OnOk result (EndsBinaryMarks V.functions concat start middle site
+        (made_of V.contents code.old) (margin_of code.old) (margin_of code.new)) }
 {
     match code.take_constants(start, middle) {
         Some((left, right)) => {
             let joined = left.concat(code.alloc(), &right)?;
-            code.replace(start, joined)
+            code.replace(start, joined, site)
         }
         None => code.add(Instruction::StringConcat),
     }
@@ -127,19 +153,22 @@ fn end_lazy<V: TemplateValue>(
     op: BinOpKind,
     start: usize,
     middle: usize,
+    site: Site,
 ) -> Result<(), OutOfMemory>
     requires { spec.is_lazy (working (bin_op op)) ≡ true }
-    ensures { OnOk result (EndsBinary V.functions (bin_op op) start middle
+    ensures added { OnOk result (EndsBinary V.functions (bin_op op) start middle
         (made_of V.contents code.old) (made_of V.contents code.new)) }
+    ensures marked { OnOk result (EndsBinaryMarks V.functions (bin_op op) start middle site
+        (made_of V.contents code.old) (margin_of code.old) (margin_of code.new)) }
 {
     let end = code.place();
     if let Some(left) = code.constant(start, middle) {
         if code.constant(middle.saturating_add(1), end).is_some() {
             if gives_right(op, left) {
-                return code.keep_last(start);
+                return code.keep_last(start, site);
             }
             code.cut(middle);
-            return Ok(());
+            return code.keep_last(start, site);
         }
     }
     code.fill(middle, lazy_jump(op, code.here()));
@@ -219,15 +248,5 @@ fn operator<'s, V: TemplateValue>(op: BinOpKind) -> Instruction<'s, V>
         BinOpKind::Concat => Instruction::StringConcat,
         BinOpKind::In => Instruction::In,
         BinOpKind::ScAnd | BinOpKind::ScOr => unreachable!(),
-    }
-}
-
-fn unary_operator<'s, V: TemplateValue>(op: UnaryOpKind) -> Instruction<'s, V>
-    ensures is { instr_of V.contents result ≡ unary_instr (unary_op op) }
-    ensures plain { Jumps.jump_target (instr_of V.contents result) ≡ None }
-{
-    match op {
-        UnaryOpKind::Not => Instruction::Not,
-        UnaryOpKind::Neg => Instruction::Neg,
     }
 }

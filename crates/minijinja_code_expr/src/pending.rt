@@ -2,17 +2,19 @@
 ghost use Rattle.std.specs.Prelude.{◌≡◌, ◌+◌, [], ◌∷◌, ◌++◌, length, OnOk, IfNone, IfSome};
 ghost use Rattle.minijinja_code_expr.specs.private.PendingNodes.{pending_of};
 
-use crate::memory::OutOfMemory;
+use minijinja_emitter::memory::OutOfMemory;
+use minijinja_syntax::tokens::Span;
 use minijinja_tree::ast::Expr;
 use minijinja_value::value::TemplateValue;
 use std::alloc::Global;
 
 /// A node that waits for its leading operand, and the place where its code begins or where the jump
-/// of its test is.
+/// of its test is, and the span that was open before it.
 #[derive(Drop)]
 pub(crate) struct PendingNode<'a, 's, V: TemplateValue> {
     pub(crate) node: &'a Expr<'s, V>,
     pub(crate) place: usize,
+    pub(crate) outer: Span,
 }
 
 /// Nodes that wait for their leading operands, the innermost last. Most expressions have at most

@@ -7,7 +7,7 @@ use Rattle.minijinja_tree.specs.WellFormed.{IsTarget, IsWhole, AreAssignments}
 use Rattle.minijinja_tree_expr.specs.declared.ast.Expr.{Expr}
 use Rattle.minijinja_semantics.specs.Layout.{expr, target, assignments}
 use Rattle.minijinja_semantics.specs.Pieces.{◌▸◌}
-use Rattle.minijinja_code_expr.specs.internal.Making.{Made, Adds}
+use Rattle.minijinja_emitter.specs.internal.Making.{Made, Adds}
 use Rattle.minijinja_code_expr.proofs.InOrder.{Leads, leads_on}
 
 module _ {V K C : Type 0} (c : V → C) (xs : List (Expr V K × Expr V K)) (i : ℕ) (x : Expr V K × Expr V K) where

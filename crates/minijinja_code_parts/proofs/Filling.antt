@@ -4,7 +4,7 @@ use Rattle.std.specs.Prelude.{slice_set}
 use Rattle.std.proofs.lemmas.List.{length-set, set-append_left}
 use Rattle.minijinja_semantics.specs.Code.{Instr, Jump}
 use Rattle.minijinja_semantics.specs.Pieces.{Piece}
-use Rattle.minijinja_code_expr.specs.internal.Making.{Made, here_of, capped, Adds}
+use Rattle.minijinja_emitter.specs.internal.Making.{Made, here_of, capped, Adds}
 use Rattle.minijinja_code_parts.specs.internal.EnclosingLoops.{AreBefore, AreOthers, with_ends}
 
 -- two places that are not one may be set in either order

@@ -12,8 +12,8 @@ use Rattle.minijinja_semantics.specs.Layout as layout
 use Rattle.minijinja_semantics.specs.Layout.{looking_up, storing_back, target}
 use Rattle.minijinja_semantics.specs.Pieces.{Piece, nothing, ◌▸◌}
 use Rattle.minijinja_semantics.proofs.Runs.{append_nil}
-use Rattle.minijinja_code_expr.specs.internal.Making.{Made, Adds}
-use Rattle.minijinja_code_expr.proofs.Adding.{adds_then}
+use Rattle.minijinja_emitter.specs.internal.Making.{Made, Adds}
+use Rattle.minijinja_emitter.proofs.Adding.{adds_then}
 use Rattle.minijinja_code_expr.proofs.InOrder.{Leads, leads_on}
 use Rattle.minijinja_code_parts.specs.internal.Macros.{left_of}
 use Rattle.minijinja_code_parts.proofs.MacroParts.{AreSame, adds_same, variable_target}

@@ -4,9 +4,9 @@ use Rattle.std.specs.Prelude.{Bool, true, false}
 use Rattle.minijinja_semantics.specs.Code.{Jump}
 use Rattle.minijinja_semantics.specs.Pieces.{behind, Piece, Open, nothing, one, ◌▸◌, closing_instructions, leaving}
 use Rattle.minijinja_code_parts.specs.internal.Loops.{closed}
-use Rattle.minijinja_code_expr.specs.internal.Making.{Made, Adds, hole, reach}
+use Rattle.minijinja_emitter.specs.internal.Making.{Made, Adds, hole, reach}
 use Rattle.minijinja_code_parts.specs.internal.EnclosingLoops.{Around, AreBefore, Follows, ending}
-use Rattle.minijinja_code_expr.proofs.Adding.{adds_nothing, adds_then, adds_filled}
+use Rattle.minijinja_emitter.proofs.Adding.{adds_nothing, adds_then, adds_filled}
 use Rattle.minijinja_code_parts.proofs.Filling.{before_later, before_more, others_more, ends_length, ends_last, filled_adds, adds_on}
 use Rattle.minijinja_code_parts.proofs.Rounds.{follows_plain}
 

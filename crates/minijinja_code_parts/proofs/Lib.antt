@@ -7,3 +7,4 @@ pub mod LoopParts
 pub mod Assigning
 pub mod MacroParts
 pub mod ImportParts
+pub mod Marking

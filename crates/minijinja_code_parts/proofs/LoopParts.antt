@@ -10,8 +10,8 @@ use Rattle.minijinja_code_parts.specs.declared.enclosing_loop.Open as kind
 use Rattle.minijinja_code_parts.specs.internal.AtEnclosingLoop.{open_of}
 use Rattle.minijinja_code_parts.specs.internal.Loops.{leading_on, turned, closed}
 use Rattle.minijinja_code_parts.specs.internal.EnclosingLoops.{with_ends}
-use Rattle.minijinja_code_expr.specs.internal.Making.{Made, here_of, Adds, hole, reach, capped, followed}
-use Rattle.minijinja_code_expr.proofs.Adding.{adds_nothing, adds_then, adds_filled, adds_followed}
+use Rattle.minijinja_emitter.specs.internal.Making.{Made, here_of, Adds, hole, reach, capped, followed}
+use Rattle.minijinja_emitter.proofs.Adding.{adds_nothing, adds_then, adds_filled, adds_followed}
 use Rattle.minijinja_code_expr.specs.internal.Branching.{set_at, ending_at}
 use Rattle.minijinja_code_expr.proofs.Branching.{opened, choice_added}
 use Rattle.minijinja_code_parts.proofs.Filling.{ends_length}

@@ -9,9 +9,9 @@ use Rattle.minijinja_semantics.specs.Meaning.{loop_flags}
 use Rattle.minijinja_semantics.specs.Pieces.{Here, behind, Leading, Exits, nothing, one, ◌▸◌, plain, ◌▹◌, leading_to, turning, skipping_out}
 use Rattle.minijinja_code_parts.specs.Hint.{all_data_bytes}
 use Rattle.minijinja_code_parts.specs.internal.Loops.{Begins, EndsBeforeElse, turned}
-use Rattle.minijinja_code_expr.specs.internal.Making.{Made, here_of, Adds, hole, reach, capped, followed}
+use Rattle.minijinja_emitter.specs.internal.Making.{Made, here_of, Adds, hole, reach, capped, followed}
 use Rattle.minijinja_code_parts.specs.internal.EnclosingLoops.{Around, Follows, FollowsStmt, FollowsStmts, ending}
-use Rattle.minijinja_code_expr.proofs.Adding.{adds_nothing, adds_then, adds_assoc, adds_filled, adds_followed}
+use Rattle.minijinja_emitter.proofs.Adding.{adds_nothing, adds_then, adds_assoc, adds_filled, adds_followed}
 use Rattle.minijinja_code_expr.specs.internal.Branching.{set_at}
 use Rattle.minijinja_code_parts.proofs.Filling.{ends_append, filled_here}
 use Rattle.minijinja_code_parts.proofs.Rounds.{follows_counted, follows_plain, follows_then, follows_bytes, follows_skipping}

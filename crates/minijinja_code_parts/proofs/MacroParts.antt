@@ -26,8 +26,8 @@ use Rattle.minijinja_semantics.specs.Layout.{defaulting, taking, target, enclosi
 use Rattle.minijinja_semantics.specs.Macros.{caller, enclosed, macro_flags}
 use Rattle.minijinja_semantics.specs.Pieces.{Here, Piece, behind, nothing, one, ◌▸◌}
 use Rattle.minijinja_code_parts.specs.internal.Macros.{TakesArgument, before_last, left_of}
-use Rattle.minijinja_code_expr.specs.internal.Making.{Made, Adds, here_of, hole, reach, capped}
-use Rattle.minijinja_code_expr.proofs.Adding.{adds_then, adds_nothing, adds_skipping}
+use Rattle.minijinja_emitter.specs.internal.Making.{Made, Adds, here_of, hole, reach, capped}
+use Rattle.minijinja_emitter.proofs.Adding.{adds_then, adds_nothing, adds_skipping}
 use Rattle.minijinja_code_expr.proofs.InOrder.{Leads, leads_end, leads_whole}
 
 module _ {C : Type 0} where

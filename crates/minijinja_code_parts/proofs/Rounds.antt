@@ -8,9 +8,9 @@ use Rattle.minijinja_semantics.specs.Code.{Instr, JumpIfFalse}
 use Rattle.minijinja_semantics.specs.Layout.{stmt, stmts}
 use Rattle.minijinja_semantics.specs.Pieces.{Piece, Leading, Exits, Open, nothing, one, plain, ◌▹◌, leading_to, outside, skipping_out}
 use Rattle.minijinja_code_parts.specs.Hint.{all_data_bytes}
-use Rattle.minijinja_code_expr.specs.internal.Making.{Made, Adds, hole, reach}
+use Rattle.minijinja_emitter.specs.internal.Making.{Made, Adds, hole, reach}
 use Rattle.minijinja_code_parts.specs.internal.EnclosingLoops.{Around, AreBefore, AreOthers, Follows, FollowsStmt, FollowsStmts, ending, opening, counting, with_ends}
-use Rattle.minijinja_code_expr.proofs.Adding.{adds_nothing, adds_then, adds_skipping}
+use Rattle.minijinja_emitter.proofs.Adding.{adds_nothing, adds_then, adds_skipping}
 use Rattle.minijinja_code_expr.specs.internal.Branching.{set_at}
 use Rattle.minijinja_code_parts.proofs.Filling.{before_later, before_others, ends_length, ends_apart, filled_adds, adds_on}
 

@@ -12,8 +12,8 @@ use Rattle.minijinja_tree_expr.specs.declared.ast.Spanned.{Spanned}
 use Rattle.minijinja_semantics.specs.Code.{UnpackList}
 use Rattle.minijinja_semantics.specs.Layout.{target, targets}
 use Rattle.minijinja_semantics.specs.Pieces.{nothing, one, ◌▸◌}
-use Rattle.minijinja_code_expr.specs.internal.Making.{Made, Adds}
-use Rattle.minijinja_code_expr.proofs.Adding.{adds_then}
+use Rattle.minijinja_emitter.specs.internal.Making.{Made, Adds}
+use Rattle.minijinja_emitter.proofs.Adding.{adds_then}
 use Rattle.minijinja_code_expr.proofs.Arms.{list_arm}
 use Rattle.minijinja_code_expr.proofs.InOrder.{count_length}
 

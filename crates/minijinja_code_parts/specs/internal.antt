@@ -2,5 +2,7 @@
 pub mod AtEnclosingLoop
 pub mod EnclosingLoops
 pub mod IfParts
+pub mod LoopMarks
 pub mod Loops
+pub mod MacroMarks
 pub mod Macros

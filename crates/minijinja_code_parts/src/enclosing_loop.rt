@@ -3,7 +3,7 @@ ghost use Rattle.std.specs.Prelude.{◌≡◌, ◌++◌, [], ◌∷◌, drop, fa
 ghost use Rattle.minijinja_code_parts.specs.internal.AtEnclosingLoop.{around_of, open_of, opened_in};
 ghost use Rattle.minijinja_code_parts.specs.internal.EnclosingLoops.{opening, counting};
 
-use minijinja_code_expr::memory::OutOfMemory;
+use minijinja_emitter::memory::OutOfMemory;
 use std::alloc::Global;
 
 /// What a statement may stand in that has to be closed where `break` or `continue` leaves it.

@@ -1,19 +1,23 @@
 //! The instructions before and after the bodies of macros.
-ghost use Rattle.std.specs.Prelude.{◌≡◌, map, IfOk, OnOk};
+ghost use Rattle.std.specs.Prelude.{◌≡◌, length, map, reverse, IfOk, OnOk};
 ghost use Rattle.minijinja_tree.specs.Erasure.{expr_tree, macro_tree};
 ghost use Rattle.minijinja_tree.specs.Tree.{parameters, present, variable_names};
 ghost use Rattle.minijinja_tree.specs.WellFormed.{AreAllWhole, AreVariables, IsVariable, IsWhole};
 ghost use Rattle.minijinja_semantics.specs.Code.{Load};
+ghost use Rattle.minijinja_tree.specs.SpannedErasure as node;
 ghost use Rattle.minijinja_semantics.specs.Layout as layout;
+ghost use Rattle.minijinja_semantics.specs.Marks as marks;
+ghost use Rattle.minijinja_code_parts.specs.internal.MacroMarks.{TakesMarks};
 ghost use Rattle.minijinja_semantics.specs.Macros.{argument_names, enclosed, macro_flags};
 ghost use Rattle.minijinja_semantics.specs.Pieces.{one};
-ghost use Rattle.minijinja_code_expr.specs.internal.Making.{made_of, Adds};
+ghost use Rattle.minijinja_emitter.specs.internal.AtEmitter.{made_of, margin_of};
+ghost use Rattle.minijinja_emitter.specs.internal.Making.{Adds};
 ghost use Rattle.minijinja_code_parts.specs.internal.Macros.{TakesArgument, before_last, building, left_of};
 
 use crate::targets::assign;
-use minijinja_code_expr::emit::Emitter;
 use minijinja_code_expr::expr::expression;
-use minijinja_code_expr::memory::{OutOfMemory, memory_alone};
+use minijinja_emitter::emit::Emitter;
+use minijinja_emitter::memory::{OutOfMemory, memory_alone};
 use minijinja_instructions::instructions::{Instruction, MACRO_CALLER};
 use minijinja_meta::meta::find_macro_closure;
 use minijinja_tree::ast::{Expr, Macro};
@@ -29,9 +33,12 @@ pub fn take<'s, V: TemplateValue>(
 ) -> Result<(), OutOfMemory>
     requires args { AreVariables (map (expr_tree V.contents) args.now) }
     requires defaults { AreAllWhole (map (expr_tree V.contents) defaults.now) }
-    ensures { OnOk result (Adds (made_of V.contents code.old) (made_of V.contents code.new)
+    ensures added { OnOk result (Adds (made_of V.contents code.old) (made_of V.contents code.new)
         (layout.taking V.functions (parameters (map (expr_tree V.contents) args.now)
         (map (expr_tree V.contents) defaults.now)))) }
+    ensures marked { OnOk result (margin_of code.new ≡ marks.taking V.functions
+        (reverse (node.trees V.contents args.now)) (reverse (node.trees V.contents defaults.now))
+        (margin_of code.old)) }
 {
     let mut left = args.split_last();
     let mut default = defaults.split_last();
@@ -52,10 +59,14 @@ fn take_argument<'s, V: TemplateValue>(
 ) -> Result<(), OutOfMemory>
     requires arg { IsVariable (expr_tree V.contents arg.now) }
     requires default { AreAllWhole (map (expr_tree V.contents) (left_of default)) }
-    ensures { OnOk result (TakesArgument V.functions (expr_tree V.contents arg.now)
+    ensures added { OnOk result (TakesArgument V.functions (expr_tree V.contents arg.now)
         (map (expr_tree V.contents) (left_of default.entry))
         (map (expr_tree V.contents) (before_last default.entry))
         (made_of V.contents code.old) (made_of V.contents code.new)) }
+    ensures marked { OnOk result (TakesMarks V.functions (node.expr_node V.contents arg.now)
+        (node.trees V.contents (left_of default.entry))
+        (node.trees V.contents (before_last default.entry)) (margin_of code.old)
+        (margin_of code.new)) }
 {
     match default {
         Some((default, _)) => {
@@ -84,8 +95,10 @@ fn take_default<'s, V: TemplateValue>(
     default: &Expr<'s, V>,
 ) -> Result<(), OutOfMemory>
     requires { IsWhole (expr_tree V.contents default.now) }
-    ensures { OnOk result (Adds (made_of V.contents code.old) (made_of V.contents code.new)
+    ensures added { OnOk result (Adds (made_of V.contents code.old) (made_of V.contents code.new)
         (layout.defaulting V.functions (present (expr_tree V.contents default.now)))) }
+    ensures marked { OnOk result (margin_of code.new ≡ marks.expr V.functions
+        (node.expr_node V.contents default.now) (marks.here 4 (margin_of code.old))) }
 {
     code.add(Instruction::DupTop)?;
     code.add(Instruction::IsUndefined)?;
@@ -102,8 +115,10 @@ pub fn build<'s, V: TemplateValue>(
     declared: &Macro<'s, V>,
     entry: usize,
 ) -> Result<(), OutOfMemory>
-    ensures { OnOk result (Adds (made_of V.contents code.old) (made_of V.contents code.new)
+    ensures added { OnOk result (Adds (made_of V.contents code.old) (made_of V.contents code.new)
         (building V.functions (macro_tree V.contents declared.now) entry)) }
+    ensures marked { OnOk result (margin_of code.new ≡ marks.here 3 (marks.here (length
+        (enclosed (macro_tree V.contents declared.now))) (margin_of code.old))) }
 {
     let flags = enclose(code, declared)?;
     code.add(Instruction::GetClosure)?;
@@ -121,6 +136,8 @@ fn enclose<'s, V: TemplateValue>(
         (λ flags. flags ≡ macro_flags (macro_tree V.contents declared.now)) }
     ensures added { OnOk result (Adds (made_of V.contents code.old) (made_of V.contents code.new)
         (layout.enclosing (enclosed (macro_tree V.contents declared.now)))) }
+    ensures marked { OnOk result (margin_of code.new ≡ marks.here (length
+        (enclosed (macro_tree V.contents declared.now))) (margin_of code.old)) }
 {
     let closure = memory_alone(find_macro_closure(code.alloc(), declared))?;
     let mut flags = 0;
@@ -139,8 +156,9 @@ fn load_names<'s, V: TemplateValue>(
     code: &mut Emitter<'s, V>,
     args: &[Expr<'s, V>],
 ) -> Result<(), OutOfMemory>
-    ensures { OnOk result (Adds (made_of V.contents code.old) (made_of V.contents code.new)
+    ensures added { OnOk result (Adds (made_of V.contents code.old) (made_of V.contents code.new)
         (one (Load (argument_names V.functions (map (expr_tree V.contents) args.now))))) }
+    ensures marked { OnOk result (margin_of code.new ≡ marks.here 1 (margin_of code.old)) }
 {
     let names = names_of(code.alloc(), args)?;
     let list = V::list(code.alloc(), names)?;

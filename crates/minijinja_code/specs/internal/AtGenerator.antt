@@ -6,7 +6,9 @@ use Rattle.minijinja_syntax.specs.Texts.{Text}
 use Rattle.minijinja_syntax.specs.declared.error.Error.{Error}
 use Rattle.minijinja_semantics.specs.Code.{Instr}
 use Rattle.minijinja_semantics.specs.Pieces.{Here}
-use Rattle.minijinja_code_expr.specs.internal.Making.{made_of, here_of}
+use Rattle.minijinja_semantics.specs.Marks.{Margin}
+use Rattle.minijinja_emitter.specs.internal.AtEmitter.{made_of, margin_of}
+use Rattle.minijinja_emitter.specs.internal.Making.{here_of}
 use Rattle.minijinja_code.specs.declared.codegen.CodeGenerator.{CodeGenerator}
 use Rattle.minijinja_instructions.specs.InstructionLists.{Instructions}
 
@@ -17,6 +19,10 @@ generated c g = (made_of c g.code).code
 -- the place after them, and the names of filters and tests that have an id
 abbrev pub here_so_far : {V F C : Type 0} → (V → C) → CodeGenerator V F → Here
 here_so_far c g = here_of (made_of c g.code)
+
+-- the marks of the instructions so far, the line in force, and the span that is open
+abbrev pub margin_so_far : {V F : Type 0} → CodeGenerator V F → Margin
+margin_so_far g = margin_of g.code
 
 -- the name and the text of the source
 abbrev pub file_of : {V F : Type 0} → CodeGenerator V F → Text

@@ -6,20 +6,28 @@ ghost use Rattle.minijinja_tree.specs.WellFormed.{AreDistinct, AreInner};
 ghost use Rattle.minijinja_tree.specs.declared.ast.Stmt.{size-Stmt};
 ghost use Rattle.minijinja_instructions.specs.Instructions.{instr_of};
 ghost use Rattle.minijinja_code.specs.BlockLists.{AddsLists};
+ghost use Rattle.minijinja_code.specs.BlockMarks.{marked_blocks};
 ghost use Rattle.minijinja_code.specs.Generator.{HaveTooLong};
 ghost use Rattle.minijinja_code.specs.declared.codegen.lists.ListError.TheVariants.{TooMany};
-ghost use Rattle.minijinja_code.specs.private.Lists.{block_tree, bodies_of, own_block};
+ghost use Rattle.minijinja_code.specs.private.Lists.{AddsMarks, block_tree, bodies_of, marked_block, marked_bodies_of, own_block, own_marked};
 ghost use Rattle.minijinja_code.specs.private.Statements.{StandsSomewhere};
-ghost use Rattle.minijinja_code_expr.specs.internal.Making.{capped};
+ghost use Rattle.minijinja_emitter.specs.internal.Making.{capped};
+ghost use Rattle.minijinja_tree.specs.Nodes.{node_of};
+ghost use Rattle.minijinja_tree.specs.SpannedErasure.{stmt_node, stmt_nodes};
+ghost use Rattle.minijinja_tree.specs.SpannedTrees as spanned;
 ghost use Rattle.minijinja_semantics.specs.Layout as layout;
+ghost use Rattle.minijinja_semantics.specs.Marks.{block_marks};
+ghost use Rattle.minijinja_instructions.specs.MarkLists.{marks_in};
 
 use crate::stmt::statements;
-use minijinja_code_expr::emit::Emitter;
-use minijinja_code_expr::memory;
 use minijinja_code_parts::enclosing_loop::EnclosingLoop;
+use minijinja_emitter::emit::Emitter;
+use minijinja_emitter::memory;
 use minijinja_instructions::instructions::{Instruction, Instructions};
 use minijinja_instructions::lists::{LIMIT, listed};
-use minijinja_tree::ast::{Block, Stmt};
+use minijinja_instructions::marks::MarkList;
+use minijinja_syntax::tokens::Span;
+use minijinja_tree::ast::{Block, Spanned, Stmt};
 use minijinja_value::value::TemplateValue;
 use std::alloc::{AllocError, AllocFailed, Global};
 use std::collections::BTreeMap;
@@ -87,6 +95,8 @@ pub(super) fn add_lists<'s, V: TemplateValue>(
     requires names { AreDistinct (block_names (stmt_tree V.contents stmt.now)) }
     ensures added { OnOk result (AddsLists V.functions V.contents source.entry.text.now
         source.entry.name.now (blocks (stmt_tree V.contents stmt.now)) lists.old lists.new) }
+    ensures marked { OnOk result (AddsMarks V.functions
+        (marked_blocks (stmt_node V.contents stmt.now)) lists.old lists.new) }
     ensures too_many { IfErr result (λ error. error ≡ TooMany → HaveTooLong V.functions
         (blocks (stmt_tree V.contents stmt.now))) }
 {
@@ -139,6 +149,8 @@ fn nests<V: TemplateValue>(stmt: &Stmt<'_, V>) -> bool
 fn body<'a, 's, V: TemplateValue>(stmt: &'a Stmt<'s, V>) -> &'a [Stmt<'s, V>]
     ensures is { stmts_of (map (stmt_tree V.contents) result.now)
         ≡ (bodies_of (stmt_tree V.contents stmt.now)).0 }
+    ensures nodes { spanned.stmts_of (stmt_nodes V.contents result.now)
+        ≡ (marked_bodies_of (stmt_node V.contents stmt.now)).0 }
     ensures smaller { All (λ inner. size-Stmt _ _ inner < size-Stmt _ _ stmt.now) result.now }
 {
     match stmt {
@@ -169,6 +181,8 @@ fn body<'a, 's, V: TemplateValue>(stmt: &'a Stmt<'s, V>) -> &'a [Stmt<'s, V>]
 fn else_body<'a, 's, V: TemplateValue>(stmt: &'a Stmt<'s, V>) -> &'a [Stmt<'s, V>]
     ensures is { stmts_of (map (stmt_tree V.contents) result.now)
         ≡ (bodies_of (stmt_tree V.contents stmt.now)).1 }
+    ensures nodes { spanned.stmts_of (stmt_nodes V.contents result.now)
+        ≡ (marked_bodies_of (stmt_node V.contents stmt.now)).1 }
     ensures smaller { All (λ inner. size-Stmt _ _ inner < size-Stmt _ _ stmt.now) result.now }
 {
     match stmt {
@@ -205,11 +219,13 @@ fn add_list_of<'s, V: TemplateValue>(
     requires { StandsSomewhere (stmt_tree V.contents stmt.now) }
     ensures added { OnOk result (AddsLists V.functions V.contents source.entry.text.now
         source.entry.name.now (own_block (stmt_tree V.contents stmt.now)) lists.old lists.new) }
+    ensures marked { OnOk result (AddsMarks V.functions
+        (own_marked (stmt_node V.contents stmt.now)) lists.old lists.new) }
     ensures too_many { IfErr result (λ error. error ≡ TooMany → HaveTooLong V.functions
         (own_block (stmt_tree V.contents stmt.now))) }
 {
     match stmt {
-        Stmt::Block(block) => add_list(lists, alloc, source, block.node()),
+        Stmt::Block(block) => add_list(lists, alloc, source, block),
         _ => Ok(()),
     }
 }
@@ -220,35 +236,52 @@ fn add_list<'s, V: TemplateValue>(
     lists: &mut Lists<'s, V>,
     alloc: Global,
     source: Source<'s>,
-    block: &Block<'s, V>,
+    block: &Spanned<Block<'s, V>>,
 ) -> Result<(), ListError>
-    requires { AreInner false (block_tree V.contents block.now).body }
+    requires { AreInner false (block_tree V.contents (node_of block.now)).body }
     ensures added { OnOk result (AddsLists V.functions V.contents source.entry.text.now
-        source.entry.name.now (block_tree V.contents block.now ∷ []) lists.old lists.new) }
+        source.entry.name.now (block_tree V.contents (node_of block.now) ∷ []) lists.old
+        lists.new) }
+    ensures marked { OnOk result (AddsMarks V.functions (marked_block V.contents block.now ∷ [])
+        lists.old lists.new) }
     ensures too_many { IfErr result (λ error. error ≡ TooMany → 2 ^ 32 ≤ length
-        (layout.block_code V.functions (block_tree V.contents block.now).body)) }
+        (layout.block_code V.functions (block_tree V.contents (node_of block.now)).body)) }
 {
-    let instructions = body_code(alloc, &block.body)?;
+    let span = block.span();
+    let block = block.node();
+    let (instructions, marks) = body_code(alloc, &block.body, span)?;
     if instructions.len() >= LIMIT {
         return Err(ListError::TooMany);
     }
-    let list = listed(instructions, source.name, source.text, block.required);
+    let list = listed(
+        instructions,
+        marks,
+        source.name,
+        source.text,
+        block.required,
+    );
     lists.insert(block.name, list)?;
     Ok(())
 }
 
-/// The instructions of a body, as a list of their own.
+/// The instructions of a block's body, as a list of their own, and the line and the span of each.
+/// The list begins on the line of the block, whose span this is.
 fn body_code<'s, V: TemplateValue>(
     alloc: Global,
     body: &[Stmt<'s, V>],
-) -> Result<Vec<Instruction<'s, V>>, memory::OutOfMemory>
+    span: Span,
+) -> Result<(Vec<Instruction<'s, V>>, MarkList), memory::OutOfMemory>
     requires { AreInner false (stmts_of (map (stmt_tree V.contents) body.now)) }
-    ensures { IfOk result (λ code. map (instr_of V.contents) code.items ≡ map capped
+    ensures code { IfOk result (λ made. map (instr_of V.contents) made.0.items ≡ map capped
         (layout.block_code V.functions (stmts_of (map (stmt_tree V.contents) body.now)))) }
+    ensures marks { IfOk result (λ made. marks_in made.1 ≡ block_marks V.functions span
+        (spanned.stmts_of (stmt_nodes V.contents body.now))) }
+    ensures as_many { IfOk result (λ made. length (marks_in made.1) ≡ length made.0.items) }
 {
     let mut code = Emitter::new(alloc);
+    code.on_line(span);
     code.make_room(body.len().saturating_mul(2))?;
     let mut enclosing = EnclosingLoop::outside(alloc);
     statements(&mut code, &mut enclosing, body)?;
-    Ok(code.into_list())
+    Ok(code.into_parts())
 }

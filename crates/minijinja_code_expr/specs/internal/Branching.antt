@@ -2,7 +2,7 @@
 use Rattle.std.specs.Prelude.{◌≡◌, ℕ, length, slice_set}
 use Rattle.minijinja_semantics.specs.Code.{Instr, Jump, JumpIfFalse}
 use Rattle.minijinja_semantics.specs.Pieces.{one}
-use Rattle.minijinja_code_expr.specs.internal.Making.{Made, Adds, hole, reach}
+use Rattle.minijinja_emitter.specs.internal.Making.{Made, Adds, hole, reach}
 
 -- what is being made, with an instruction at a place
 abbrev pub set_at : {C : Type 0} → Made C → ℕ → Instr C → Made C

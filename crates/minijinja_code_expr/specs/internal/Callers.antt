@@ -11,7 +11,8 @@ use Rattle.minijinja_semantics.specs.Pieces.{Piece, nothing, one, ◌▸◌}
 use Rattle.minijinja_semantics.specs.Places.{before_caller}
 use Rattle.minijinja_code_expr.specs.declared.arguments.Counts.{Counts}
 use Rattle.minijinja_code_expr.specs.internal.Calling.{captured}
-use Rattle.minijinja_code_expr.specs.internal.Making.{Made, Adds, count_of, operands}
+use Rattle.minijinja_emitter.specs.internal.Making.{Made, Adds}
+use Rattle.minijinja_code_expr.specs.internal.Parts.{count_of, operands}
 
 -- these are the counts of the arguments of a call with so many operands below them, whose last
 -- keyword argument is a macro

@@ -6,7 +6,7 @@ use Rattle.minijinja_tree.specs.Callees.{Callee, function, method, block, object
 use Rattle.minijinja_tree.specs.Operators.{Working, Makes, Divides, IfTrue, IfFalse}
 use Rattle.minijinja_semantics.specs.Layout.{expr}
 use Rattle.minijinja_semantics.specs.Pieces.{Piece, nothing, one}
-use Rattle.minijinja_code_expr.specs.internal.Making.{Made, Adds, hole}
+use Rattle.minijinja_emitter.specs.internal.Making.{Made, Adds, hole}
 
 -- what a call is made on
 abbrev pub called_on : {C : Type 0} → Callee C → Option (Expr C)

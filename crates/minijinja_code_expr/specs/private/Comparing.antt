@@ -11,7 +11,7 @@ use Rattle.minijinja_semantics.specs.Code.{Instr, Load, Jump, JumpIfFalseOrPop, 
 use Rattle.minijinja_semantics.specs.Pieces.{behind, Piece, nothing, one, ◌▸◌, plain, skipping}
 use Rattle.minijinja_semantics.specs.Layout.{Failing, expr, comparisons}
 use Rattle.minijinja_code_expr.specs.declared.chain.Jumps.{Jumps}
-use Rattle.minijinja_code_expr.specs.internal.Making.{Made, here_of, reach, capped}
+use Rattle.minijinja_emitter.specs.internal.Making.{Made, here_of, reach, capped}
 
 -- the places of jumps, in order
 abbrev pub places_of : Jumps → List ℕ

@@ -9,7 +9,7 @@ use Rattle.minijinja_tree.specs.WellFormed.{IsWhole}
 use Rattle.minijinja_semantics.specs.Code.{Instr}
 use Rattle.minijinja_semantics.specs.Layout.{expr}
 use Rattle.minijinja_code_expr.specs.internal.Leading.{before_right}
-use Rattle.minijinja_code_expr.specs.internal.Making.{Made, Adds, alone, between}
+use Rattle.minijinja_emitter.specs.internal.Making.{Made, Adds, alone, between}
 
 -- both sides of an operator were added: the left one from `start` to `middle`, and the right one
 -- after room for a jump

@@ -6,7 +6,7 @@ use Rattle.minijinja_semantics.specs.Code.{Instr, Jump}
 use Rattle.minijinja_semantics.specs.Layout.{stmt, stmts}
 use Rattle.minijinja_semantics.specs.Pieces.{Leading, Exits, Open, leading_to}
 use Rattle.minijinja_code_parts.specs.Hint.{data_bytes, all_data_bytes}
-use Rattle.minijinja_code_expr.specs.internal.Making.{Made, Adds, reach}
+use Rattle.minijinja_emitter.specs.internal.Making.{Made, Adds, reach}
 
 -- The loop around what is being compiled: whether there is one, the place where it asks for its
 -- next item, what is open within it, the innermost first, and the places of jumps to its end, which

@@ -6,7 +6,7 @@ use Rattle.minijinja_semantics.specs.Code.{PushLoop, Jump, Iterate}
 use Rattle.minijinja_semantics.specs.Layout.{target, popping}
 use Rattle.minijinja_semantics.specs.Meaning.{loop_flags}
 use Rattle.minijinja_semantics.specs.Pieces.{behind, Piece, Open, one, closing_instructions}
-use Rattle.minijinja_code_expr.specs.internal.Making.{Made, Adds, hole, reach}
+use Rattle.minijinja_emitter.specs.internal.Making.{Made, Adds, hole, reach}
 use Rattle.minijinja_code_parts.specs.internal.EnclosingLoops.{Around, with_ends}
 
 -- a loop was begun, the place where it asks for its next item was reserved, and its target was

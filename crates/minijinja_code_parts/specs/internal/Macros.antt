@@ -8,7 +8,7 @@ use Rattle.minijinja_semantics.specs.Events.{GetClosure}
 use Rattle.minijinja_semantics.specs.Layout.{enclosing, taking}
 use Rattle.minijinja_semantics.specs.Macros.{enclosed, macro_flags, argument_names}
 use Rattle.minijinja_semantics.specs.Pieces.{Piece, one, ◌▸◌}
-use Rattle.minijinja_code_expr.specs.internal.Making.{Made, Adds}
+use Rattle.minijinja_emitter.specs.internal.Making.{Made, Adds}
 
 -- what makes a macro whose body begins at a place, after that body
 abbrev pub building : {C L F : Type 0} → Functions C F → Macro C L → (entry : ℕ) → Piece C

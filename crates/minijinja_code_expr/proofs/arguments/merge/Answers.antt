@@ -1,5 +1,7 @@
 use Rattle.std.proofs.Common.{sym, arith}
-use Rattle.minijinja_code_expr.proofs.Adding.{adds_as}
+use Rattle.minijinja_emitter.specs.internal.AtEmitter.{margin_of}
+use Rattle.minijinja_emitter.proofs.Adding.{adds_as}
+use Rattle.minijinja_code_expr.proofs.ArgumentMarks.{merged_alone_marks, merged_marks}
 use Rattle.minijinja_code_expr.proofs.CallArguments.{merged_alone, adds_merged, map_count_alone, map_count_more}
 use Rattle.minijinja_code_expr.proofs.arguments.merge.Goals as goal
 
@@ -16,4 +18,11 @@ returns-clause-count g c = sym (map_count_more c.args.count.batches c.args.count
 
 pub returns-clause-added : goal.returns-clause-added
 returns-clause-added g c =
-    adds_merged c.args.count.batches c.args.count.waiting c.closed-2.result (omega (arith, c.if-count-eq0.false)) c.closed-2.ensures c.in_ok-close_map.ensures.added c.in_ok-add.ensures
+    adds_merged c.args.count.batches c.args.count.waiting c.closed-2.result (omega (arith, c.if-count-eq0.false)) c.closed-2.ensures c.in_ok-close_map.ensures.added c.in_ok-add.ensures.added
+
+pub returns-then-count-eq0-clause-marked : goal.returns-then-count-eq0-clause-marked
+returns-then-count-eq0-clause-marked g c = merged_alone_marks c.args.count.batches c.args.count.waiting (margin_of c.args.code.now) c.if-count-eq0.true c.in_ok-close_map.ensures.marked
+
+pub returns-clause-marked : goal.returns-clause-marked
+returns-clause-marked g c =
+    merged_marks c.args.count.batches c.args.count.waiting (margin_of c.args.code.now) (omega (arith, c.if-count-eq0.false)) c.in_ok-close_map.ensures.marked c.in_ok-add.ensures.marked

@@ -1,6 +1,6 @@
 use Rattle.std.proofs.Common.{arith}
 use Rattle.minijinja_tree.specs.Erasure.{args_of}
-use Rattle.minijinja_code_expr.specs.internal.Making.{count_of}
+use Rattle.minijinja_code_expr.specs.internal.Parts.{count_of}
 use Rattle.minijinja_code_expr.proofs.CallArguments.{keyword_bound}
 use Rattle.minijinja_code_expr.proofs.arguments.up_to_caller.Goals as goal
 

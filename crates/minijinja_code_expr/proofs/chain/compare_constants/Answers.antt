@@ -1,6 +1,7 @@
 use Rattle.std.proofs.Common.{Some, None, length}
 use Rattle.minijinja_tree.specs.Erasure.{compare_op}
-use Rattle.minijinja_code_expr.specs.internal.Making.{made_of, alone, between}
+use Rattle.minijinja_emitter.specs.internal.AtEmitter.{made_of}
+use Rattle.minijinja_emitter.specs.internal.Making.{alone, between}
 use Rattle.minijinja_code_expr.proofs.ChainFolds.{up_to_end, known_both, known_left, known_right, known_nothing}
 use Rattle.minijinja_code_expr.proofs.Results.{ok_value, ok_value_gives}
 use Rattle.minijinja_code_expr.proofs.chain.compare_constants.Goals as goal

@@ -1,5 +1,5 @@
 use Rattle.std.proofs.Common.{Some, sym}
-use Rattle.minijinja_code_expr.specs.internal.Making.{made_of}
+use Rattle.minijinja_emitter.specs.internal.AtEmitter.{made_of}
 use Rattle.minijinja_code_expr.proofs.ChainFolds.{held_from, up_to_end}
 use Rattle.minijinja_code_expr.proofs.chain.first_constant.Goals as goal
 

@@ -3,6 +3,6 @@ use Rattle.minijinja_code_expr.proofs.Finishing.{test_performed}
 use Rattle.minijinja_code_expr.proofs.Results.{ok_gives}
 use Rattle.minijinja_code_expr.proofs.expr.perform_test.Goals as goal
 
-pub returns : goal.returns
-returns g c =
-    ok_gives c.add.result (λ s. test_performed c.args.name.now c.args.count c.args.count c.in_ok-id.id c.in_ok-id.ensures.noted c.in_ok-id.ensures.id refl s) c.add.ensures
+pub returns-clause-added : goal.returns-clause-added
+returns-clause-added g c =
+    ok_gives c.add.result (λ s. test_performed c.args.name.now c.args.count c.args.count c.in_ok-id.id c.in_ok-id.ensures.noted c.in_ok-id.ensures.id refl s) c.add.ensures.added

@@ -1,9 +1,15 @@
-use Rattle.std.proofs.Common.{◌≡◌, false, true, ap, subst, ◌∙◌}
+use Rattle.std.proofs.Common.{◌≡◌, false, true, ap, refl, subst, ◌∙◌}
 use Rattle.std.specs.Prelude.{is_some}
+use Rattle.minijinja_tree.specs.Callees.{callee}
 use Rattle.minijinja_tree.specs.Erasure.{expr_tree}
+use Rattle.minijinja_tree.specs.Nodes.{span_of}
+use Rattle.minijinja_tree.specs.SpannedErasure.{expr_node}
+use Rattle.minijinja_tree_expr.proofs.Bare.{expr_is}
 use Rattle.minijinja_tree_expr.proofs.SpannedNodes.{compare_is}
 use Rattle.minijinja_code_expr.specs.internal.Leading.{leading}
+use Rattle.minijinja_code_expr.specs.internal.NodeMarks.{called_on_node, leading_node}
 use Rattle.minijinja_code_expr.proofs.Arms.{compare_arm, slice_arm, unary_arm, binary_arm, if_arm, test_arm, attribute_arm, item_arm, call_arm}
+use Rattle.minijinja_code_expr.proofs.NodeArms.{spanned_call, spanned_compare}
 use Rattle.minijinja_code_expr.proofs.leading.leading_operand.Goals as goal
 
 pub returns-in-Compare-clause-operand : goal.returns-in-Compare-clause-operand
@@ -35,6 +41,17 @@ returns-in-GetItem-clause-operand g c = ap leading (item_arm g.V.TemplateValue.c
 
 pub returns-in-Call-clause-operand : goal.returns-in-Call-clause-operand
 returns-in-Call-clause-operand g c = ap leading (call_arm g.V.TemplateValue.contents c.args.node.now c.in-Call.call c.node-in-Call.result.now c.in-Call.is c.node-in-Call.ensures) ∙ c.called_operand.ensures.operand
+
+pub returns-in-Compare-clause-node : goal.returns-in-Compare-clause-node
+returns-in-Compare-clause-node g c = ap leading_node (spanned_compare g.V.TemplateValue.contents c.args.node.now c.in-Compare.chain c.node-in-Compare.result.now (span_of c.in-Compare.chain) c.in-Compare.is c.node-in-Compare.ensures refl)
+
+pub returns-in-Call-clause-node : goal.returns-in-Call-clause-node
+returns-in-Call-clause-node g c =
+    let v = g.V.TemplateValue.contents in
+    let n = c.node-in-Call.result.now in
+    ap leading_node (spanned_call v c.args.node.now c.in-Call.call n (span_of c.in-Call.call) c.in-Call.is c.node-in-Call.ensures refl)
+    ∙ ap (λ e. called_on_node (callee e) (expr_node v n.expr)) (expr_is v n.expr)
+    ∙ c.called_operand.ensures.node
 
 pub unreachable-requires-in-Var : goal.unreachable-requires-in-Var
 unreachable-requires-in-Var g c =

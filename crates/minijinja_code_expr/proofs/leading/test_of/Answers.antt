@@ -1,9 +1,11 @@
 use Rattle.std.proofs.Common.{sym, ap, ◌∙◌, refl}
 use Rattle.minijinja_tree.specs.Erasure.{expr_tree}
-use Rattle.minijinja_tree.specs.Nodes.{node_of}
+use Rattle.minijinja_tree.specs.Nodes.{node_of, span_of}
 use Rattle.minijinja_tree_expr.proofs.SpannedNodes.{compare_is}
 use Rattle.minijinja_code_expr.specs.internal.Leading.{test_in}
+use Rattle.minijinja_code_expr.specs.internal.NodeMarks.{test_node}
 use Rattle.minijinja_code_expr.proofs.Arms.{compare_arm, if_arm}
+use Rattle.minijinja_code_expr.proofs.NodeArms.{spanned_compare}
 use Rattle.minijinja_code_expr.proofs.leading.test_of.Goals as goal
 
 pub returns-in-Compare-clause-test : goal.returns-in-Compare-clause-test
@@ -94,3 +96,8 @@ returns-in-Compare-clause-smaller g c = tt
 
 pub returns-in-IfExpr-clause-test : goal.returns-in-IfExpr-clause-test
 returns-in-IfExpr-clause-test g c = sym (ap (λ e. test_in e) (if_arm g.V.TemplateValue.contents c.args.node.now c.in-IfExpr.choice c.node.result.now c.in-IfExpr.is c.node.ensures))
+
+pub returns-in-Compare-clause-node : goal.returns-in-Compare-clause-node
+returns-in-Compare-clause-node g c =
+    let s = c.in-Compare.field-0 in
+    sym (ap (λ e. test_node e) (spanned_compare g.V.TemplateValue.contents c.args.node.now s (node_of s) (span_of s) c.in-Compare.is refl refl))

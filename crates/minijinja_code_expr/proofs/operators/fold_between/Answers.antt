@@ -1,7 +1,8 @@
 use Rattle.std.proofs.Common.{ap, ◌∙◌, ◌≤◌, length, arith}
 use Rattle.minijinja_tree.specs.Erasure.{bin_op}
 use Rattle.minijinja_tree.specs.Operators.{working}
-use Rattle.minijinja_code_expr.specs.internal.Making.{made_of, alone, between}
+use Rattle.minijinja_emitter.specs.internal.AtEmitter.{made_of}
+use Rattle.minijinja_emitter.specs.internal.Making.{alone, between}
 use Rattle.minijinja_code_expr.proofs.OperatorCode.{known_both, known_not_left, known_not_right}
 use Rattle.minijinja_code_expr.proofs.Results.{ok_value, ok_value_gives}
 use Rattle.minijinja_code_expr.proofs.operators.fold_between.Goals as goal

@@ -1,7 +1,7 @@
 use Rattle.std.proofs.Common.{◌∙◌, ◌<◌, ◌^◌, length, sym, subst}
 use Rattle.minijinja_tree.specs.Erasure.{expr_tree}
 use Rattle.minijinja_semantics.specs.Layout as layout
-use Rattle.minijinja_code_expr.specs.internal.Making.{made_of}
+use Rattle.minijinja_emitter.specs.internal.AtEmitter.{made_of}
 use Rattle.minijinja_code.proofs.Ending.{outcome_ok, both_ok, if_none, too_long}
 use Rattle.minijinja_code.proofs.Uncapped.{target_uncapped}
 use Rattle.minijinja_code_expr.proofs.Results.{ok_gives}
@@ -14,7 +14,7 @@ returns-clause-added g c =
     let m = made_of v c.args.self.now.code in
     let e = expr_tree v c.args.target.now in
     let r = c.ended.result in
-    let adds = outcome_ok _ r c.assign-outcome.result tt c.ended.ensures.outcome c.assign-outcome.ensures in
+    let adds = outcome_ok _ r c.assign-outcome.result tt c.ended.ensures.outcome c.assign-outcome.ensures.added in
     both_ok r adds c.ended.ensures.few (λ s small. c.ended.ensures.code ∙ target_uncapped f e s small)
 
 pub returns-clause-past : goal.returns-clause-past
@@ -24,7 +24,7 @@ returns-clause-past g c =
     let m = made_of v c.args.self.now.code in
     let e = expr_tree v c.args.target.now in
     let r = c.ended.result in
-    let adds = outcome_ok _ r c.assign-outcome.result tt c.ended.ensures.outcome c.assign-outcome.ensures in
+    let adds = outcome_ok _ r c.assign-outcome.result tt c.ended.ensures.outcome c.assign-outcome.ensures.added in
     ok_gives r (λ s. c.ended.ensures.here ∙ s.past) adds
 
 pub returns-clause-few : goal.returns-clause-few
@@ -38,5 +38,10 @@ returns-clause-too_many g c =
     let m = made_of v c.args.self.now.code in
     let e = expr_tree v c.args.target.now in
     let r = c.ended.result in
-    let adds = outcome_ok _ r c.assign-outcome.result tt c.ended.ensures.outcome c.assign-outcome.ensures in
-    if_none c.args.self.now.refusal (too_long r c.assign-outcome.result tt m (made_of v c.assign-outcome.new.code) (layout.target f e) c.ended.ensures.too_many c.assign-outcome.ensures)
+    let adds = outcome_ok _ r c.assign-outcome.result tt c.ended.ensures.outcome c.assign-outcome.ensures.added in
+    if_none c.args.self.now.refusal (too_long r c.assign-outcome.result tt m (made_of v c.assign-outcome.new.code) (layout.target f e) c.ended.ensures.too_many c.assign-outcome.ensures.added)
+
+pub returns-clause-marked : goal.returns-clause-marked
+returns-clause-marked g c =
+    let r = c.ended.result in
+    ok_gives r (λ s. c.ended.ensures.margin ∙ s) (outcome_ok _ r c.assign-outcome.result tt c.ended.ensures.outcome c.assign-outcome.ensures.marked)

@@ -5,7 +5,8 @@ use Rattle.minijinja_semantics.specs.Correct.{DoesExpr}
 use Rattle.minijinja_semantics.specs.Laws.{Laws}
 use Rattle.minijinja_semantics.proofs.Whole.{expression_does}
 use Rattle.minijinja_semantics.specs.Layout as layout
-use Rattle.minijinja_code_expr.specs.internal.Making.{made_of, here_of}
+use Rattle.minijinja_emitter.specs.internal.AtEmitter.{made_of}
+use Rattle.minijinja_emitter.specs.internal.Making.{here_of}
 use Rattle.minijinja_code.proofs.Ending.{outcome_ok, both_ok, if_none, too_long}
 use Rattle.minijinja_code.proofs.Uncapped.{expr_uncapped}
 use Rattle.minijinja_code_expr.proofs.Results.{ok_gives}
@@ -18,7 +19,7 @@ returns-clause-added g c =
     let m = made_of v c.args.self.now.code in
     let e = expr_tree v c.args.expr.now in
     let r = c.ended.result in
-    let adds = outcome_ok _ r c.expression-outcome.result tt c.ended.ensures.outcome c.expression-outcome.ensures in
+    let adds = outcome_ok _ r c.expression-outcome.result tt c.ended.ensures.outcome c.expression-outcome.ensures.added in
     both_ok r adds c.ended.ensures.few (λ s small. c.ended.ensures.code ∙ expr_uncapped f e s small)
 
 pub returns-clause-past : goal.returns-clause-past
@@ -28,7 +29,7 @@ returns-clause-past g c =
     let m = made_of v c.args.self.now.code in
     let e = expr_tree v c.args.expr.now in
     let r = c.ended.result in
-    let adds = outcome_ok _ r c.expression-outcome.result tt c.ended.ensures.outcome c.expression-outcome.ensures in
+    let adds = outcome_ok _ r c.expression-outcome.result tt c.ended.ensures.outcome c.expression-outcome.ensures.added in
     ok_gives r (λ s. c.ended.ensures.here ∙ s.past) adds
 
 pub returns-clause-few : goal.returns-clause-few
@@ -42,8 +43,8 @@ returns-clause-too_many g c =
     let m = made_of v c.args.self.now.code in
     let e = expr_tree v c.args.expr.now in
     let r = c.ended.result in
-    let adds = outcome_ok _ r c.expression-outcome.result tt c.ended.ensures.outcome c.expression-outcome.ensures in
-    if_none c.args.self.now.refusal (too_long r c.expression-outcome.result tt m (made_of v c.expression-outcome.new.code) (layout.expr f e) c.ended.ensures.too_many c.expression-outcome.ensures)
+    let adds = outcome_ok _ r c.expression-outcome.result tt c.ended.ensures.outcome c.expression-outcome.ensures.added in
+    if_none c.args.self.now.refusal (too_long r c.expression-outcome.result tt m (made_of v c.expression-outcome.new.code) (layout.expr f e) c.ended.ensures.too_many c.expression-outcome.ensures.added)
 
 pub returns-clause-does : goal.returns-clause-does
 returns-clause-does g c =
@@ -52,8 +53,13 @@ returns-clause-does g c =
     let m = made_of v c.args.self.now.code in
     let e = expr_tree v c.args.expr.now in
     let r = c.ended.result in
-    let adds = outcome_ok _ r c.expression-outcome.result tt c.ended.ensures.outcome c.expression-outcome.ensures in
+    let adds = outcome_ok _ r c.expression-outcome.result tt c.ended.ensures.outcome c.expression-outcome.ensures.added in
     let laws : Laws f = record { truth = g.met.V.TemplateValue.is_true_of_bool; count = g.met.V.TemplateValue.as_count_of_u64; one_more = g.met.V.TemplateValue.add_one } in
     both_ok r adds c.ended.ensures.few (λ s small.
     subst (λ (code : List (Instr g.V.TemplateValue.Contents)). DoesExpr f code (length m.code) (length code) e) (sym (c.ended.ensures.code ∙ expr_uncapped f e s small))
     (expression_does f laws m.code (here_of m) e refl c.requires))
+
+pub returns-clause-marked : goal.returns-clause-marked
+returns-clause-marked g c =
+    let r = c.ended.result in
+    ok_gives r (λ s. c.ended.ensures.margin ∙ s) (outcome_ok _ r c.expression-outcome.result tt c.ended.ensures.outcome c.expression-outcome.ensures.marked)

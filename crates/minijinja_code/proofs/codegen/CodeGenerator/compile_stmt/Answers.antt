@@ -8,10 +8,11 @@ use Rattle.minijinja_semantics.specs.Laws.{Laws}
 use Rattle.minijinja_semantics.specs.Places.{placed_stmt}
 use Rattle.minijinja_semantics.specs.Units.{DoUnits}
 use Rattle.minijinja_semantics.proofs.Whole.{statement_does, statement_units_do}
-use Rattle.minijinja_code_expr.specs.internal.Making.{made_of, here_of}
+use Rattle.minijinja_emitter.specs.internal.AtEmitter.{made_of}
+use Rattle.minijinja_emitter.specs.internal.Making.{here_of}
 use Rattle.minijinja_code.specs.Generator.{OnlyWhereOneIsTooLong}
 use Rattle.minijinja_code.specs.private.Statements.{stmt_piece}
-use Rattle.minijinja_code_expr.specs.declared.memory.OutOfMemory.{OutOfMemory}
+use Rattle.minijinja_emitter.specs.declared.memory.OutOfMemory.{OutOfMemory}
 use Rattle.minijinja_code.proofs.Ending.{always_ok, block_too_long, if_none, one_too_long, never_ok, never_long}
 use Rattle.minijinja_code.proofs.OwnBlocks.{passed_on}
 use Rattle.minijinja_code.proofs.Uncapped.{stmt_uncapped}
@@ -110,3 +111,12 @@ returns-in-Err-clause-counted g c = never_ok _ c.ended-in-Err.result c.in-Err.re
 
 pub returns-in-Err-clause-too_many : goal.returns-in-Err-clause-too_many
 returns-in-Err-clause-too_many g c = if_none c.args.self.now.refusal (never_long _ _ c.ended-in-Err.result c.in-Err.refused tt c.ended-in-Err.ensures.too_many)
+
+pub returns-in_ok-ended-in-Ok-clause-marked : goal.returns-in_ok-ended-in-Ok-clause-marked
+returns-in_ok-ended-in-Ok-clause-marked g c = always_ok c.add_lists.result (c.add_lists.ensures.margin ∙ c.ended.ensures.margin ∙ c.in-Ok.ensures.marked)
+
+pub returns-in-Err-clause-marked : goal.returns-in-Err-clause-marked
+returns-in-Err-clause-marked g c = never_ok _ c.ended-in-Err.result c.in-Err.refused tt c.ended-in-Err.ensures.outcome
+
+pub returns-in-Err-clause-block_marks : goal.returns-in-Err-clause-block_marks
+returns-in-Err-clause-block_marks g c = never_ok _ c.ended-in-Err.result c.in-Err.refused tt c.ended-in-Err.ensures.outcome

@@ -1,8 +1,0 @@
-use Rattle.minijinja_code_expr.specs.internal.Making.{made_of}
-use Rattle.minijinja_code_expr.proofs.Constants.{joined_there}
-use Rattle.minijinja_code_expr.proofs.emit.Emitter.join.Goals as goal
-
-pub returns : goal.returns
-returns g c =
-    let v = g.V.TemplateValue.contents in
-    joined_there g.V.TemplateValue.functions v c.args.place (v c.args.right.now) (made_of v c.args.self.now) (made_of v c.take_constant.new.self) (made_of v c.replace.new.self) c.in-Some.left c.in_ok-joined.joined c.in-Some.ensures c.in_ok-joined.ensures c.in_ok-replace.ensures

@@ -1,0 +1,4 @@
+pub mod Adding
+pub mod Constants
+pub mod Counting
+pub mod FoundNames
