@@ -1,5 +1,5 @@
 -- The main theorem: the code of a text is that of its one tree, and does what the tree means.
-use Rattle.std.specs.Prelude.{◌≡◌, ◌≢◌, ◌<◌, ◌≤◌, ◌^◌, ◌⊎◌, ⊤, false, List, length, None, All, Any, codes, MatchResult, Result}
+use Rattle.std.specs.Prelude.{◌≡◌, ◌≢◌, ◌<◌, ◌≤◌, ◌^◌, ◌⊎◌, ⊤, false, List, length, None, All, Any, Contains, codes, MatchResult, Result}
 use Rattle.std.specs.Borrow.{Bor}
 use Rattle.std.specs.BTreeMap.{BTreeMap, keys}
 use Rattle.minijinja_syntax.specs.Texts.{Text}
@@ -9,20 +9,26 @@ use Rattle.minijinja_syntax.specs.Errors.{IsOutOfMemory, kind_of, span_of}
 use Rattle.minijinja_syntax.specs.declared.error.Error.{Error}
 use Rattle.minijinja_syntax.specs.declared.error.ErrorKind.TheVariants.{OutOfMemory, SourceTooLong, TooManyInstructions}
 use Rattle.minijinja_lexer.specs.Stream.{IsNamed}
+use Rattle.minijinja_grammar.specs.TokenSpans.{IsOfTokens}
+use Rattle.minijinja_tree.specs.SpannedTrees as spanned
+use Rattle.minijinja_tree.specs.SpannedTrees.{bare_expr, bare_stmt}
+use Rattle.minijinja_tree.specs.Standing.{Stands, StmtStands}
 use Rattle.minijinja_tree.specs.Tree.{Block, Expr, Stmt, blocks}
 use Rattle.minijinja_parser.specs.Causes.{IsRefusal}
-use Rattle.minijinja_parser.specs.Derived.{IsDerived, IsExprDerived}
+use Rattle.minijinja_parser.specs.Derived.{IsDerived, IsExprDerived, expr_place, template_place}
 use Rattle.minijinja_instructions.specs.Instructions.{code_of}
 use Rattle.minijinja_semantics.specs.Pieces.{start}
 use Rattle.minijinja_semantics.specs.Layout.{expr_code, stmt_code}
+use Rattle.minijinja_semantics.specs.Marks.{expr_marks, stmt_marks}
 use Rattle.minijinja_semantics.specs.Places.{placed_stmt}
 use Rattle.minijinja_semantics.specs.Units.{DoUnits}
 use Rattle.minijinja_semantics.specs.Correct.{DoesExpr, DoesStmt}
 use Rattle.minijinja_semantics.specs.Jumps.{LeadsWell}
 use Rattle.minijinja_code.specs.Hint.{IsHint, data_bytes}
 use Rattle.minijinja_code.specs.BlockLists.{HaveLists}
+use Rattle.minijinja_code.specs.BlockMarks.{HaveMarks, marked_blocks}
 use Rattle.minijinja_code.specs.Generator.{HaveTooLong}
-use Rattle.minijinja_instructions.specs.InstructionLists.{Instructions, is_required, name_of, source_of}
+use Rattle.minijinja_instructions.specs.InstructionLists.{Instructions, is_required, marks_of, name_of, source_of}
 use Rattle.minijinja_compiler.specs.declared.compile.Compiled.{Compiled}
 
 -- each of these blocks has its list, and there is no other list
@@ -44,6 +50,11 @@ pub record AreBlockLists {V E C F L : Type 0} (f : Functions C F) (contents : V 
 -- before them only where a loop asks for its next item (`leads`). It is no block, so it is none
 -- that has to be overridden (`required`). Each block has a list of its own, of which the same holds
 -- (`lists`).
+--
+-- The nodes of that tree have places in the text (`nodes`, `bare`): each goes from token to token,
+-- and a variable and data stand where their own tokens do (`stands`). The instructions have the
+-- lines and the spans of these nodes (`marks`), and so have the lists of the blocks
+-- (`block_marks`).
 pub record IsCompiled {V E C F : Type 0} (f : Functions C F) (contents : V → C) (syntax : Syntax) (source filename : Text) (c : Compiled V E) : Type 0 where
   pub tree : Stmt C (Unit {0})
   pub derived : IsDerived f syntax source tree
@@ -56,6 +67,11 @@ pub record IsCompiled {V E C F : Type 0} (f : Functions C F) (contents : V → C
   pub required : is_required c.instructions ≡ false
   pub hint : IsHint (data_bytes tree) c.buffer_size_hint
   pub lists : AreBlockLists f contents source filename (blocks tree) c.blocks
+  pub nodes : spanned.Stmt C
+  pub bare : bare_stmt nodes ≡ tree
+  pub stands : StmtStands (Contains (template_place syntax source).tokens) (IsOfTokens (template_place syntax source).tokens (template_place syntax source).last) nodes
+  pub marks : marks_of c.instructions ≡ stmt_marks f nodes
+  pub block_marks : HaveMarks f (marked_blocks nodes) c.blocks
   pub name : name_of c.instructions ≡ filename
   pub text : source_of c.instructions ≡ source
 
@@ -63,7 +79,8 @@ pub record IsCompiled {V E C F : Type 0} (f : Functions C F) (contents : V → C
 -- layout of that tree. It does what the tree means, and leaves the value of the expression on top
 -- of the operands; this holds of answers that number, with the values in them, under 2^64. It has
 -- fewer than 2^32 instructions, where they lead lies within the list, and it is no block that has
--- to be overridden.
+-- to be overridden. The instructions have the lines and the spans of the tree's nodes, each of which
+-- goes from token to token of the text.
 pub record IsCompiledExpr {V E C F : Type 0} (f : Functions C F) (contents : V → C) (source : Text) (c : Instructions V E) : Type 0 where
   pub tree : Expr C
   pub derived : IsExprDerived f default_syntax source tree
@@ -73,6 +90,10 @@ pub record IsCompiledExpr {V E C F : Type 0} (f : Functions C F) (contents : V �
   pub few : length (code_of contents c) < 2 ^ 32
   pub leads : LeadsWell (code_of contents c)
   pub required : is_required c ≡ false
+  pub nodes : spanned.Expr C
+  pub bare : bare_expr nodes ≡ tree
+  pub stands : Stands (Contains (expr_place default_syntax source).tokens) (IsOfTokens (expr_place default_syntax source).tokens (expr_place default_syntax source).last) nodes
+  pub marks : marks_of c ≡ expr_marks f nodes
   pub name : name_of c ≡ codes "<expression>"
   pub text : source_of c ≡ source
 

@@ -38,8 +38,8 @@ pub fn compile<'s, V: TemplateValue>(
     filename: &'s str,
     syntax: &SyntaxConfig,
 ) -> Result<Compiled<'s, V>, Error<'s>>
-    // The grammar derives one tree of the text, the code is that of this tree, and does what it
-    // means.
+    // The grammar derives one tree of the text, the code is that of this tree, with the lines and
+    // the spans of its nodes, and does what it means.
     ensures compiled { IfOk result
         (IsCompiled V.functions V.contents syntax.now source.now filename.now) }
 
@@ -89,8 +89,8 @@ pub fn compile_expression<'s, V: TemplateValue>(
     alloc: Global,
     source: &'s str,
 ) -> Result<Instructions<'s, V>, Error<'s>>
-    // The grammar derives one tree of the text, the code is that of this tree, and does what it
-    // means.
+    // The grammar derives one tree of the text, the code is that of this tree, with the lines and
+    // the spans of its nodes, and does what it means.
     ensures compiled { IfOk result (IsCompiledExpr V.functions V.contents source.now) }
 
     // It fails with a syntax error or a bad escape only if the grammar derives no tree of the text.

@@ -1,20 +1,25 @@
 //! The laws of the definitions that the contracts of all layers use, and what one of them says of
 //! compiled code.
-ghost use Rattle.std.specs.Prelude.{◌≡◌, [], ◌∷◌, All, IfSome, codes, length};
+ghost use Rattle.std.specs.Prelude.{◌≡◌, Bool, true, [], ◌∷◌, All, IfSome, codes, length};
 ghost use Rattle.minijinja_syntax.specs.Syntax.{Syntax};
 ghost use Rattle.minijinja_syntax.specs.Texts.{Text};
+ghost use Rattle.minijinja_syntax.specs.declared.tokens.Span.{Span};
 ghost use Rattle.minijinja_tree.specs.Erasure.{stmt_tree};
+ghost use Rattle.minijinja_tree.specs.Standing.{Stands, StmtStands};
 ghost use Rattle.minijinja_tree.specs.SpannedErasure.{stmt_node};
 ghost use Rattle.minijinja_tree.specs.Tree.{blocks};
 ghost use Rattle.minijinja_tree.specs.declared.ast.Stmt.{Stmt};
 ghost use Rattle.minijinja_meta.specs.Mentions.{plain_names, way};
+ghost use Rattle.minijinja_instructions.specs.InstructionLists.{Instructions, marks_of};
 ghost use Rattle.minijinja_instructions.specs.Instructions.{code_of};
 ghost use Rattle.minijinja_semantics.specs.Correct.{a_statement};
+ghost use Rattle.minijinja_semantics.specs.Looks.{AreMarksOf, IsMarkOf, looks, stmt_looks, stmts_looks};
 ghost use Rattle.minijinja_semantics.specs.Needs.{MacrosNeedOnly, RunsNeedOnly, made_in, undeclared};
 ghost use Rattle.minijinja_semantics.specs.Pieces.{start};
 ghost use Rattle.minijinja_semantics.specs.Units.{all_units, units};
 ghost use Rattle.minijinja_code.specs.BlockLists.{list_of};
-ghost use Rattle.minijinja_compiler.specs.Headline.{IsCompiled};
+ghost use Rattle.minijinja_code.specs.BlockMarks.{marked_blocks};
+ghost use Rattle.minijinja_compiler.specs.Headline.{IsCompiled, IsCompiledExpr};
 ghost use Rattle.minijinja_compiler.specs.declared.compile.Compiled.{Compiled};
 
 pub use minijinja_grammar::laws::{
@@ -27,7 +32,8 @@ pub use minijinja_lexer::laws::{
 };
 pub use minijinja_semantics::laws::{
     closures_are_enough, folded_is_constant, layout_does_what_is_meant, layout_leads_well,
-    loops_have_no_bound, names_are_not_looked_at, placed_tree_is_the_tree, units_are_enterable,
+    loops_have_no_bound, marks_are_of_nodes, names_are_not_looked_at, placed_tree_is_the_tree,
+    units_are_enterable,
 };
 pub use minijinja_value::laws::{equality_is_an_equivalence, keys_are_distinct};
 use minijinja_value::value::TemplateValue;
@@ -59,4 +65,38 @@ pub fn runs_need_only_closures<V: TemplateValue>()
         (k : IsCompiled V.functions V.contents syntax source filename c) →
         All (λ b. IfSome (list_of c.blocks b.name) (λ is. MacrosNeedOnly V.functions
         (code_of V.contents is) (all_units V.functions [] b.body start))) (blocks k.tree) }
+{}
+
+/// The marks of what is compiled are those of its nodes. There is one for each instruction. The
+/// instructions that look up a variable or write data are, in the order of the code, those of the
+/// variables and data of the tree that have one: the line of each is the one on which its node
+/// begins, and its span is none, that of the node, of a node round it, or of the call of a call
+/// block round it. And a test that the spans of all nodes pass is passed by each span of the marks,
+/// and by a span that begins on the line of each. It is so in the list of each block, and in that of
+/// an expression.
+pub fn compiled_marks_are_of_nodes<V: TemplateValue>()
+    ensures template { (syntax : Syntax) (source filename : Text) (c : Compiled V V.Fault)
+        (k : IsCompiled V.functions V.contents syntax source filename c) →
+        AreMarksOf (code_of V.contents c.instructions) (marks_of c.instructions)
+        (stmt_looks V.functions [] k.nodes) }
+    ensures blocks { (syntax : Syntax) (source filename : Text) (c : Compiled V V.Fault)
+        (k : IsCompiled V.functions V.contents syntax source filename c) →
+        All (λ b. IfSome (list_of c.blocks b.name) (λ is. AreMarksOf (code_of V.contents is)
+        (marks_of is) (stmts_looks V.functions [] b.body))) (marked_blocks k.nodes) }
+    ensures expression { (source : Text) (c : Instructions V V.Fault)
+        (k : IsCompiledExpr V.functions V.contents source c) →
+        AreMarksOf (code_of V.contents c) (marks_of c) (looks V.functions [] k.nodes) }
+    ensures each_of_template { (syntax : Syntax) (source filename : Text) (c : Compiled V V.Fault)
+        (k : IsCompiled V.functions V.contents syntax source filename c) (p : Span → Bool) →
+        StmtStands (λ t. p t.1 ≡ true) (λ s. p s ≡ true) k.nodes →
+        All (IsMarkOf (λ s. p s ≡ true)) (marks_of c.instructions) }
+    ensures each_of_blocks { (syntax : Syntax) (source filename : Text) (c : Compiled V V.Fault)
+        (k : IsCompiled V.functions V.contents syntax source filename c) (p : Span → Bool) →
+        StmtStands (λ t. p t.1 ≡ true) (λ s. p s ≡ true) k.nodes → All (λ b. IfSome
+        (list_of c.blocks b.name) (λ is. All (IsMarkOf (λ s. p s ≡ true)) (marks_of is)))
+        (marked_blocks k.nodes) }
+    ensures each_of_expression { (source : Text) (c : Instructions V V.Fault)
+        (k : IsCompiledExpr V.functions V.contents source c) (p : Span → Bool) → Stands
+        (λ t. p t.1 ≡ true) (λ s. p s ≡ true) k.nodes →
+        All (IsMarkOf (λ s. p s ≡ true)) (marks_of c) }
 {}

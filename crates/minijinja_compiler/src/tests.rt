@@ -9,6 +9,7 @@ mod errors;
 mod flags;
 mod hostile;
 mod lexer;
+mod marks;
 mod meta;
 mod parser;
 mod refusals;

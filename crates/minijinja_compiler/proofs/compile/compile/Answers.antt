@@ -1,16 +1,21 @@
-use Rattle.std.proofs.Common.{◌≡◌, ◌<◌, ◌≤◌, ◌^◌, ◌++◌, ◌∙◌, ◌⊎◌, length, sym, ap, subst}
+use Rattle.std.proofs.Common.{◌≡◌, ◌<◌, ◌≤◌, ◌^◌, ◌++◌, ◌∙◌, ◌⊎◌, [], length, sym, ap, subst}
 use Rattle.std.proofs.lemmas.Result.{err_from_is_err_and}
 use Rattle.minijinja_tree.specs.Erasure.{stmt_tree}
+use Rattle.minijinja_tree.specs.SpannedErasure.{stmt_node}
 use Rattle.minijinja_tree.specs.Tree.{blocks}
+use Rattle.minijinja_tree.proofs.Bare.{stmt_is}
 use Rattle.minijinja_semantics.specs.Jumps.{LeadsWell}
 use Rattle.minijinja_semantics.specs.Pieces.{start}
 use Rattle.minijinja_semantics.proofs.Leads.{layout_leads_well}
 use Rattle.minijinja_instructions.specs.Instructions.{code_of}
 use Rattle.minijinja_semantics.specs.Layout.{stmt_code}
+use Rattle.minijinja_semantics.specs.Marks.{Margin}
+use Rattle.minijinja_semantics.specs.Marks as marks
 use Rattle.minijinja_semantics.specs.Correct.{DoesStmt}
 use Rattle.minijinja_semantics.specs.Places.{placed_stmt}
 use Rattle.minijinja_semantics.specs.Units.{DoUnits}
 use Rattle.minijinja_code.specs.internal.AtGenerator.{generated, here_so_far}
+use Rattle.minijinja_code.specs.BlockMarks.{HaveMarks, marked_blocks}
 use Rattle.minijinja_code.specs.Generator.{HaveTooLong, OnlyWhereOneIsTooLong}
 use Rattle.minijinja_code.specs.Hint.{IsHint, data_bytes}
 use Rattle.minijinja_compiler.proofs.BlockNames.{compiled_lists}
@@ -30,8 +35,14 @@ returns-clause-compiled g c =
     let parsed = c.in_ok-template.ensures in
     let empty = c.new-generator.ensures.empty in
     let finished = c.finish-instructions.ensures.code in
+    let nodes = stmt_node v c.in_ok-template.template in
     record {
       tree = tree;
+      nodes = nodes;
+      bare = stmt_is v c.in_ok-template.template;
+      stands = parsed.spans;
+      marks = c.finish-instructions.ensures.marks ∙ ap (λ (t : Margin). t.marks) (done.marked ∙ ap (marks.stmt f [] nodes) c.new-generator.ensures.margin);
+      block_marks = subst (HaveMarks f (marked_blocks nodes)) (sym c.finish-instructions.ensures.blocks) done.block_marks;
       derived = parsed.found;
       only = λ t d. sym (parsed.only t d);
       code = whole_code before after code (here_so_far v made) (stmt_code f tree) empty c.new-generator.ensures.here done.added finished;

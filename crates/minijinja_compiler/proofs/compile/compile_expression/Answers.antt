@@ -1,6 +1,10 @@
 use Rattle.std.proofs.Common.{◌≡◌, ◌<◌, ◌≤◌, ◌^◌, ◌++◌, ◌∙◌, length, sym, ap, subst}
 use Rattle.std.proofs.lemmas.Result.{err_from_is_err_and}
 use Rattle.minijinja_tree.specs.Erasure.{expr_tree}
+use Rattle.minijinja_tree.specs.SpannedErasure.{expr_node}
+use Rattle.minijinja_tree_expr.proofs.Bare.{expr_is}
+use Rattle.minijinja_semantics.specs.Marks.{Margin}
+use Rattle.minijinja_semantics.specs.Marks as marks
 use Rattle.minijinja_semantics.specs.Jumps.{LeadsWell}
 use Rattle.minijinja_semantics.specs.Pieces.{start}
 use Rattle.minijinja_semantics.proofs.Leads.{expression_leads_well}
@@ -25,8 +29,13 @@ returns-clause-compiled g c =
     let parsed = c.in_ok-expr.ensures in
     let empty = c.new-generator.ensures.empty in
     let finished = c.finish-instructions.ensures.code in
+    let nodes = expr_node v c.in_ok-expr.expr in
     record {
       tree = tree;
+      nodes = nodes;
+      bare = expr_is v c.in_ok-expr.expr;
+      stands = parsed.spans;
+      marks = c.finish-instructions.ensures.marks ∙ ap (λ (t : Margin). t.marks) (done.marked ∙ ap (marks.expr f nodes) c.new-generator.ensures.margin);
       derived = parsed.found;
       only = λ t d. sym (parsed.only t d);
       code = whole_code before after code (here_so_far v made) (expr_code f tree) empty c.new-generator.ensures.here done.added finished;
