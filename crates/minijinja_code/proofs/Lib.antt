@@ -12,3 +12,5 @@ pub mod MacroSteps
 pub mod MarkWalks
 pub mod SpannedArms
 pub mod MarkSteps
+pub mod OpenBlocks
+pub mod Tried

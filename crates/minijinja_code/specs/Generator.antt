@@ -1,10 +1,11 @@
 -- What the refusals of a generator say.
-use Rattle.std.specs.Prelude.{◌≡◌, ◌⊎◌, ◌≤◌, ◌^◌, List, None, length}
+use Rattle.std.specs.Prelude.{◌≡◌, ◌⊎◌, ◌<◌, ◌≤◌, ◌^◌, ℕ, List, Option, Some, None, Result, Err, IfErr, IfNone, IfSome, OnOk, length}
 use Rattle.std.specs.List.{Any}
 use Rattle.minijinja_syntax.specs.Errors.{IsOutOfMemory, kind_of, name_of, span_of}
 use Rattle.minijinja_syntax.specs.declared.error.Error.{Error}
 use Rattle.minijinja_syntax.specs.declared.error.ErrorKind.TheVariants.{OutOfMemory, TooManyInstructions}
 use Rattle.minijinja_value.specs.Values.{Functions}
+use Rattle.minijinja_instructions.specs.InstructionLists.{IsAddError}
 use Rattle.minijinja_tree.specs.Tree.{Block}
 use Rattle.minijinja_semantics.specs.Code.{Instr}
 use Rattle.minijinja_semantics.specs.Layout.{block_code}
@@ -28,3 +29,14 @@ pub record HasNoPlaceOrName (e : Error) : Type 0 where
   pub no_span : span_of e ≡ None
   pub no_name : name_of e ≡ None
   pub memory : kind_of e ≡ OutOfMemory → IsOutOfMemory e
+
+-- A call that adds code, after which the list has so many instructions. It fails if memory is refused
+-- or these are 2 ^ 32 or more, and from then on every call returns that error.
+pub record Tries {X : Type 0} (before after : Option Error) (result : Result X Error) (count : ℕ) : Type 0 where
+  pub causes : IfNone before (IfErr result IsAddError)
+  pub unplaced : IfNone before (IfErr result HasNoPlaceOrName)
+  pub too_many : IfNone before (IfErr result (λ e. kind_of e ≡ TooManyInstructions → 2 ^ 32 ≤ count))
+  pub kept : IfErr result (λ e. after ≡ Some e)
+  pub again : IfSome before (λ e. result ≡ Err e)
+  pub ready : OnOk result (after ≡ None)
+  pub few : OnOk result (count < 2 ^ 32)

@@ -1,2 +1,3 @@
 -- What crates of this repository say to each other, and users need not believe.
 pub mod AtGenerator
+pub mod OpenBlocks

@@ -1,3 +1,4 @@
 -- What the crate says of its own private functions.
+pub mod LeftOpen
 pub mod Lists
 pub mod Statements

@@ -1,5 +1,5 @@
 //! `CodeGenerator`, which compiles trees to instructions.
-ghost use Rattle.std.specs.Prelude.{◌≡◌, ◌+◌, ◌<◌, ◌≤◌, ◌^◌, ◌++◌, [], false, length, min, is_none, IfOk, IfErr, OnOk, IfNone, IfSome, Ok, Err, Some, None};
+ghost use Rattle.std.specs.Prelude.{◌≡◌, ◌+◌, ◌<◌, ◌≤◌, ◌^◌, ◌++◌, [], true, false, length, min, IfOk, IfErr, OnOk, IfNone, IfSome, Ok, Err, Some, None};
 ghost use Rattle.std.specs.BTreeMap.{IsEmpty};
 ghost use Rattle.minijinja_tree.specs.Erasure.{expr_tree, stmt_tree};
 ghost use Rattle.minijinja_tree.specs.Tree.{blocks};
@@ -19,13 +19,15 @@ ghost use Rattle.minijinja_semantics.specs.Layout.{expr_code, past_expr, target_
 ghost use Rattle.minijinja_code.specs.private.Statements.{stmt_piece};
 ghost use Rattle.minijinja_tree.specs.SpannedErasure.{expr_node, stmt_node};
 ghost use Rattle.minijinja_semantics.specs.Marks as marks;
-ghost use Rattle.minijinja_code.specs.internal.AtGenerator.{generated, here_so_far, margin_so_far, counted_bytes, blocks_of, file_of, text_of, refusal_of};
+ghost use Rattle.minijinja_code.specs.internal.AtGenerator.{generated, here_so_far, margin_so_far, counted_bytes, blocks_of, file_of, nothing_is_open, open_of, outer_spans, text_of, refusal_of};
 ghost use Rattle.minijinja_emitter.specs.internal.AtEmitter.{made_of, margin_of};
 ghost use Rattle.minijinja_emitter.specs.internal.Making.{Adds};
 ghost use Rattle.minijinja_semantics.specs.Pieces.{start};
 
+mod building;
 mod lists;
 
+use crate::codegen::building::Pending;
 use crate::codegen::lists::{ListError, Lists, Source, add_lists};
 use crate::stmt::statement;
 use minijinja_code_expr::expr::expression;
@@ -48,6 +50,11 @@ use std::collections::BTreeMap;
 pub struct CodeGenerator<'s, V: TemplateValue = Value> {
     source: Source<'s>,
     code: Emitter<'s, V>,
+    /// What opening calls have left open, the innermost last.
+    pending: Vec<Pending>,
+    /// The spans that are open round the innermost one, which the emitter has; the first is one of
+    /// zeros.
+    spans: Vec<Span>,
     lists: Lists<'s, V>,
     raw_template_bytes: usize,
     refusal: Option<Error<'s>>,
@@ -63,6 +70,8 @@ impl<'s, V: TemplateValue> CodeGenerator<'s, V> {
         ensures bytes { counted_bytes result ≡ 0 }
         ensures refusal { refusal_of result ≡ None }
         ensures blocks { IsEmpty (blocks_of result) }
+        ensures left_open { open_of result ≡ [] }
+        ensures outer { outer_spans result ≡ [] }
         ensures name { file_of result ≡ file.now }
         ensures source { text_of result ≡ source.now }
     {
@@ -72,6 +81,8 @@ impl<'s, V: TemplateValue> CodeGenerator<'s, V> {
                 text: source,
             },
             code: Emitter::new(alloc),
+            pending: Vec::new(alloc),
+            spans: Vec::new(alloc),
             lists: BTreeMap::new(alloc),
             raw_template_bytes: 0,
             refusal: None,
@@ -126,6 +137,8 @@ impl<'s, V: TemplateValue> CodeGenerator<'s, V> {
         // That list has the lines and the spans of the block's body.
         ensures block_marks { OnOk result (HaveMarks V.functions
             (marked_blocks (stmt_node V.contents stmt.now)) (blocks_of self.new)) }
+        ensures left_open { open_of self.new ≡ open_of self.old }
+        ensures outer { outer_spans self.new ≡ outer_spans self.old }
         ensures name { file_of self.new ≡ file_of self.old }
         ensures source { text_of self.new ≡ text_of self.old }
     {
@@ -169,6 +182,8 @@ impl<'s, V: TemplateValue> CodeGenerator<'s, V> {
         ensures ready { OnOk result (refusal_of self.new ≡ None) }
         ensures counted { counted_bytes self.new ≡ counted_bytes self.old }
         ensures blocks { blocks_of self.new ≡ blocks_of self.old }
+        ensures left_open { open_of self.new ≡ open_of self.old }
+        ensures outer { outer_spans self.new ≡ outer_spans self.old }
         ensures name { file_of self.new ≡ file_of self.old }
         ensures source { text_of self.new ≡ text_of self.old }
     {
@@ -201,6 +216,8 @@ impl<'s, V: TemplateValue> CodeGenerator<'s, V> {
         ensures ready { OnOk result (refusal_of self.new ≡ None) }
         ensures counted { counted_bytes self.new ≡ counted_bytes self.old }
         ensures blocks { blocks_of self.new ≡ blocks_of self.old }
+        ensures left_open { open_of self.new ≡ open_of self.old }
+        ensures outer { outer_spans self.new ≡ outer_spans self.old }
         ensures name { file_of self.new ≡ file_of self.old }
         ensures source { text_of self.new ≡ text_of self.old }
     {
@@ -219,17 +236,18 @@ impl<'s, V: TemplateValue> CodeGenerator<'s, V> {
         (self.raw_template_bytes.min(LARGEST_HINT / 2) * 2).next_power_of_two()
     }
 
-    /// Whether everything was compiled: no call has failed.
+    /// Whether what was begun is complete: no call has failed, and what opening calls opened is
+    /// closed.
     pub fn is_closed(&self) -> bool
-        ensures { result ≡ is_none (refusal_of self.now) }
+        ensures { result ≡ nothing_is_open self.now }
     {
-        self.refusal.is_none()
+        self.refusal.is_none() && self.pending.is_empty()
     }
 
     /// The list of instructions, and the list of each block under its name. A generator of which a
-    /// call has failed has none.
+    /// call has failed, or in which something is open, has none.
     pub fn finish(self) -> (Instructions<'s, V>, BTreeMap<&'s str, Instructions<'s, V>>)
-        requires { refusal_of self ≡ None }
+        requires { nothing_is_open self ≡ true }
         ensures code { code_of V.contents result.0 ≡ generated V.contents self.entry }
         ensures marks { marks_of result.0 ≡ (margin_so_far self.entry).marks }
         // It is no list of a block, so it is none that has to be overridden.
@@ -269,6 +287,8 @@ impl<'s, V: TemplateValue> CodeGenerator<'s, V> {
         ensures here { here_so_far V.contents self.new ≡ here_so_far V.contents self.old }
         ensures margin { margin_so_far self.new ≡ margin_so_far self.old }
         ensures counted { counted_bytes self.new ≡ counted_bytes self.old }
+        ensures left_open { open_of self.new ≡ open_of self.old }
+        ensures outer { outer_spans self.new ≡ outer_spans self.old }
         ensures name { file_of self.new ≡ file_of self.old }
         ensures source { text_of self.new ≡ text_of self.old }
     {
@@ -290,6 +310,8 @@ impl<'s, V: TemplateValue> CodeGenerator<'s, V> {
         ensures margin { margin_so_far self.new ≡ margin_so_far self.old }
         ensures counted { counted_bytes self.new ≡ counted_bytes self.old }
         ensures blocks { blocks_of self.new ≡ blocks_of self.old }
+        ensures left_open { open_of self.new ≡ open_of self.old }
+        ensures outer { outer_spans self.new ≡ outer_spans self.old }
         ensures name { file_of self.new ≡ file_of self.old }
         ensures source { text_of self.new ≡ text_of self.old }
     {
@@ -314,6 +336,8 @@ impl<'s, V: TemplateValue> CodeGenerator<'s, V> {
         ensures margin { margin_so_far self.new ≡ margin_so_far self.old }
         ensures counted { counted_bytes self.new ≡ counted_bytes self.old }
         ensures blocks { blocks_of self.new ≡ blocks_of self.old }
+        ensures left_open { open_of self.new ≡ open_of self.old }
+        ensures outer { outer_spans self.new ≡ outer_spans self.old }
         ensures name { file_of self.new ≡ file_of self.old }
         ensures source { text_of self.new ≡ text_of self.old }
     {

@@ -1,7 +1,8 @@
 //! The instructions of a unit that is being made, with the line and the span of each.
-ghost use Rattle.std.specs.Prelude.{◌≡◌, ◌+◌, ◌≤◌, ◌++◌, ◌^◌, map, [], ◌∷◌, length, take, ◌<◌, slice_set, None, Some, IfOk, OnOk};
+ghost use Rattle.std.specs.Prelude.{◌≡◌, ◌+◌, ◌≤◌, ◌++◌, ◌^◌, map, [], ◌∷◌, length, take, ◌<◌, slice_set, None, Some, IfNone, IfOk, IfSome, OnOk};
 ghost use Rattle.std.specs.Option.{option_map};
 ghost use Rattle.minijinja_semantics.specs.Code.{BuildMacro, Jump, Load};
+ghost use Rattle.minijinja_semantics.specs.Jumps.{led_to, with_target};
 ghost use Rattle.minijinja_semantics.specs.Marks.{again, alone_at, mark_now, on_line, shown};
 ghost use Rattle.minijinja_semantics.specs.Marks as marks;
 ghost use Rattle.minijinja_semantics.specs.Pieces.{start, one, id_of, noted};
@@ -107,6 +108,14 @@ impl<'s, V: TemplateValue> Emitter<'s, V> {
         self.line = span.start_line;
     }
 
+    /// From here on, what is added stands on this line.
+    pub fn set_line(&mut self, line: u16)
+        ensures made { made_of V.contents self.new ≡ made_of V.contents self.old }
+        ensures marked { margin_of self.new ≡ record (margin_of self.old) { line = line } }
+    {
+        self.line = line;
+    }
+
     /// Opens a span: from here on, what is added on the line where it begins comes from it. Returns
     /// the span that was open before, which `close` takes.
     #[inline(always)]
@@ -170,13 +179,37 @@ impl<'s, V: TemplateValue> Emitter<'s, V> {
 
     /// Adds an instruction as it is.
     #[inline(always)]
-    fn push(&mut self, instruction: Instruction<'s, V>) -> Result<(), OutOfMemory>
+    pub fn push(&mut self, instruction: Instruction<'s, V>) -> Result<(), OutOfMemory>
         ensures made { OnOk result (made_of V.contents self.new ≡ followed
             (made_of V.contents self.old) (instr_of V.contents instruction.entry ∷ [])) }
         ensures marked { OnOk result (margin_of self.new ≡ marks.here 1 (margin_of self.old)) }
     {
         let span = self.span_now();
         self.code.push(instruction, self.line, span)?;
+        Ok(())
+    }
+
+    /// Adds an instruction as it is, which comes from this span whatever is open.
+    pub fn push_at(
+        &mut self,
+        instruction: Instruction<'s, V>,
+        span: Span,
+    ) -> Result<(), OutOfMemory>
+        ensures made { OnOk result (made_of V.contents self.new ≡ followed
+            (made_of V.contents self.old) (instr_of V.contents instruction.entry ∷ [])) }
+        ensures marked { OnOk result (margin_of self.new ≡ alone_at span (margin_of self.old)) }
+    {
+        self.code.push(instruction, span.start_line, span)?;
+        Ok(())
+    }
+
+    /// Adds an instruction as it is, which has the line and the span of the one before it.
+    pub fn push_again(&mut self, instruction: Instruction<'s, V>) -> Result<(), OutOfMemory>
+        ensures made { OnOk result (made_of V.contents self.new ≡ followed
+            (made_of V.contents self.old) (instr_of V.contents instruction.entry ∷ [])) }
+        ensures marked { OnOk result (margin_of self.new ≡ again (margin_of self.old)) }
+    {
+        self.code.push_again(instruction)?;
         Ok(())
     }
 
@@ -198,8 +231,7 @@ impl<'s, V: TemplateValue> Emitter<'s, V> {
             (one (instr_of V.contents instruction.entry))) }
         ensures marked { OnOk result (margin_of self.new ≡ alone_at span (margin_of self.old)) }
     {
-        self.code.push(instruction, span.start_line, span)?;
-        Ok(())
+        self.push_at(instruction, span)
     }
 
     /// Adds a jump to a place.
@@ -242,7 +274,7 @@ impl<'s, V: TemplateValue> Emitter<'s, V> {
         ensures marked { OnOk result (margin_of self.new ≡ again (margin_of self.old)) }
     {
         let place = self.code.list.len();
-        self.code.push_again(Instruction::Swap)?;
+        self.push_again(Instruction::Swap)?;
         Ok(place)
     }
 
@@ -255,6 +287,29 @@ impl<'s, V: TemplateValue> Emitter<'s, V> {
         ensures marked { margin_of self.new ≡ margin_of self.old }
     {
         self.code.set(place, instruction);
+    }
+
+    /// Leads the jump at one place to another. What is no jump stays as it is.
+    pub fn lead_to(&mut self, place: usize, target: u32)
+        ensures led { made_of V.contents self.new ≡ record (made_of V.contents self.old) {
+          code = with_target target (made_of V.contents self.old).code place;
+        } }
+        ensures marked { margin_of self.new ≡ margin_of self.old }
+    {
+        if let Some(jump) = self.jump_at(place, target) {
+            self.code.set(place, jump);
+        }
+    }
+
+    /// The jump at one place, if there is one, but leading to another.
+    fn jump_at(&self, place: usize, target: u32) -> Option<Instruction<'s, V>>
+        ensures some { IfSome result (λ jump. map (instr_of V.contents)
+            (slice_set self.now.code.list.items place jump)
+            ≡ with_target target (made_of V.contents self.now).code place) }
+        ensures none { IfNone result (with_target target (made_of V.contents self.now).code place
+            ≡ (made_of V.contents self.now).code) }
+    {
+        led(self.code.list.get(place)?, target)
     }
 
     /// The constant that the instructions from one place up to another load, if they do nothing
@@ -423,6 +478,26 @@ fn reached(place: usize) -> u32
     ensures { result ≡ reach place }
 {
     place.min(u32::MAX as usize) as u32
+}
+
+/// The jump that leads to this place in the place of another, if an instruction is one.
+fn led<'s, V: TemplateValue>(
+    instruction: &Instruction<'s, V>,
+    target: u32,
+) -> Option<Instruction<'s, V>>
+    ensures some { IfSome result (λ jump. instr_of V.contents jump
+        ≡ led_to target (instr_of V.contents instruction.now)) }
+    ensures none { IfNone result (led_to target (instr_of V.contents instruction.now)
+        ≡ instr_of V.contents instruction.now) }
+{
+    match instruction {
+        Instruction::Jump(_) => Some(Instruction::Jump(target)),
+        Instruction::JumpIfFalse(_) => Some(Instruction::JumpIfFalse(target)),
+        Instruction::JumpIfFalseOrPop(_) => Some(Instruction::JumpIfFalseOrPop(target)),
+        Instruction::JumpIfTrueOrPop(_) => Some(Instruction::JumpIfTrueOrPop(target)),
+        Instruction::Iterate(_) => Some(Instruction::Iterate(target)),
+        _ => None,
+    }
 }
 
 /// The constant that an instruction loads, if it loads one.

@@ -1,8 +1,9 @@
 -- The code that is being made, and what is added to it.
-use Rattle.std.specs.Prelude.{◌≡◌, ℕ, List, [], ◌∷◌, ◌++◌, length, map, take, drop, ◌-◌, min, Option, Some, None}
+use Rattle.std.specs.Prelude.{◌≡◌, ℕ, List, [], ◌∷◌, ◌++◌, length, map, take, drop, ◌-◌, Option, Some, None}
 use Rattle.minijinja_syntax.specs.Texts.{Text}
 use Rattle.minijinja_semantics.specs.Code.{Instr, Load, Swap, BuildMacro, Jump, JumpIfFalse, JumpIfFalseOrPop, JumpIfTrueOrPop, Iterate}
 use Rattle.minijinja_semantics.specs.Jumps.{jump_target}
+pub use Rattle.minijinja_semantics.specs.Jumps.{last_target, reach}
 use Rattle.minijinja_semantics.specs.Pieces.{Here, Piece}
 
 -- the instructions so far, and the names of filters and of tests that have an id
@@ -18,14 +19,6 @@ here_of m = record { place = length m.code; filters = m.filters; tests = m.tests
 -- what was made, with these instructions after it
 abbrev pub followed : {C : Type 0} → Made C → List (Instr C) → Made C
 followed m is = record m { code = m.code ++ is }
-
--- the last place that an instruction may name
-abbrev pub last_target : ℕ
-last_target = 4294967295
-
--- a place, as far as an instruction may name one
-abbrev pub reach : ℕ → ℕ
-reach = min last_target
 
 -- the place that an instruction names, if it names one
 abbrev pub place_in : {C : Type 0} → Instr C → Option ℕ

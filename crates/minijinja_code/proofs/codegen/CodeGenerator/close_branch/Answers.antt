@@ -1,0 +1,15 @@
+use Rattle.std.proofs.Common.{sym}
+use Rattle.minijinja_code.specs.declared.codegen.building.Pending.TheVariants as pending
+use Rattle.minijinja_code.proofs.OpenBlocks.{branch_taken, none_left, not_both, opened_before}
+use Rattle.minijinja_code.proofs.codegen.CodeGenerator.close_branch.Goals as goal
+
+pub unreachable-requires : goal.unreachable-requires
+unreachable-requires g c =
+    let self = c.args.self.now in
+    let front = c.pop.new.self in
+    let none = none_left c.pop.result front.items self.pending.len front.len c.pop.ensures.cases front.ok.0 in
+    not_both (branch_taken self.refusal c.pop.result front.items self.pending.items c.pop.ensures.items none c.requires) c.in-None.ensures.none
+
+pub returns-clause-innermost : goal.returns-clause-innermost
+returns-clause-innermost g c =
+    opened_before c.pop.result c.pop.new.self.items c.args.self.now.pending.items (pending.Branch c.in-Some.jump) c.pop.ensures.items c.in-Some.ensures.some

@@ -1,0 +1,9 @@
+use Rattle.std.proofs.Common.{◌∙◌}
+use Rattle.minijinja_code.proofs.OpenBlocks.{last_kept, row_tested}
+use Rattle.minijinja_code.proofs.codegen.CodeGenerator.in_sc_bool.Goals as goal
+
+pub returns-then-is_none : goal.returns-then-is_none
+returns-then-is_none g c =
+    let self = c.args.self.now in
+    let kept = last_kept c.copied.result c.deref.ensures.value (c.copied.ensures ∙ c.last.ensures.value) in
+    c.is_in_row.ensures ∙ row_tested self.refusal self.pending.items c.copied.result c.if-is_none.ensures kept
