@@ -1,5 +1,6 @@
 -- The contracts of the layers, put together.
-use Rattle.std.proofs.Common.{◌≡◌, ◌≢◌, ℕ, ◌+◌, ◌*◌, ◌^◌, ◌<◌, ◌≤◌, min, List, [], ◌++◌, length, sym, ap, ◌∙◌, subst, arith, ◌⊎◌, inl, inr, ⊎_elim, Option, Some, None, IfNone, Result, Ok, Err, IfErr, IsErrAnd}
+use Rattle.std.proofs.Common.{◌≡◌, ◌≢◌, ℕ, ◌+◌, ◌*◌, ◌^◌, ◌<◌, ◌≤◌, min, List, [], ◌++◌, length, true, sym, ap, ap₂, ◌∙◌, subst, arith, ◌⊎◌, inl, inr, ⊎_elim, Option, Some, None, IfNone, Result, Ok, Err, IfErr, IsErrAnd}
+use Rattle.std.specs.Prelude.{◌&&◌, is_none}
 use Rattle.std.proofs.lemmas.Bool.{cases_lt}
 use Rattle.minijinja_syntax.specs.Errors.{kind_of}
 use Rattle.minijinja_syntax.specs.declared.error.Error.{Error}
@@ -7,11 +8,16 @@ use Rattle.minijinja_syntax.specs.declared.error.ErrorKind.TheVariants.{OutOfMem
 use Rattle.minijinja_parser.specs.Causes as parser
 use Rattle.minijinja_parser.specs.Causes.{IsRefusal}
 use Rattle.minijinja_compiler.specs.Headline.{IsCompileLimit, IsCompileUnplaced}
+use Rattle.minijinja_code.specs.Building.{OpenBlock, are_closed}
 use Rattle.minijinja_code.specs.Generator.{HasNoPlaceOrName, OnlyWhereTooLong}
 use Rattle.minijinja_semantics.specs.Code.{Instr}
 use Rattle.minijinja_instructions.specs.InstructionLists.{IsAddError}
 use Rattle.minijinja_semantics.specs.Pieces.{Here, start}
 use Rattle.minijinja_code.specs.Hint.{IsHint}
+
+-- a generator that has not failed, and in which nothing was opened, is closed
+pub closed_still : (refusal : Option Error) (blocks : List OpenBlock) → refusal ≡ None → blocks ≡ [] → (is_none refusal && are_closed blocks) ≡ true
+closed_still refusal blocks ready empty = ap₂ (λ o bs. is_none o && are_closed bs) ready empty
 
 -- what is added to an empty list is the list
 pub whole_code : {C : Type 0} (before after code : List (Instr C)) (here : Here) (p : Here → List (Instr C)) → before ≡ [] → here ≡ start → after ≡ before ++ p here → code ≡ after → code ≡ p start

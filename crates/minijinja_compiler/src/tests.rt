@@ -3,6 +3,7 @@
 //!
 //! The rows of a subject stand in one text, since a test is proved too, with each text that it
 //! names spelled out.
+mod building;
 mod codegen;
 mod compile;
 mod errors;
@@ -18,8 +19,10 @@ mod tree;
 mod values;
 
 use crate::ast::Stmt;
+use crate::codegen::CodeGenerator;
 use crate::compile::{Compiled, compile};
 use crate::error::{Detail, Error, ErrorKind};
+use crate::instructions::Instructions;
 use crate::parser::parse;
 use crate::syntax::{SyntaxConfig, SyntaxConfigBuilder};
 use crate::value::Value;
@@ -43,6 +46,15 @@ fn hold<S: Subject>(rt: &impl Abort, alloc: Global, rows: &str) -> Result<(), Fa
         }
     }
     Ok(())
+}
+
+/// The list of a generator in which nothing is open.
+fn finished<'s>(generator: CodeGenerator<'s, Value>) -> Result<Instructions<'s, Value>, Fail> {
+    if !generator.is_closed() {
+        return Err(Fail::from("something is open"));
+    }
+    let (code, _) = generator.finish();
+    Ok(code)
 }
 
 /// What stands before and after the first of these marks. With no mark nothing stands after it.

@@ -1,9 +1,6 @@
 //! The generator and its lists of instructions. What they make of texts stands in the tests of the
 //! program.
-ghost use Rattle.std.specs.Prelude.{◌≡◌, None, OnOk};
-ghost use Rattle.minijinja_code.specs.internal.AtGenerator.{refusal_of};
-
-use super::{Subject, hold};
+use super::{Subject, finished, hold};
 use crate::ast::{Expr, Spanned, Var};
 use crate::codegen::CodeGenerator;
 use crate::error::Error;
@@ -16,25 +13,13 @@ use std::alloc::{AllocError, Global};
 use std::process::Abort;
 use std::test::Fail;
 
-fn compile_expression<'s>(
-    alloc: Global,
-    generator: &mut CodeGenerator<'s, Value>,
-    text: &'s str,
-) -> Result<(), Error<'s>>
-    ensures ready { OnOk result (refusal_of generator.new ≡ None) }
-{
-    let tree = parse_expr(alloc, text)?;
-    generator.compile_expr(&tree)
-}
-
 /// The code of expressions, one after another.
-fn code_of<'s>(alloc: Global, texts: &'s str) -> Result<Instructions<'s, Value>, Error<'s>> {
+fn code_of<'s>(alloc: Global, texts: &'s str) -> Result<Instructions<'s, Value>, Fail> {
     let mut generator = CodeGenerator::new(alloc, "name", texts);
     for text in texts.split(", ") {
-        compile_expression(alloc, &mut generator, text)?;
+        generator.compile_expr(&parse_expr(alloc, text)?)?;
     }
-    let (code, _) = generator.finish();
-    Ok(code)
+    finished(generator)
 }
 
 fn push_id(words: &mut String, instruction: &Instruction<'_, Value>) -> Result<(), AllocError> {
@@ -116,15 +101,16 @@ fn a_node_is_made_with_ample_memory(rt: HostRuntime) -> Result<(), Fail> {
 
 /// The code of an expression, of an assignment of its value and of a template, with the hint and
 /// how many blocks there are.
-fn code_of_each(
-    alloc: Global,
-) -> Result<(Instructions<'static, Value>, usize, usize), Error<'static>> {
+fn code_of_each(alloc: Global) -> Result<(Instructions<'static, Value>, usize, usize), Fail> {
     let mut generator = CodeGenerator::new(alloc, "name", "source");
     generator.compile_expr(&parse_expr::<Value>(alloc, "1")?)?;
     generator.compile_assignment(&Expr::Var(target(alloc)?))?;
     let syntax = SyntaxConfig::default();
     generator.compile_stmt(&parse(alloc, "abc{{ x }}", "name", &syntax)?)?;
     let hint = generator.buffer_size_hint();
+    if !generator.is_closed() {
+        return Err(Fail::from("something is open"));
+    }
     let (code, blocks) = generator.finish();
     Ok((code, hint, blocks.len()))
 }

@@ -14,13 +14,18 @@ use Rattle.minijinja_semantics.specs.Marks as marks
 use Rattle.minijinja_semantics.specs.Correct.{DoesStmt}
 use Rattle.minijinja_semantics.specs.Places.{placed_stmt}
 use Rattle.minijinja_semantics.specs.Units.{DoUnits}
-use Rattle.minijinja_code.specs.internal.AtGenerator.{generated, here_so_far}
+use Rattle.minijinja_code.specs.internal.AtGenerator.{generated, here_so_far, open_of, refusal_of}
 use Rattle.minijinja_code.specs.BlockMarks.{HaveMarks, marked_blocks}
 use Rattle.minijinja_code.specs.Generator.{HaveTooLong, OnlyWhereOneIsTooLong}
 use Rattle.minijinja_code.specs.Hint.{IsHint, data_bytes}
 use Rattle.minijinja_compiler.proofs.BlockNames.{compiled_lists}
-use Rattle.minijinja_compiler.proofs.Parts.{whole_code, whole_does, limit_of_parser, never_refusal, generator_unplaced, never_another, parser_unplaced, too_long_lists, unkept, hint_of_all}
+use Rattle.minijinja_compiler.proofs.Parts.{closed_still, whole_code, whole_does, limit_of_parser, never_refusal, generator_unplaced, never_another, parser_unplaced, too_long_lists, unkept, hint_of_all}
 use Rattle.minijinja_compiler.proofs.compile.compile.Goals as goal
+
+pub finish-instructions-requires : goal.finish-instructions-requires
+finish-instructions-requires g c =
+    let done = c.in_ok-compile_stmt.ensures in
+    closed_still (refusal_of c.compile_stmt.new.self) (open_of c.compile_stmt.new.self) done.ready (done.left_open ∙ c.new-generator.ensures.left_open)
 
 pub returns-clause-compiled : goal.returns-clause-compiled
 returns-clause-compiled g c =

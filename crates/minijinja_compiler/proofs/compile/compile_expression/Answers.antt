@@ -12,9 +12,14 @@ use Rattle.minijinja_instructions.specs.Instructions.{code_of}
 use Rattle.minijinja_semantics.specs.Layout.{expr_code}
 use Rattle.minijinja_semantics.specs.Correct.{DoesExpr}
 use Rattle.minijinja_code.specs.Generator.{OnlyWhereTooLong}
-use Rattle.minijinja_code.specs.internal.AtGenerator.{generated, here_so_far}
-use Rattle.minijinja_compiler.proofs.Parts.{whole_code, whole_does, limit_of_parser, never_refusal, generator_unplaced, never_another, parser_unplaced, too_long_list, unkept}
+use Rattle.minijinja_code.specs.internal.AtGenerator.{generated, here_so_far, open_of, refusal_of}
+use Rattle.minijinja_compiler.proofs.Parts.{closed_still, whole_code, whole_does, limit_of_parser, never_refusal, generator_unplaced, never_another, parser_unplaced, too_long_list, unkept}
 use Rattle.minijinja_compiler.proofs.compile.compile_expression.Goals as goal
+
+pub finish-instructions-requires : goal.finish-instructions-requires
+finish-instructions-requires g c =
+    let done = c.in_ok-compile_expr.ensures in
+    closed_still (refusal_of c.compile_expr.new.self) (open_of c.compile_expr.new.self) done.ready (done.left_open ∙ c.new-generator.ensures.left_open)
 
 pub returns-clause-compiled : goal.returns-clause-compiled
 returns-clause-compiled g c =
