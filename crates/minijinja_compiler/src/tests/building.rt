@@ -121,27 +121,6 @@ fn a_loop_asks_for_its_next_item(rt: HostRuntime) -> Result<(), Fail> {
     Ok(())
 }
 
-/// What is open is told by its kind, the innermost block alone.
-#[test]
-fn the_innermost_block_is_told(rt: HostRuntime) -> Result<(), Fail> {
-    let mut made = generator(rt.alloc());
-    assert!(rt; made.is_closed() && !made.in_branch() && !made.in_loop() && !made.in_sc_bool());
-    made.start_for_loop(false, true)?;
-    assert!(rt; made.in_loop() && !made.in_branch() && !made.is_closed());
-    made.start_if()?;
-    assert!(rt; made.in_branch() && !made.in_loop() && !made.in_sc_bool());
-    made.start_sc_bool()?;
-    assert!(rt; made.in_sc_bool() && !made.in_branch());
-    sc_bool(&mut made, false)?;
-    assert!(rt; made.in_sc_bool());
-    end_sc_bool(&mut made)?;
-    end_if(&mut made)?;
-    assert!(rt; made.in_loop() && !made.is_closed());
-    end_for_loop(&mut made, false)?;
-    assert!(rt; made.is_closed() && made.next_instruction() == 6);
-    Ok(())
-}
-
 fn span(start_line: u16) -> Span {
     Span {
         start_line,
