@@ -80,7 +80,8 @@ impl<'s, V: TemplateValue> CodeGenerator<'s, V> {
         }
     }
 
-    /// The index that the next instruction has.
+    /// The index that the next instruction has, or 2^32 - 1 if the generator has failed since its
+    /// list was too long.
     pub fn next_instruction(&self) -> u32
         ensures { result ≡ next_index (generated V.contents self.now) }
     {
