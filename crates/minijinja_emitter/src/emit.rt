@@ -90,7 +90,8 @@ impl<'s, V: TemplateValue> Emitter<'s, V> {
         reached(self.code.list.len())
     }
 
-    /// Reserves memory for `count` more instructions, so that adding them moves none.
+    /// Reserves memory for `count` more instructions, with the line and the span of each, so that adding
+    /// them moves none.
     pub fn make_room(&mut self, count: usize) -> Result<(), OutOfMemory>
         ensures made { made_of V.contents self.new ≡ made_of V.contents self.old }
         ensures marked { margin_of self.new ≡ margin_of self.old }

@@ -29,12 +29,13 @@ impl<I: Drop> MarkedList<I> {
         }
     }
 
-    /// Reserves memory for `count` more instructions.
+    /// Reserves memory for `count` more instructions and their marks.
     pub(crate) fn reserve(&mut self, count: usize) -> Result<(), AllocError>
         ensures items { self.new.list.items ≡ self.old.list.items }
         ensures marks { marks_in self.new.marks ≡ marks_in self.old.marks }
     {
-        self.list.reserve(count)
+        self.list.reserve(count)?;
+        self.marks.make_room(count)
     }
 
     /// Adds an instruction on a line and at a span. A span of zeros is none.

@@ -34,6 +34,15 @@ impl MarkList {
         }
     }
 
+    /// Reserves memory for the marks of about `count` more instructions: most lists change the span
+    /// at fewer than every second one, and the line at about every eighth.
+    pub fn make_room(&mut self, count: usize) -> Result<(), AllocError>
+        ensures { marks_in self.new ≡ marks_in self.old }
+    {
+        self.spans.make_room(count / 2)?;
+        self.lines.make_room(count / 8)
+    }
+
     /// Makes room for the marks of one instruction more.
     pub fn reserve(&mut self) -> Result<(), AllocError>
         ensures same { marks_in self.new ≡ marks_in self.old }
@@ -53,6 +62,7 @@ impl MarkList {
     }
 
     /// One instruction more, on a line, counted from 1, and at a span. A span of zeros is none.
+    #[inline(always)]
     pub fn put(&mut self, line: u16, span: Span)
         requires room { HaveRoom self.old }
         requires few { length (marks_in self.old) + 1 < 2 ^ 64 }
@@ -93,6 +103,7 @@ impl MarkList {
 }
 
 /// One place more, on this line.
+#[inline(always)]
 fn put_line(lines: &mut Runs<u16>, line: u16)
     requires room { HasRoom lines.old }
     requires few { length (values_of lines.old) + 1 < 2 ^ 64 }
@@ -106,16 +117,17 @@ fn put_line(lines: &mut Runs<u16>, line: u16)
 }
 
 /// One place more, at this span. A span of zeros need not be kept where there was none.
+#[inline(always)]
 fn put_span(spans: &mut Runs<Span>, span: Span)
     requires room { HasRoom spans.old }
     requires few { length (values_of spans.old) + 1 < 2 ^ 64 }
     ensures { (s : Option Span) × (values_of spans.new ≡ values_of spans.old ++ s ∷ []) ×
         (option_and_then shown s ≡ shown span) }
 {
-    if spans.last().unwrap_or_default() == span {
-        spans.again();
-    } else {
-        spans.put(span);
+    match spans.last() {
+        Some(last) if last == span => spans.again(),
+        None if span == Span::default() => spans.again(),
+        _ => spans.put(span),
     }
 }
 

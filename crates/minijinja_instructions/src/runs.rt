@@ -36,6 +36,13 @@ impl<T: Copy> Runs<T> {
         }
     }
 
+    /// Reserves memory for `count` changes, so that none of them moves what is there.
+    pub fn make_room(&mut self, count: usize) -> Result<(), AllocError>
+        ensures { values_of self.new ≡ values_of self.old }
+    {
+        self.runs.reserve(count)
+    }
+
     /// Makes room for a change.
     pub fn reserve(&mut self) -> Result<(), AllocError>
         ensures same { values_of self.new ≡ values_of self.old }
