@@ -372,19 +372,24 @@ fn compile_stmt<'s, V: TemplateValue>(
     Ok(enclosing.data_bytes())
 }
 
-/// The most instructions to reserve memory for because of the bytes of a template.
+/// The most instructions to reserve memory for because of the bytes of a template or a block.
 const MOST_ROOM: usize = 600;
 
-/// How many instructions to reserve memory for: most statements make at least two, and a text that
-/// is dense with tags makes one for about four bytes.
-fn room_for(statements: usize, bytes: usize) -> usize {
-    statements.saturating_mul(2).max((bytes / 4).min(MOST_ROOM))
+/// How many instructions to reserve memory for, where these statements stand within a span: most
+/// statements make at least two, and up to four where they are long; a text that is dense with tags
+/// makes one for about four bytes.
+fn room_for<V: TemplateValue>(statements: &[Stmt<'_, V>], whole: Span) -> usize {
+    let bytes = own_bytes(statements, whole);
+    let least = statements.len().saturating_mul(2);
+    let of_long_ones = (bytes / 5).min(least.saturating_mul(2));
+    let of_dense_text = (bytes / 4).min(MOST_ROOM);
+    least.max(of_long_ones).max(of_dense_text)
 }
 
-/// The bytes of a template outside of its blocks, which have lists of their own.
-fn own_bytes<V: TemplateValue>(children: &[Stmt<'_, V>], whole: Span) -> usize {
+/// The bytes of statements within a span, outside of blocks, which have lists of their own.
+fn own_bytes<V: TemplateValue>(statements: &[Stmt<'_, V>], whole: Span) -> usize {
     let mut bytes = bytes_of(whole);
-    for child in children {
+    for child in statements {
         if let Stmt::Block(block) = child {
             bytes = bytes.saturating_sub(bytes_of(block.span()));
         }
@@ -407,9 +412,7 @@ fn make_room<'s, V: TemplateValue>(
 {
     match stmt {
         Stmt::Template(template) => {
-            let children = &template.node().children;
-            let bytes = own_bytes(children, template.span());
-            code.make_room(room_for(children.len(), bytes))
+            code.make_room(room_for(&template.node().children, template.span()))
         }
         _ => Ok(()),
     }

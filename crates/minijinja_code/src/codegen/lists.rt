@@ -19,6 +19,7 @@ ghost use Rattle.minijinja_semantics.specs.Layout as layout;
 ghost use Rattle.minijinja_semantics.specs.Marks.{block_marks};
 ghost use Rattle.minijinja_instructions.specs.MarkLists.{marks_in};
 
+use crate::codegen::room_for;
 use crate::stmt::statements;
 use minijinja_code_parts::enclosing_loop::EnclosingLoop;
 use minijinja_emitter::emit::Emitter;
@@ -280,7 +281,7 @@ fn body_code<'s, V: TemplateValue>(
 {
     let mut code = Emitter::new(alloc);
     code.on_line(span);
-    code.make_room(body.len().saturating_mul(2))?;
+    code.make_room(room_for(body, span))?;
     let mut enclosing = EnclosingLoop::outside(alloc);
     statements(&mut code, &mut enclosing, body)?;
     Ok(code.into_parts())
