@@ -1,0 +1,3 @@
+-- What the crate says of its own private functions.
+pub mod AtMachine
+pub mod AtRuns
