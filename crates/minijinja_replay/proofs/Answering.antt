@@ -14,6 +14,7 @@ use Rattle.minijinja_replay.specs.declared.asking.Pushed.{Pushed}
 use Rattle.minijinja_replay.specs.declared.asking.Pushed.TheVariants as pushed
 use Rattle.minijinja_replay.proofs.Stacks.{pushed_all}
 
+-- so many are not none, one, or at most one
 not_none : (n : ℕ) → (suc n == 0) ≡ false
 not_none n = grind (arith, nat_tests)
 
@@ -24,6 +25,7 @@ not_few : (n : ℕ) → nat_lt (suc (suc n)) 2 ≡ false
 not_few n = grind (arith, nat_tests)
 
 module _ {E C F X Y : Type 0} (k : X → World E C → State E C F) (k' : Y → World E C → State E C F) where
+  -- what follows is alike after values that fit alike
   fitted_alike : (x : Option X) (y : Option Y) (e : E) (vs : List C) (taken : List (E × Answer C)) (rest : List (Answer C)) →
       ((w : World E C) → option_map (λ a. k a w) x ≡ option_map (λ b. k' b w) y) →
       after k (fitted x e vs taken rest) ≡ after k' (fitted y e vs taken rest)
@@ -33,6 +35,7 @@ module _ {E C F X Y : Type 0} (k : X → World E C → State E C F) (k' : Y → 
   fitted_alike None (Some b) e vs taken rest h = let no = h (record { record_so_far = taken; answers = rest }) in cc
   fitted_alike (Some a) (Some b) e vs taken rest h = let same = h (record { record_so_far = (e, Values vs) ∷ taken; answers = rest }) in cc
 
+  -- and after answers of which the values fit alike
   answered_alike : (fx : List C → Option X) (fy : List C → Option Y) (e : E) (taken : List (E × Answer C)) (answers : List (Answer C)) →
       ((vs : List C) (w : World E C) → option_map (λ a. k a w) (fx vs) ≡ option_map (λ b. k' b w) (fy vs)) →
       after k (answered fx e taken answers) ≡ after k' (answered fy e taken answers)
@@ -49,6 +52,7 @@ module _ {E C F X Y : Type 0} (k : X → World E C → State E C F) (k' : Y → 
   ask_alike fx fy e w h = answered_alike fx fy e w.record_so_far w.answers h
 
 module _ {E C F : Type 0} where
+  -- none fits alike as no value and as a count of none
   none_alike : (k : World E C → State E C F) (vs : List C) (w : World E C) → option_map {U = State E C F} (λ _. k w) (none_fits vs) ≡ option_map (λ _. k w) (fitting fit.Nothing vs)
   none_alike k [] w = refl
   none_alike k (v ∷ vs) w = ap (λ b. option_map {T = List C} {U = State E C F} (λ _. k w) (if b then Some (v ∷ vs) else None)) (sym (not_none (length vs)))
@@ -57,6 +61,7 @@ module _ {E C F : Type 0} where
   pub ask_none : (k : World E C → State E C F) (e : E) (w : World E C) → after (λ _ w'. k w') (ask none_fits e w) ≡ after (λ _ w'. k w') (ask (fitting fit.Nothing) e w)
   ask_none k e w = ask_alike (λ _ w'. k w') (λ _ w'. k w') none_fits (fitting fit.Nothing) e w (none_alike k)
 
+  -- at most one fits alike as an item and as a count of at most one
   item_alike : (k : Option C → World E C → State E C F) (vs : List C) (w : World E C) → option_map (λ o. k o w) (item_fits vs) ≡ option_map (λ xs. k (head_of (reverse xs)) w) (fitting fit.AtMostOne vs)
   item_alike k [] w = refl
   item_alike k (v ∷ []) w = refl
@@ -66,6 +71,7 @@ module _ {E C F : Type 0} where
   pub ask_item : (k : Option C → World E C → State E C F) (e : E) (w : World E C) → after k (ask item_fits e w) ≡ after (λ xs w'. k (head_of (reverse xs)) w') (ask (fitting fit.AtMostOne) e w)
   ask_item k e w = ask_alike k (λ xs w'. k (head_of (reverse xs)) w') item_fits (fitting fit.AtMostOne) e w (item_alike k)
 
+  -- the three ways to push an answer, each alike
   nothing_alike : (p : ℕ) (ops : List C) (ls : List Bool) (vs : List C) (w : World E C) → option_map {U = State E C F} (λ _. At (p + 1) ops ls w) (none_fits vs) ≡ option_map (λ xs. At (p + 1) (reverse xs ++ ops) ls w) (fitting fit.Nothing vs)
   nothing_alike p ops ls [] w = refl
   nothing_alike p ops ls (v ∷ vs) w = ap (λ b. option_map {T = List C} {U = State E C F} (λ xs. At (p + 1) (reverse xs ++ ops) ls w) (if b then Some (v ∷ vs) else None)) (sym (not_none (length vs)))

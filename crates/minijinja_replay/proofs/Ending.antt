@@ -12,7 +12,9 @@ use Rattle.minijinja_semantics.specs.Machine.{State, At, Returned, Halted, Jamme
 use Rattle.minijinja_semantics.specs.Naming.{event_of, state_as}
 use Rattle.minijinja_replay.specs.Replay.{EndsInTime, Finished, ending, finish_of, place_of}
 use Rattle.minijinja_replay.specs.declared.replay.Entry.{Entry}
+use Rattle.minijinja_replay.proofs.Running.{is_some_of}
 
+-- a place is itself
 same_place : (n : ℕ) → (n == n) ≡ true
 same_place n = grind (arith, nat_tests)
 
@@ -23,13 +25,12 @@ named g finish (Returned ops ls w) = refl
 named g finish (Halted w e) = refl
 named g finish Jammed = refl
 
+-- a run that has finished is over
 is_finished : {E C F : Type 0} (finish : Finish) (ops : List C) (ls : List Bool) (w : _) → ending {E = E} {F = F} finish (finished finish ops ls w) ≡ Some Finished
 is_finished (AtPlace end) ops ls w = ap (λ b. if b then Some Finished else None) (same_place end)
 is_finished AtReturn ops ls w = refl
 
-is_some_of : {X : Type 0} (o : Option X) (x : X) → o ≡ Some x → IsSome o
-is_some_of o x e = subst IsSome (sym e) refl
-
+-- so is one that has come to what it means
 is_over_at : {E C F X : Type 0} (u : Correct.Entry C X) (ls : List Bool) (meaning : Did E C F X) → IsSome (ending u.finish (over u [] ls meaning))
 is_over_at u ls (Gave w x) = is_some_of (ending u.finish (finished u.finish (u.leaves x ++ []) ls w)) Finished (is_finished u.finish (u.leaves x ++ []) ls w)
 is_over_at u ls (Ended w e) = refl

@@ -22,11 +22,13 @@ abbrev pub EachEnds : {C : Type 0} → List (Instr C) → List (Enterable C Exte
 EachEnds code [] = Unit {0}
 EachEnds code (u ∷ us) = EndsWhereItLeads code u × EachEnds code us
 
+-- each is all
 pub each_all : {C : Type 0} (code : List (Instr C)) (us : List (Enterable C Extent)) → EachEnds code us → All (EndsWhereItLeads code) us
 each_all code [] ends = All-nil (EndsWhereItLeads code)
 each_all code (u ∷ us) ends = All-cons (EndsWhereItLeads code) u us ends.0 (each_all code us ends.1)
 
 module _ {C F : Type 0} (f : Functions C F) (code : List (Instr C)) where
+  -- of two lists each ends
   each_append : (us vs : List (Enterable C Extent)) → EachEnds code us → EachEnds code vs → EachEnds code (us ++ vs)
   each_append [] vs a b = b
   each_append (u ∷ us) vs a b = (a.0, each_append us vs a.1 b)
@@ -46,6 +48,7 @@ module _ {C F : Type 0} (f : Functions C F) (code : List (Instr C)) where
       let pop = back code ((turning (plain (target f e) ▹ stmts f [] body)).code h1) _ (round.ends h1) stand1 in
       ap (past_items code) asks ∙ pops_end has_else ((turning (plain (target f e) ▹ stmts f [] body)).past h1) pop
 
+  -- the body of a loop stands behind what takes its item
   body_stands : (e : Expr C) (recursive has_else : Bool) (p : Leading Exits C) (h : Here) → Stands code h.place ((looping f e recursive has_else p).code h) → let b = body_start f e h in let x : Exits = record { break_to = (p.past b).place + 1; continue_to = h.place + 1 } in Stands code b.place (p.code x b)
   body_stands e recursive has_else p h stand =
       let h2 : Here = behind 1 (behind 1 h) in
@@ -71,16 +74,19 @@ module _ {C F : Type 0} (f : Functions C F) (code : List (Instr C)) where
       let inner = front code _ _ (back code ((expr f e).code h) _ ((expr_exact f e).ends h) stand) in
       k ((up_to_caller f args 1).past there) (front code _ _ (back code ((up_to_caller f args 1).code there) _ ((up_to_caller_exact f args 1).ends there) inner))
 
+  -- both sides of a condition
   sides_end : {L : Type 0} (true_body false_body : Stmts C L) (os : List Open) (x : Exits) (h : Here) → Stands code h.place ((either (are_any false_body) (stmts f os true_body) (stmts f os false_body)).code x h) → (Stands code (behind 1 h).place ((stmts f os true_body).code x (behind 1 h)) → EachEnds code (all_units f os true_body (behind 1 h))) → (let other = behind 1 ((stmts f os true_body).past (behind 1 h)) in Stands code other.place ((stmts f os false_body).code x other) → EachEnds code (all_units f os false_body other)) → EachEnds code (all_units f os true_body (behind 1 h) ++ all_units f os false_body (behind 1 ((stmts f os true_body).past (behind 1 h))))
   sides_end true_body done os x h stand true_ones false_ones = each_append (all_units f os true_body (behind 1 h)) [] (true_ones (rest code stand)) tt
   sides_end true_body (also s others) os x h stand true_ones false_ones =
       let inner = rest code stand in
       each_append (all_units f os true_body (behind 1 h)) _ (true_ones (front code _ _ inner)) (false_ones (rest code (back code ((stmts f os true_body).code x (behind 1 h)) _ ((stmts_exact f true_body os).ends x (behind 1 h)) inner)))
 
+  -- an else body, if there is one
   else_ends : {L : Type 0} (else_body : Stmts C L) (os : List Open) (x : Exits) (h : Here) → Stands code h.place ((if_true (are_any else_body) (stmts f os else_body)).code x h) → (Stands code (behind 1 h).place ((stmts f os else_body).code x (behind 1 h)) → EachEnds code (all_units f os else_body (behind 1 h))) → EachEnds code (all_units f os else_body (behind 1 h))
   else_ends done os x h stand k = tt
   else_ends (also s others) os x h stand k = k (rest code stand)
 
+  -- whether there are statements does not depend on their labels
   any_spanned : {L : Type 0} (ss : Stmts C L) (os : List Open) (h : Here) → are_any ss ≡ are_any (all_spanned f os ss h)
   any_spanned done os h = refl
   any_spanned (also s rest) os h = refl

@@ -15,14 +15,11 @@ use Rattle.minijinja_replay.specs.declared.machine.Step.{Step}
 use Rattle.minijinja_replay.specs.declared.machine.Step.TheVariants as step
 use Rattle.minijinja_replay.specs.declared.replay.Entry.{Entry}
 use Rattle.minijinja_replay.specs.declared.replay.Run.{Run}
-use Rattle.minijinja_replay.proofs.Running.{goes_on, jams, not_over, run_more, run_stays, stays, still_none}
+use Rattle.minijinja_replay.proofs.Running.{goes_on, is_some_of, jams, not_over, run_more, run_stays, stays, still_none}
 
 -- two worlds of equal parts
 pub world_same : {E C : Type 0} {r r' : List (E × event.Answer C)} {a a' : List (event.Answer C)} → r ≡ r' → a ≡ a' → ◌≡◌ {A = World E C} (record { record_so_far = r; answers = a }) (record { record_so_far = r'; answers = a' })
 world_same x y = cc
-
-is_some_of : {X : Type 0} (o : Option X) (x : X) → o ≡ Some x → IsSome o
-is_some_of o x e = subst IsSome (sym e) refl
 
 module _ {V G C F : Type 0} (f : Functions C F) (c : V → C) (fc : G → F) (program : Instructions V G) (e : Entry) (given : List C) (answers : List (event.Answer C)) where
   -- what has run is the run
@@ -69,6 +66,7 @@ module _ {V G C F : Type 0} (f : Functions C F) (c : V → C) (fc : G → F) (pr
   pub not_now : ending_after n f (code_of c program) e given answers ≡ None
   not_now = not_over f traced (code_of c program) (finish_of (code_of c program) e) n m.place (stack c m) (loops c m) (world c m) (At (place_of e) given [] (fresh answers)) at going
 
+  -- nor was it before
   pub none_yet : ((k : ℕ) → k < n → ending_after k f (code_of c program) e given answers ≡ None) → (k : ℕ) → k < n + 1 → ending_after k f (code_of c program) e given answers ≡ None
   none_yet first = still_none f traced (code_of c program) (finish_of (code_of c program) e) n m.place (stack c m) (loops c m) (world c m) (At (place_of e) given [] (fresh answers)) at going first
 

@@ -32,6 +32,7 @@ popped_end c n all below off e l =
     ∙ popped_off (reverse (map c off)) (reverse (map c below)) []
     ∙ ap (λ xs. Some (xs, reverse (map c below))) (append-nil (reverse (reverse (map c off))) ∙ reverse-reverse (map c off))
 
+-- of fewer operands so many are not taken off
 too_few : {C : Type 0} (n : ℕ) (xs vs : List C) → length xs < n → popped n xs vs ≡ None
 unfolding popped
 too_few zero xs vs lt = absurd (omega arith)
@@ -63,6 +64,7 @@ popped_from c n at all below off sum first rest =
     let whole : all ≡ below ++ off = sym (take-append-drop at all) ∙ ap (λ xs. xs ++ drop at all) (sym first) ∙ ap (λ xs. below ++ xs) (sym rest) in
     popped_end c n all below off whole (ap length rest ∙ length-drop at all ∙ omega (arith, sum))
 
+-- turned and seen is seen and turned
 pub map_reverse : {A B : Type 0} (f : A → B) (xs : List A) → map f (reverse xs) ≡ reverse (map f xs)
 map_reverse f [] = refl
 map_reverse f (x ∷ xs) = ap (map f) (reverse-append (x ∷ []) xs) ∙ map-append f (reverse xs) (x ∷ []) ∙ ap (λ l. l ++ f x ∷ []) (map_reverse f xs) ∙ sym (reverse-append (f x ∷ []) (map f xs))
@@ -89,20 +91,25 @@ pub counted_some : {C F : Type 0} (f : Functions C F) (ops : List C) (o : Option
 unfolding popped_counted
 counted_some f ops o n e = ap (λ x. popped_counted f x ops) e
 
--- as many as a count on top says
-pub counted_by : {C F : Type 0} (f : Functions C F) (ops below : List C) (v : C) (o : Option ℕ) (n : ℕ) → o ≡ None → ops ≡ v ∷ below → Some n ≡ f.as_count v → popped_counted f o ops ≡ popped n below []
-unfolding popped_counted popped_by
-counted_by f ops below v o n e top count = ap (λ x. popped_counted f x ops) e ∙ ap (popped_counted f None) top ∙ ap (λ x. popped_by x below) (sym count)
-
--- what is on top is no count
-pub counted_none : {C F : Type 0} (f : Functions C F) (ops below : List C) (v : C) (o : Option ℕ) → o ≡ None → ops ≡ v ∷ below → None ≡ f.as_count v → popped_counted f o ops ≡ None
-unfolding popped_counted popped_by
-counted_none f ops below v o e top count = ap (λ x. popped_counted f x ops) e ∙ ap (popped_counted f None) top ∙ ap (λ x. popped_by x below) (sym count)
+-- a count on top is taken off first
+pub count_off : {C F : Type 0} (f : Functions C F) (ops below : List C) (v : C) (o : Option ℕ) → ops ≡ v ∷ below → o ≡ f.as_count v → popped_counted f None ops ≡ popped_by o below
+unfolding popped_counted
+count_off f ops below v o top count = ap (popped_counted f None) top ∙ ap (λ x. popped_by x below) (sym count)
 
 -- nothing is on top
-pub counted_empty : {C F : Type 0} (f : Functions C F) (ops : List C) (o : Option ℕ) → o ≡ None → ops ≡ [] → popped_counted f o ops ≡ None
-unfolding popped_counted
-counted_empty f ops o e empty = ap (λ x. popped_counted f x ops) e ∙ ap (popped_counted f None) empty
+pub count_none : {C F : Type 0} (f : Functions C F) (ops below : List C) → ops ≡ [] → popped_counted f None ops ≡ popped_by None below
+unfolding popped_counted popped_by
+count_none f ops below empty = ap (popped_counted f None) empty
+
+-- as many are taken off as a count on top says
+pub counted_by : {C F : Type 0} (f : Functions C F) (ops below : List C) (o : Option ℕ) (n : ℕ) → o ≡ None → popped_counted f None ops ≡ popped_by (Some n) below → popped_counted f o ops ≡ popped n below []
+unfolding popped_by
+counted_by f ops below o n e off = ap (λ x. popped_counted f x ops) e ∙ off
+
+-- no count is on top
+pub counted_none : {C F : Type 0} (f : Functions C F) (ops below : List C) (o : Option ℕ) → o ≡ None → popped_counted f None ops ≡ popped_by None below → popped_counted f o ops ≡ None
+unfolding popped_by
+counted_none f ops below o e off = ap (λ x. popped_counted f x ops) e ∙ off
 
 -- values put on in order, and then their count
 pub put_all : {A C F : Type 0} (c : A → C) (f : Functions C F) (y : Pushed) (before values after : List A) (v : C) (n : ℕ) → y ≡ pushed.AllValues → after ≡ before ++ values → v ≡ f.of_u64 n → n ≡ length values → put_on f y (map c values) (reverse (map c before)) ≡ v ∷ reverse (map c after)
@@ -126,6 +133,7 @@ unpacked c old values turned new is put =
 pub put_last : {A C : Type 0} (c : A → C) (new old : List A) (x : A) → new ≡ old ++ x ∷ [] → reverse (map c new) ≡ c x ∷ reverse (map c old)
 put_last c new old x e = ap (λ l. reverse (map c l)) e ∙ pushed_last c old x
 
+-- equal options have equal values
 some_same : {X : Type 0} {x y : X} → Some x ≡ Some y → x ≡ y
 some_same e = cc
 
@@ -136,16 +144,19 @@ two_off h [] vs below e = cc
 two_off h (v ∷ []) vs below e = cc
 two_off {C = C} h (v ∷ u ∷ ops) vs below e = ap (λ (x : List C × List C). h x.0 x.1) (some_same e)
 
+-- where two are not there together, they are not there one by one
 pub two_none : {E C F : Type 0} (k : C → C → List C → State E C F) (ops : List C) → popped 2 ops [] ≡ None → on_two ops k ≡ Jammed
 unfolding popped
 two_none k [] e = refl
 two_none k (v ∷ []) e = refl
 two_none k (v ∷ u ∷ ops) e = cc
 
+-- what is first stays first before others
 head_appended : {C : Type 0} (xs ys : List C) (v : C) → head_of xs ≡ Some v → head_of (xs ++ ys) ≡ Some v
 head_appended [] ys v e = cc
 head_appended (x ∷ xs) ys v e = e
 
+-- the last one of a list that is not empty is first the other way round
 last_first : {A C : Type 0} (c : A → C) (x : A) (xs : List A) (v : A) → Some v ≡ slice_get (x ∷ xs) (length xs) → head_of (reverse (map c (x ∷ xs))) ≡ Some (c v)
 last_first c x [] v e = ap (λ u. Some (c u)) (sym (some_same e))
 last_first c x (y ∷ ys) v e = ap head_of (reverse-append (c x ∷ []) (map c (y ∷ ys))) ∙ head_appended (reverse (map c (y ∷ ys))) (c x ∷ []) (c v) (last_first c y ys v e)

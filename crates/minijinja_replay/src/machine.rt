@@ -1,5 +1,5 @@
 //! The machine: its state, its operands, and what each instruction does.
-ghost use Rattle.std.specs.Prelude.{◌≡◌, ◌+◌, ◌<◌, ◌^◌, ◌∷◌, [], length, map, option_map, slice_get, IfOk, IfSome, IsNone, OnOk, Some};
+ghost use Rattle.std.specs.Prelude.{◌≡◌, ◌+◌, ◌<◌, ◌^◌, ◌∷◌, [], length, map, option_map, slice_get, IfOk, IfSome, IsNone, None, OnOk, Some};
 ghost use Rattle.minijinja_value.specs.Outcomes.{map_pairs};
 ghost use Rattle.minijinja_semantics.specs.Machine as machine;
 ghost use Rattle.minijinja_instructions.specs.Instructions.{instr_of};
@@ -245,14 +245,27 @@ impl<'c, 's, V: TemplateValue> Machine<'c, 's, V> {
     {
         match count {
             Some(count) => self.pop_many(count),
-            None => match self.pop() {
-                Some(value) => match value.as_count() {
-                    Some(count) => self.pop_many(count),
-                    None => Ok(None),
-                },
+            None => match self.pop_count() {
+                Some(count) => self.pop_many(count),
                 None => Ok(None),
             },
         }
+    }
+
+    /// Pops the topmost operand, which says how many of those below it are meant, if it is a count.
+    #[tactic(auto, using(crate::proofs::Stacks::count_none, crate::proofs::Stacks::count_off))]
+    fn pop_count(&mut self) -> Option<usize>
+        ensures popped { machine.popped_counted V.functions None (stack V.contents self.old)
+            ≡ machine.popped_by result (stack V.contents self.new) }
+        ensures place { self.new.place ≡ self.old.place }
+        ensures loops { loops V.contents self.new ≡ loops V.contents self.old }
+        ensures world { world V.contents self.new ≡ world V.contents self.old }
+        ensures same { self.new.code ≡ self.old.code }
+    {
+        let Some(value) = self.pop() else {
+            return None;
+        };
+        value.as_count()
     }
 
     /// Pops so many pairs of a key and the value above it, the topmost last, if there are that
