@@ -1,5 +1,5 @@
 -- Where the code of each recursive loop of a tree is over.
-use Rattle.std.proofs.Common.{◌≡◌, ℕ, ◌+◌, List, [], ◌∷◌, ◌++◌, Some, refl, ap, ◌∙◌, subst, arith}
+use Rattle.std.proofs.Common.{◌≡◌, ◌+◌, List, [], ◌∷◌, ◌++◌, refl, ap, ◌∙◌, subst, arith}
 use Rattle.std.specs.Prelude.{All, Bool, true, false, slice_get}
 use Rattle.std.proofs.lemmas.List.Elements.{All-nil, All-cons}
 use Rattle.minijinja_value.specs.Values.{Functions}
@@ -11,7 +11,7 @@ use Rattle.minijinja_semantics.specs.Code.{Instr, Do, Jump, Return}
 use Rattle.minijinja_semantics.specs.Pieces.{Here, behind, start, Exits, Leading, outside, Open, OpenScope, OpenAutoEscape, OpenCapture, one, leading_to, plain, turning, ◌▸◌, ◌▹◌}
 use Rattle.minijinja_semantics.specs.Layout.{expr, base, target, call_of, assignments, passing, looping, popping, if_true, either, taking, arguments_with, argument_count_with, up_to_caller, macro_value, stmt, stmts, stmt_code, block_code}
 use Rattle.minijinja_semantics.specs.Places.{Extent, extent, loop_start, body_start, loop_past, macro_entry, macro_body_start, before_caller, all_spanned}
-use Rattle.minijinja_semantics.specs.Units.{Enterable, RecursiveLoop, MacroBody, and_if, if_coded, units, all_units, macro_units}
+use Rattle.minijinja_semantics.specs.Units.{Enterable, RecursiveLoop, and_if, if_coded, units, all_units, macro_units}
 use Rattle.minijinja_semantics.proofs.Roots.{at_root_of}
 use Rattle.minijinja_semantics.proofs.Runs.{Stands, front, back, first, rest, stands_behind}
 use Rattle.minijinja_semantics.proofs.Lengths.{then_exact, one_exact, expr_exact, base_exact, target_exact, plain_exact, and_exact, turning_exact, assignments_exact, passing_exact, looping_exact, taking_exact, up_to_caller_exact, stmt_exact, stmts_exact}

@@ -1,5 +1,5 @@
 -- A run of the machine, from what its steps came to.
-use Rattle.std.proofs.Common.{◌≡◌, ℕ, ◌+◌, ◌-◌, ◌<◌, ◌≤◌, List, [], Option, Some, None, IsSome, map, refl, ap, ◌∙◌, sym, subst, arith}
+use Rattle.std.proofs.Common.{◌≡◌, ℕ, ◌+◌, ◌-◌, ◌<◌, ◌≤◌, List, [], Some, None, IsSome, map, ap, ◌∙◌, sym, subst, arith}
 use Rattle.std.specs.Prelude.{false, reverse, slice_get}
 use Rattle.minijinja_value.specs.Values.{Functions}
 use Rattle.minijinja_semantics.specs.Events as event

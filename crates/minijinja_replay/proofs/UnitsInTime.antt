@@ -1,9 +1,8 @@
 -- Each unit of code that does what its units mean is over in time.
-use Rattle.std.proofs.Common.{◌≡◌, List, [], ◌∷◌, refl, ap, sym, subst}
+use Rattle.std.proofs.Common.{List, [], ◌∷◌, refl, ap}
 use Rattle.std.specs.Prelude.{All}
 use Rattle.std.proofs.lemmas.List.Elements.{All-nil, All-cons}
 use Rattle.minijinja_value.specs.Values.{Functions}
-use Rattle.minijinja_tree.specs.Tree.{Stmts}
 use Rattle.minijinja_semantics.specs.Answers.{AreFew}
 use Rattle.minijinja_semantics.specs.Code.{Instr}
 use Rattle.minijinja_semantics.specs.Events.{Answer}

@@ -2,7 +2,7 @@
 use Rattle.std.proofs.Common.{◌≡◌, List, [], sym, subst}
 use Rattle.std.specs.Prelude.{All}
 use Rattle.minijinja_semantics.specs.Code.{Instr}
-use Rattle.minijinja_semantics.specs.Layout.{block_code, stmt_code}
+use Rattle.minijinja_semantics.specs.Layout.{block_code}
 use Rattle.minijinja_semantics.specs.Pieces.{start}
 use Rattle.minijinja_semantics.specs.Units.{DoesBlock, all_units, units}
 use Rattle.minijinja_semantics.proofs.BlockBodies.{of_blocks}
