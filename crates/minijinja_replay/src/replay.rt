@@ -100,12 +100,13 @@ pub struct Run<V: TemplateValue> {
 }
 
 /// Runs code from an entry, with these operands, the topmost last, on these answers, which its
-/// events take in order. Answers that no event takes are dropped.
+/// events take in order. Answers that no event takes are dropped. The code has fewer than 2^32
+/// instructions, as each list that instructions were added to one by one.
 ///
 /// The caller ensures that the run is over within (answers + 1) × (code length + 1) steps. That of
 /// compiled code is, as [`laws`](crate::laws) say: entered as a template, a block, an expression,
 /// what a macro runs or a recursive loop, on any answers that number, with the values in them,
-/// under 2^64. Who does not know it of some code calls [`replay_within`].
+/// under 2^64. Where that is not known of some code, [`replay_within`] runs it.
 ///
 /// The time goes with the steps and with the values that they move, and the memory with the record
 /// and with the operands. Refused memory is the only error.
@@ -139,7 +140,7 @@ pub fn replay<'s, V: TemplateValue>(
 }
 
 /// Runs any code, for at most `most` steps, and else as [`replay`] does: from an entry, with these
-/// operands, the topmost last, on these answers in order.
+/// operands, the topmost last, on these answers in order. It has fewer than 2^32 instructions.
 ///
 /// It returns `None` where the run is not over within that many steps. Such a run goes on, or it
 /// came to where no instruction applies: past the end of the list, or with too few operands or no
