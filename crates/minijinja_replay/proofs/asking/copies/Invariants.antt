@@ -1,3 +1,4 @@
+-- The copies so far are those of the first values.
 use Rattle.std.proofs.Common.{◌≡◌, map, take}
 use Rattle.minijinja_replay.proofs.asking.copies.Given as goal
 
