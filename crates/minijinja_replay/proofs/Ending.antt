@@ -19,19 +19,19 @@ same_place : (n : ℕ) → (n == n) ≡ true
 same_place n = grind (arith, nat_tests)
 
 -- notes are not looked at
-named : {E E' C F : Type 0} (g : E → E') (finish : Finish) (s : State E C F) → ending finish (state_as g s) ≡ ending finish s
+pub named : {E E' C F : Type 0} (g : E → E') (finish : Finish) (s : State E C F) → ending finish (state_as g s) ≡ ending finish s
 named g finish (At p ops ls w) = refl
 named g finish (Returned ops ls w) = refl
 named g finish (Halted w e) = refl
 named g finish Jammed = refl
 
 -- a run that has finished is over
-is_finished : {E C F : Type 0} (finish : Finish) (ops : List C) (ls : List Bool) (w : _) → ending {E = E} {F = F} finish (finished finish ops ls w) ≡ Some Finished
+pub is_finished : {E C F : Type 0} (finish : Finish) (ops : List C) (ls : List Bool) (w : _) → ending {E = E} {F = F} finish (finished finish ops ls w) ≡ Some Finished
 is_finished (AtPlace end) ops ls w = ap (λ b. if b then Some Finished else None) (same_place end)
 is_finished AtReturn ops ls w = refl
 
 -- so is one that has come to what it means
-is_over_at : {E C F X : Type 0} (u : Correct.Entry C X) (ls : List Bool) (meaning : Did E C F X) → IsSome (ending u.finish (over u [] ls meaning))
+pub is_over_at : {E C F X : Type 0} (u : Correct.Entry C X) (ls : List Bool) (meaning : Did E C F X) → IsSome (ending u.finish (over u [] ls meaning))
 is_over_at u ls (Gave w x) = is_some_of (ending u.finish (finished u.finish (u.leaves x ++ []) ls w)) Finished (is_finished u.finish (u.leaves x ++ []) ls w)
 is_over_at u ls (Ended w e) = refl
 

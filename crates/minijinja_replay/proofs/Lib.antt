@@ -1,6 +1,7 @@
 pub mod Answering
 pub mod Ending
 pub mod LoopEnds
+pub mod Meaning
 pub mod Replaying
 pub mod Running
 pub mod Stacks

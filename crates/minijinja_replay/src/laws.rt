@@ -1,4 +1,4 @@
-//! Laws about the runs of compiled code: each is over in time.
+//! Laws about the runs of compiled code: each is over in time, and goes as its tree means.
 ghost use Rattle.std.specs.Prelude.{◌≡◌, ℕ, [], ◌∷◌, All, Bool, List, length};
 ghost use Rattle.minijinja_tree.specs.Tree.{Expr, Parameter, Stmt, Stmts, blocks};
 ghost use Rattle.minijinja_tree.specs.WellFormed.{IsWellFormed};
@@ -11,9 +11,11 @@ ghost use Rattle.minijinja_semantics.specs.Layout.{block_code, stmt_code};
 ghost use Rattle.minijinja_semantics.specs.Pieces.{start};
 ghost use Rattle.minijinja_semantics.specs.Places.{Extent};
 ghost use Rattle.minijinja_semantics.specs.Units.{DoUnits, DoesBlock, DoesUnit, MacroBody, RecursiveLoop, all_units, units};
-ghost use Rattle.minijinja_replay.specs.Replay.{EndsInTime, EndsWhereItLeads, UnitEndsInTime, finish_of, place_of};
+ghost use Rattle.minijinja_replay.specs.Meant.{IsMeant};
+ghost use Rattle.minijinja_replay.specs.Replay.{EndsInTime, EndsWhereItLeads, IsRun, UnitEndsInTime, finish_of, place_of};
 ghost use Rattle.minijinja_replay.specs.declared.replay.Entry.TheVariants as entry;
 ghost use Rattle.minijinja_replay.specs.declared.replay.Entry as Entries;
+ghost use Rattle.minijinja_replay.specs.declared.replay.Run.{Run};
 
 use minijinja_value::value::TemplateValue;
 
@@ -78,4 +80,17 @@ pub fn loops_end_where_they_lead<V: TemplateValue, L>()
     ensures blocks { (t : Stmt V.Contents L) → IsWellFormed t →
         All (λ b. All (EndsWhereItLeads (block_code V.functions b.body))
         (all_units V.functions [] b.body start)) (blocks t) }
+{}
+
+/// A run of code that does what a tree means goes as the tree means: it has the events of the
+/// meaning, with the same operands and answers in the same order, ends as the meaning ends, and
+/// where it finishes leaves the operands that the meaning leaves.
+pub fn runs_go_as_meant<V: TemplateValue, X>()
+    ensures { (code : List (Instr V.Contents)) (u : Correct.Entry V.Contents X)
+        (meaning : Did (Event ℕ V.Contents) V.Contents V.FaultContents X)
+        (answers : List (Answer V.Contents)) (e : Entries.Entry) (r : Run V V.Fault) →
+        DoesFrom V.functions code u meaning [] [] answers → place_of e ≡ u.place →
+        finish_of code e ≡ u.finish →
+        IsRun V.functions V.contents V.fault_contents code e u.given answers r →
+        IsMeant V.contents V.fault_contents code u.leaves meaning answers r }
 {}
