@@ -1,4 +1,5 @@
-//! The program `mjc`, which prints the tokens, code and names of templates, and expressions' code.
+//! The program `mjc`, which prints the tokens, code, names and runs of templates, and expressions'
+//! code.
 #![tactic(auto)]
 
 mod source;
@@ -6,9 +7,8 @@ mod source;
 mod tests;
 
 use mjc_commands::failure::Failure;
-use mjc_commands::file_named;
-use mjc_commands::run::{refuse, run, status};
-use mjc_commands::watched::Watched;
+use mjc_commands::run::{refuse, run};
+use mjc_commands::{answers_named, file_named};
 use source::Source;
 use std::env;
 use std::io::{self, BufWriter};
@@ -19,20 +19,20 @@ fn start(rt: &HostRuntime) -> io::Result<u8> {
     let alloc = rt.alloc();
     let words: Vec<String> = env::args(rt)?.skip(1).collect(alloc)?;
     let args: Vec<&str> = words.iter().map(|word| word.as_str()).collect(alloc)?;
-    let mut file = Watched::new(Source::open(rt, file_named(&args)));
-    let mut out = Watched::new(BufWriter::new(alloc, rt.stdout())?);
-    let mut err = rt.stderr();
-    let ending = run(
+    let mut file = Source::open(rt, file_named(&args));
+    let mut answers = Source::open(rt, answers_named(&args));
+    let mut out = BufWriter::new(alloc, rt.stdout())?;
+    let status = run(
         alloc,
         &args,
         &mut file,
-        &mut io::empty(),
+        &mut answers,
         &mut out,
-        &mut err,
+        &mut rt.stderr(),
     );
     // What could not be written is not tried again.
-    let _ = out.into_inner().into_parts();
-    Ok(status(&ending))
+    let _ = out.into_parts();
+    Ok(status)
 }
 
 fn main(rt: HostRuntime) -> ExitCode {

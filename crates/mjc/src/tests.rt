@@ -10,13 +10,13 @@ mod imports;
 mod macros;
 mod names;
 mod print;
+mod replay;
 mod shipped;
 mod statements;
 mod tokens;
 mod words;
 
-use mjc_commands::run::{run, status};
-use mjc_commands::watched::Watched;
+use mjc_commands::run::run;
 use std::alloc::{AllocError, Global};
 use std::io::{self, Read, Write};
 use std::process::Abort;
@@ -125,23 +125,21 @@ fn character(symbol: char) -> Option<char> {
     }
 }
 
-/// The status of a run on a reader and two writers.
-fn status_of_run<R: Read, W: Write, X: Write>(
+/// What a run on a reader prints that wants no answers: see [`output_on`].
+fn output<R: Read>(alloc: Global, args: &[&str], file: &mut R) -> Result<String, Fail> {
+    output_on(alloc, args, file, &mut io::empty())
+}
+
+/// What a run on a reader and one of answers prints, and after it, where the status is not 0 or
+/// something is said, `! STATUS ` and what is said.
+fn output_on<R: Read, Q: Read>(
     alloc: Global,
     args: &[&str],
     file: &mut R,
-    out: &mut W,
-    err: &mut X,
-) -> u8 {
-    let (mut file, mut out) = (Watched::new(file), Watched::new(out));
-    status(&run(alloc, args, &mut file, &mut io::empty(), &mut out, err))
-}
-
-/// What a run on a reader prints, and after it, where the status is not 0 or something is said, `!
-/// STATUS ` and what is said.
-fn output<R: Read>(alloc: Global, args: &[&str], file: &mut R) -> Result<String, Fail> {
+    answers: &mut Q,
+) -> Result<String, Fail> {
     let (mut out, mut err) = (Vec::new(alloc), Vec::new(alloc));
-    let status = status_of_run(alloc, args, file, &mut out, &mut err);
+    let status = run(alloc, args, file, answers, &mut out, &mut err);
     let mut text = String::from_utf8(out)?;
     if status > 0 || !err.is_empty() {
         write!(text, "! {status} {}", str::from_utf8(&err)?)?;
@@ -231,36 +229,65 @@ fn reads_to_the_end(rt: HostRuntime) -> Result<(), Fail> {
     Ok(())
 }
 
-/// Whether a run succeeds that can write so often. It says where it cannot, and what it wrote is
-/// the start of the output.
-fn succeeds(rt: &impl Abort, alloc: Global, writes: usize) -> bool {
-    let (mut out, mut err) = (Short::new(alloc, writes), Vec::new(alloc));
-    let file = &mut GREETING.as_bytes();
-    let status = status_of_run(alloc, &CODE, file, &mut out, &mut err);
-    assert!(rt; GREETING_CODE.as_bytes().starts_with(&out.taken));
-    if status == 0 {
-        assert!(rt; out.taken.len() == GREETING_CODE.len() && err.is_empty() && writes > 0);
-        return true;
+/// A command, the text of its file and its answers, and what it prints.
+#[derive(Clone, Copy)]
+struct Printing<'t> {
+    args: &'t [&'t str],
+    source: &'t str,
+    answers: &'t str,
+    printed: &'t str,
+}
+
+impl Printing<'_> {
+    /// Whether a run succeeds that can write so often. It says where it cannot, and what it wrote is
+    /// the start of the output.
+    fn succeeds(&self, rt: &impl Abort, alloc: Global, writes: usize) -> bool {
+        let (mut out, mut err) = (Short::new(alloc, writes), Vec::new(alloc));
+        let (file, answers) = (&mut self.source.as_bytes(), &mut self.answers.as_bytes());
+        let status = run(alloc, self.args, file, answers, &mut out, &mut err);
+        assert!(rt; self.printed.as_bytes().starts_with(&out.taken));
+        if status == 0 {
+            assert!(rt; out.taken.len() == self.printed.len() && err.is_empty() && writes > 0);
+            return true;
+        }
+        assert!(rt; status == 2 && err.as_slice() == b"mjc: cannot write\n".as_slice());
+        false
     }
-    assert!(rt; status == 2 && err.as_slice() == b"mjc: cannot write\n".as_slice());
-    false
+
+    /// Asserts that each write that fails ends the run, until there are enough.
+    fn ends_at_each_failing_write(&self, rt: &impl Abort, alloc: Global) {
+        for writes in 0..100 {
+            if self.succeeds(rt, alloc, writes) {
+                return;
+            }
+        }
+        panic!(rt; "no number of writes is enough");
+    }
 }
 
 #[test]
 fn ends_at_a_failing_write(rt: HostRuntime) {
-    for writes in 0..100 {
-        if succeeds(&rt, rt.alloc(), writes) {
-            return;
-        }
-    }
-    panic!(rt; "no number of writes is enough");
+    let code = Printing {
+        args: &CODE,
+        source: GREETING,
+        answers: "",
+        printed: GREETING_CODE,
+    };
+    code.ends_at_each_failing_write(&rt, rt.alloc());
+    let replay = Printing {
+        args: &["replay", "-", "answers"],
+        source: "{{ a }}",
+        answers: "[1]\n[]\n",
+        printed: "Lookup(\"a\") <- [] -> [1]\nEmit <- [1] -> []\nfinished, 2 steps\n",
+    };
+    replay.ends_at_each_failing_write(&rt, rt.alloc());
 }
 
 /// The status of a run on a template that can say nothing.
 fn status_unsaid(alloc: Global, source: &str) -> u8 {
     let (mut out, mut err) = (Vec::new(alloc), Short::new(alloc, 0));
     let file = &mut source.as_bytes();
-    status_of_run(alloc, &CODE, file, &mut out, &mut err)
+    run(alloc, &CODE, file, &mut io::empty(), &mut out, &mut err)
 }
 
 #[test]
@@ -275,7 +302,14 @@ fn says_that_memory_is_refused(rt: HostRuntime) {
     let (mut printed, mut said) = ([0u8; 128], [0u8; 64]);
     let (mut out, mut err) = (printed.as_mut_slice(), said.as_mut_slice());
     let file = &mut GREETING.as_bytes();
-    let status = status_of_run(rt.alloc(), &CODE, file, &mut out, &mut err);
+    let status = run(
+        rt.alloc(),
+        &CODE,
+        file,
+        &mut io::empty(),
+        &mut out,
+        &mut err,
+    );
     if status == 0 {
         assert!(rt; printed.starts_with(GREETING_CODE.as_bytes()));
     } else {

@@ -1,3 +1,5 @@
 -- The lemmas of this crate.
+pub mod AnswerLines
+pub mod Commands
 pub mod Limits
 pub mod Requests

@@ -8,8 +8,9 @@ use Rattle.std.proofs.lemmas.Slice.Eq.{bytes_eq-Decides}
 use Rattle.minijinja_syntax.specs.Texts.{Text}
 use Rattle.minijinja_syntax.specs.Syntax.{Syntax}
 use Rattle.mjc_commands.specs.Settings.{Setting, block, variable, comment, line_statement, line_comment, trim_blocks, lstrip_blocks, keep_newline, words_of, with_setting, texts}
-use Rattle.mjc_commands.specs.Usage.{IsFile, Task, option_words, command_word, Asks, AsksExpr}
+use Rattle.mjc_commands.specs.Usage.{AreFiles, IsFile, Request, Task, tokens, code, names, replay, option_words, paths_of, command_word, Asks, AsksExpr}
 use Rattle.mjc_commands.specs.private.AtOptions.{option_named, setting_of, first_setting, Takes}
+use Rattle.mjc_commands.specs.private.AtUsage.{BeginWithFile, IsActionOn}
 use Rattle.mjc_commands.specs.declared.options.OptionName.{OptionName}
 use Rattle.mjc_commands.specs.declared.options.OptionName.TheVariants.{Block, Variable, Comment, LineStatement, LineComment, TrimBlocks, LstripBlocks, KeepNewline}
 
@@ -87,34 +88,39 @@ first_setting-is : (words : List Text) (q : Setting × List Text) → first_sett
 first_setting-is [] q e = cc
 first_setting-is (word ∷ words) q e = setting_of-words word (option_named word) words (is_named word) q e
 
--- from a syntax, words read as options make another, and end in a file
-pub data Reads : Syntax → List Text → Syntax → Text → Type 0 where
-  over : {s : Syntax} {file : Text} → IsFile file → Reads s (file ∷ []) s file
-  more : {s : Syntax} {words : List Text} {t : Syntax} {file : Text} (q : Setting × List Text) → first_setting words ≡ Some q → Reads (with_setting s q.0) q.1 t file → Reads s words t file
+-- paths are no option
+first_setting-paths : (paths : List Text) → BeginWithFile paths → first_setting paths ≡ None
+first_setting-paths [] begin = absurd begin
+first_setting-paths (file ∷ rest) begin = first_setting-file file rest begin
 
--- options and a file are read
-pub option_words-read : (s : Syntax) (settings : List Setting) (file : Text) → IsFile file → Reads s (option_words settings file) (fold with_setting s settings) file
-option_words-read s [] file is_file = over is_file
-option_words-read s (setting ∷ settings) file is_file =
-    let rest : List Text = option_words settings file in
-    more (setting, rest) (rw append_assoc (first_setting-words_of setting rest)) (option_words-read (with_setting s setting) settings file is_file)
+-- from a syntax, words read as options make another, and end in paths
+pub data Reads : Syntax → List Text → Syntax → List Text → Type 0 where
+  over : {s : Syntax} {paths : List Text} → BeginWithFile paths → Reads s paths s paths
+  more : {s : Syntax} {words : List Text} {t : Syntax} {paths : List Text} (q : Setting × List Text) → first_setting words ≡ Some q → Reads (with_setting s q.0) q.1 t paths → Reads s words t paths
 
--- what is read are options and a file
-pub read_words : {s t : Syntax} {words : List Text} {file : Text} → Reads s words t file → (settings : List Setting) × (words ≡ option_words settings file)
-read_words (over is_file) = ([], refl)
-read_words (more {words = words} {file = file} q e later) =
+-- options and paths are read
+pub option_words-read : (s : Syntax) (settings : List Setting) (paths : List Text) → BeginWithFile paths → Reads s (option_words settings paths) (fold with_setting s settings) paths
+option_words-read s [] paths begin = over begin
+option_words-read s (setting ∷ settings) paths begin =
+    let rest : List Text = option_words settings paths in
+    more (setting, rest) (rw append_assoc (first_setting-words_of setting rest)) (option_words-read (with_setting s setting) settings paths begin)
+
+-- what is read are options and paths
+pub read_words : {s t : Syntax} {words : List Text} {paths : List Text} → Reads s words t paths → (settings : List Setting) × (words ≡ option_words settings paths)
+read_words (over begin) = ([], refl)
+read_words (more {words = words} {paths = paths} q e later) =
     let ih = read_words later in
-    (q.0 ∷ ih.0, first_setting-is words q e ∙ (ap (λ rest. words_of q.0 ++ rest) ih.1 ∙ sym (append_assoc (words_of q.0) (flat_map words_of ih.0) (file ∷ []))))
+    (q.0 ∷ ih.0, first_setting-is words q e ∙ (ap (λ rest. words_of q.0 ++ rest) ih.1 ∙ sym (append_assoc (words_of q.0) (flat_map words_of ih.0) paths)))
 
 -- after the first option reading goes on
-pub read_on : {s t : Syntax} {words : List Text} {file : Text} (q : Setting × List Text) → first_setting words ≡ Some q → Reads s words t file → Reads (with_setting s q.0) q.1 t file
-read_on q e (over {file = file} is_file) = let none = first_setting-file file [] is_file in absurd cc
-read_on q e (more {s = s} {t = t} {file = file} p first later) =
-    subst (λ (x : Setting × List Text). Reads (with_setting s x.0) x.1 t file) (some_injective p q (sym first ∙ e)) later
+pub read_on : {s t : Syntax} {words : List Text} {paths : List Text} (q : Setting × List Text) → first_setting words ≡ Some q → Reads s words t paths → Reads (with_setting s q.0) q.1 t paths
+read_on q e (over {paths = paths} begin) = let none = first_setting-paths paths begin in absurd cc
+read_on q e (more {s = s} {t = t} {paths = paths} p first later) =
+    subst (λ (x : Setting × List Text). Reads (with_setting s x.0) x.1 t paths) (some_injective p q (sym first ∙ e)) later
 
--- where no option is left, the file is
-pub read_over : {s t : Syntax} {words : List Text} {file : Text} → first_setting words ≡ None → Reads s words t file → (words ≡ file ∷ []) × (t ≡ s)
-read_over e (over is_file) = (refl, refl)
+-- where no option is left, the paths are
+pub read_over : {s t : Syntax} {words : List Text} {paths : List Text} → first_setting words ≡ None → Reads s words t paths → (words ≡ paths) × (t ≡ s)
+read_over e (over begin) = (refl, refl)
 read_over e (more q first later) = absurd cc
 
 -- what is taken is the first option
@@ -128,14 +134,14 @@ takes_none (Some q) old new words (left, made) = absurd left
 
 -- what is read from one place on is what is read from another on
 pub record GoesOn (old : Syntax) (words : List Text) (new : Syntax) (rest : List Text) : Type 0 where
-  pub onward : (t : Syntax) (file : Text) → Reads old words t file → Reads new rest t file
-  pub back : (t : Syntax) (file : Text) → Reads new rest t file → Reads old words t file
+  pub onward : (t : Syntax) (paths : List Text) → Reads old words t paths → Reads new rest t paths
+  pub back : (t : Syntax) (paths : List Text) → Reads new rest t paths → Reads old words t paths
 
 goes_on-setting : (old : Syntax) (words : List Text) (new : Syntax) (rest : List Text) (q : Setting × List Text) → first_setting words ≡ Some q → rest ≡ q.1 → new ≡ with_setting old q.0 → GoesOn old words new rest
 goes_on-setting old words new rest q first left made = record {
-  onward = λ t file reads. rw (left, made) (read_on q first reads);
-  back = λ t file reads.
-      let step : (x : Syntax) (ws : List Text) → x ≡ new → ws ≡ rest → Reads x ws t file = λ x ws a b. rw (a, b) reads in
+  onward = λ t paths reads. rw (left, made) (read_on q first reads);
+  back = λ t paths reads.
+      let step : (x : Syntax) (ws : List Text) → x ≡ new → ws ≡ rest → Reads x ws t paths = λ x ws a b. rw (a, b) reads in
       more q first (step (with_setting old q.0) q.1 (sym made) (sym left));
 }
 
@@ -148,21 +154,55 @@ goes_on words start count here old new e takes =
     let left : texts (drop (start + count) words) ≡ (taken.0).1 = behind ∙ (sym (ap (λ (ws : List (Bor Text)). drop count (texts ws)) e) ∙ taken.2) in
     goes_on-setting old (texts (drop start words)) new (texts (drop (start + count) words)) taken.0 first left taken.3
 
--- no option further: the file is left
-pub goes_over : (words here last : List (Bor Text)) (start : ℕ) (initial old new : Syntax) → here ≡ drop start words → last ≡ drop start words → Takes (first_setting (texts here)) old (texts here) None new → ((t : Syntax) (file : Text) → Reads initial (texts words) t file → Reads old (texts (drop start words)) t file) → (settings : List Setting) (file : Text) → IsFile file → texts words ≡ option_words settings file → (texts last ≡ file ∷ []) × (new ≡ fold with_setting initial settings)
-goes_over words here last start initial old new e f takes onward settings file is_file asked =
+-- no option further: the paths are left
+pub goes_over : (words here last : List (Bor Text)) (start : ℕ) (initial old new : Syntax) → here ≡ drop start words → last ≡ drop start words → Takes (first_setting (texts here)) old (texts here) None new → ((t : Syntax) (paths : List Text) → Reads initial (texts words) t paths → Reads old (texts (drop start words)) t paths) → (settings : List Setting) (paths : List Text) → BeginWithFile paths → texts words ≡ option_words settings paths → (texts last ≡ paths) × (new ≡ fold with_setting initial settings)
+goes_over words here last start initial old new e f takes onward settings paths begin asked =
     let none = takes_none (first_setting (texts here)) old new (texts here) takes in
     let first : first_setting (texts (drop start words)) ≡ None = sym (ap (λ (ws : List (Bor Text)). first_setting (texts ws)) e) ∙ none.0 in
-    let all : Reads initial (texts words) (fold with_setting initial settings) file = rw asked (option_words-read initial settings file is_file) in
-    let over = read_over first (onward (fold with_setting initial settings) file all) in
+    let all : Reads initial (texts words) (fold with_setting initial settings) paths = rw asked (option_words-read initial settings paths begin) in
+    let over = read_over first (onward (fold with_setting initial settings) paths all) in
     (ap texts f ∙ over.0, none.1 ∙ sym over.1)
 
--- the words of a command, of options and of a file are asked for
-pub asks : (args : List (Bor Text)) (word : Bor Text) (rest : List (Bor Text)) (task : Task) (settings : List Setting) (file : Text) → args ≡ word ∷ rest → word.now ≡ command_word task → texts rest ≡ option_words settings file → IsFile file → Asks args (record { task = task; settings = settings; file = file })
-asks args word rest task settings file e named said is_file = record {
-  words = ap texts e ∙ (ap (λ w. w ∷ texts rest) named ∙ ap (λ ws. command_word task ∷ ws) said);
-  file = is_file;
+-- the paths of a task begin with a file
+pub paths_begin : (task : Task) (file : Text) → AreFiles task file → BeginWithFile (paths_of task file)
+paths_begin tokens file are = are
+paths_begin code file are = are
+paths_begin names file are = are
+paths_begin (replay answers) file are = are.0
+
+-- the words of a command, of options and of paths are asked for
+pub asks : (args : List (Bor Text)) (word : Bor Text) (rest : List (Bor Text)) (paths : List Text) (task : Task) (settings : List Setting) (file : Text) → args ≡ word ∷ rest → IsActionOn word.now paths task file → texts rest ≡ option_words settings paths → Asks args (record { task = task; settings = settings; file = file })
+asks args word rest paths task settings file e is said = record {
+  words = ap texts e ∙ (ap (λ w. w ∷ texts rest) is.named ∙ ap (λ ws. command_word task ∷ ws) (said ∙ ap (option_words settings) is.listed));
+  files = is.files;
 }
+
+-- the first word is that of the command that is asked for
+pub word_asked : (args : List (Bor Text)) (word : Bor Text) (rest : List (Bor Text)) (request : Request) → args ≡ word ∷ rest → Asks args request → word.now ≡ command_word request.task
+word_asked args word rest request e asked = let same = sym (ap texts e) ∙ asked.words in cc
+
+-- the words after it are its options and its paths
+pub rest_asked : (args : List (Bor Text)) (word : Bor Text) (rest : List (Bor Text)) (request : Request) → args ≡ word ∷ rest → Asks args request → texts rest ≡ option_words request.settings (paths_of request.task request.file)
+rest_asked args word rest request e asked = let same = sym (ap texts e) ∙ asked.words in cc
+
+-- a command is one task, on one file
+pub same_asked : (t u : Task) (file other : Text) → command_word t ≡ command_word u → paths_of t file ≡ paths_of u other → (t ≡ u) × (file ≡ other)
+same_asked tokens tokens file other w p = (refl, cc)
+same_asked code code file other w p = (refl, cc)
+same_asked names names file other w p = (refl, cc)
+same_asked (replay a) (replay b) file other w p = (cc, cc)
+same_asked tokens code file other w p = absurd cc
+same_asked tokens names file other w p = absurd cc
+same_asked tokens (replay b) file other w p = absurd cc
+same_asked code tokens file other w p = absurd cc
+same_asked code names file other w p = absurd cc
+same_asked code (replay b) file other w p = absurd cc
+same_asked names tokens file other w p = absurd cc
+same_asked names code file other w p = absurd cc
+same_asked names (replay b) file other w p = absurd cc
+same_asked (replay a) tokens file other w p = absurd cc
+same_asked (replay a) code file other w p = absurd cc
+same_asked (replay a) names file other w p = absurd cc
 
 -- two words, of which the first is `expr`
 pub asks_expr : (args : List (Bor Text)) (d e : Bor Text) → 2 ≤ length args → length args < 3 → bytes_eq (slice_index_or args 0 d).now (codes "expr") ≡ true → AsksExpr args (slice_index_or args 1 e).now

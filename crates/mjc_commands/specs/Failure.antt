@@ -5,13 +5,14 @@ use Rattle.std.specs.declared.io.Error as io
 use Rattle.std.specs.declared.io.ErrorKind.TheVariants as kind
 use Rattle.minijinja_syntax.specs.declared.error.ErrorKind.{ErrorKind}
 use Rattle.mjc_commands.specs.declared.failure.Failure.{Failure}
-use Rattle.mjc_commands.specs.declared.failure.Failure.TheVariants.{Usage, CannotRead, Refused, CannotWrite}
+use Rattle.mjc_commands.specs.declared.failure.Failure.TheVariants.{Usage, CannotRead, Refused, BadAnswer, CannotWrite}
 
 -- 1 for a refused syntax or text and for want of memory, otherwise 2
 abbrev pub status_of : Failure → ℕ
 status_of (Refused kind line column) = 1
 status_of Usage = 2
 status_of (CannotRead path) = 2
+status_of (BadAnswer line) = 2
 status_of CannotWrite = 2
 
 -- 0 is success
@@ -19,12 +20,25 @@ abbrev pub ending_status : Result (Unit {0}) Failure → ℕ
 ending_status (Ok done) = 0
 ending_status (Err failure) = status_of failure
 
+-- the syntax or the text is refused, or memory ran out
+abbrev pub IsRefused : Failure → Type 0
+IsRefused failure = status_of failure ≡ 1
+
 -- the failure is a refusal of this kind
 abbrev pub IsRefusedAs : ErrorKind → Failure → Type 0
 IsRefusedAs kind (Refused k line column) = k ≡ kind
 IsRefusedAs kind Usage = ⊥
 IsRefusedAs kind (CannotRead path) = ⊥
+IsRefusedAs kind (BadAnswer line) = ⊥
 IsRefusedAs kind CannotWrite = ⊥
+
+-- the failure is a line of the answers of which this holds
+abbrev pub IsBadAnswer : (ℕ → Type 0) → Failure → Type 0
+IsBadAnswer P (BadAnswer line) = P line
+IsBadAnswer P (Refused kind line column) = ⊥
+IsBadAnswer P Usage = ⊥
+IsBadAnswer P (CannotRead path) = ⊥
+IsBadAnswer P CannotWrite = ⊥
 
 -- the status that an error of a reader or a writer leads to: 1 for want of memory, otherwise 2
 pub record IsStatusOf (error : io.Error) (status : ℕ) : Type 0 where

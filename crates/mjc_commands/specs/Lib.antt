@@ -4,5 +4,7 @@ pub mod Usage
 pub mod Failure
 pub mod Reading
 pub mod Watched
+pub mod AnswerFile
+pub mod TemplateRuns
 pub mod Showing
 pub mod private

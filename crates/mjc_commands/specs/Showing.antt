@@ -1,5 +1,5 @@
--- The texts whose tokens, code or names are shown to the end.
-use Rattle.std.specs.Prelude.{◌≡◌, ◌⊎◌, ◌≤◌, ◌^◌, ℕ, List, length, Option, Some, MatchOption, Result, IfErr}
+-- The texts whose tokens, code, names or runs are shown to the end.
+use Rattle.std.specs.Prelude.{◌≡◌, ◌⊎◌, ◌≤◌, ◌^◌, ℕ, List, length, Option, Some, IfSome, MatchOption, Result, IfErr}
 use Rattle.std.specs.Borrow.{Bor}
 use Rattle.minijinja_syntax.specs.Texts.{Text}
 use Rattle.minijinja_syntax.specs.Syntax.{Syntax, default_syntax}
@@ -12,8 +12,9 @@ use Rattle.minijinja_lexer.specs.TextTokens.{tokens_of_template}
 use Rattle.minijinja_parser.specs.Derived.{IsDerived, IsExprDerived}
 use Rattle.minijinja_compiler.specs.Headline.{HasTooLongCode, HasTooLongExprCode}
 use Rattle.mjc_commands.specs.Settings.{syntax_with}
-use Rattle.mjc_commands.specs.Usage.{Task, tokens, code, names, Request, Asks}
-use Rattle.mjc_commands.specs.Failure.{IsRefusedAs}
+use Rattle.mjc_commands.specs.Usage.{Task, tokens, code, names, replay, Request, Asks}
+use Rattle.mjc_commands.specs.AnswerFile.{IsAnswerFile, IsBadLine}
+use Rattle.mjc_commands.specs.Failure.{IsBadAnswer, IsRefused, IsRefusedAs}
 use Rattle.mjc_commands.specs.declared.failure.Failure.{Failure}
 
 -- the text's tokens end without a refusal, or the text has a tree
@@ -21,16 +22,18 @@ abbrev pub IsShowable : Task → Syntax → Text → Type 0
 IsShowable tokens syntax source = (tokens_of_template syntax source).ending ≡ finished
 IsShowable code syntax source = (tree : _) × IsDerived value_functions syntax source tree
 IsShowable names syntax source = (tree : _) × IsDerived value_functions syntax source tree
+IsShowable (replay answers) syntax source = (tree : _) × IsDerived value_functions syntax source tree
 
 -- the text is an expression that has a tree
 abbrev pub IsShowableExpr : Text → Type 0
 IsShowableExpr source = (tree : _) × IsExprDerived value_functions default_syntax source tree
 
--- the text has 2^32 bytes or more, or the code that is asked for 2^32 instructions or more
+-- the text has 2^32 bytes or more, or the code that is made of it 2^32 instructions or more
 abbrev pub IsTooLarge : Task → Syntax → Text → Type 0
 IsTooLarge tokens syntax source = 2 ^ 32 ≤ length source
 IsTooLarge code syntax source = (2 ^ 32 ≤ length source) ⊎ HasTooLongCode value_functions syntax source
 IsTooLarge names syntax source = 2 ^ 32 ≤ length source
+IsTooLarge (replay answers) syntax source = (2 ^ 32 ≤ length source) ⊎ HasTooLongCode value_functions syntax source
 
 -- the expression has 2^32 bytes or more, or its code 2^32 instructions or more
 abbrev pub IsTooLargeExpr : Text → Type 0
@@ -61,3 +64,13 @@ EndsBy ending refusal = MatchOption refusal
 abbrev pub OfFile : List (Bor Text) → Option (List ℕ) → (Task → Syntax → Text → Type 0) → Type 0
 OfFile args held P = (request : Request) (text : Text) → Asks args request → held ≡ Some text →
     P request.task (syntax_with request.settings) text
+
+-- where the task runs on answers, what their file holds is known, and each line of it is an answer
+abbrev pub HasAnswers : Task → Option (List ℕ) → Type 0
+HasAnswers (replay answers) held = (text : Text) × (held ≡ Some text) × IsAnswerFile text
+HasAnswers _ held = Unit {0}
+
+-- the failure lies in what was read: the syntax or the text is refused, or, where it is known what
+-- the answers' file holds, a line of it is no answer; or memory ran out
+abbrev pub IsOfContents : Option (List ℕ) → Failure → Type 0
+IsOfContents held failure = IsRefused failure ⊎ IsBadAnswer (λ line. IfSome held (λ text. IsBadLine text line)) failure

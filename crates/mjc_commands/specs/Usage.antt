@@ -10,19 +10,37 @@ use Rattle.mjc_commands.specs.Settings.{Setting, texts, words_of, syntax_with}
 abbrev pub IsFile : Text → Type 0
 IsFile word = starts_with nat_eq word (codes "--") ≡ false
 
--- what is shown of a file: its tokens, its code, or the names that it needs from outside
+-- what is shown of a file: its tokens, its code, the names that it needs from outside, or a run of
+-- its code on the answers that the file of another path has
 pub data Task : Type 0 where
   tokens code names : Task
+  replay : (answers : Text) → Task
+
+-- the task runs code on answers
+abbrev pub IsReplay : Task → Type 0
+IsReplay (replay answers) = Unit {0}
+IsReplay _ = ⊥
 
 -- the word of a command
 abbrev pub command_word : Task → Text
 command_word tokens = codes "tokens"
 command_word code = codes "code"
 command_word names = codes "names"
+command_word (replay answers) = codes "replay"
 
--- options and, after them, one file
-abbrev pub option_words : List Setting → Text → List Text
-option_words settings file = flat_map words_of settings ++ file ∷ []
+-- the paths that a command ends with
+abbrev pub paths_of : Task → (file : Text) → List Text
+paths_of (replay answers) file = file ∷ answers ∷ []
+paths_of _ file = file ∷ []
+
+-- the words that may name the files of a command; of two, one at most is standard input
+abbrev pub AreFiles : Task → (file : Text) → Type 0
+AreFiles (replay answers) file = IsFile file × IsFile answers × ¬ ((file ≡ codes "-") × (answers ≡ codes "-"))
+AreFiles _ file = IsFile file
+
+-- options and, after them, paths
+abbrev pub option_words : List Setting → (paths : List Text) → List Text
+option_words settings paths = flat_map words_of settings ++ paths
 
 -- what the program may be asked for
 pub record Request : Type 0 where
@@ -30,15 +48,21 @@ pub record Request : Type 0 where
   pub settings : List Setting
   pub file : Text
 
--- the words after the program's name are the command, its options and one file
+-- the words after the program's name are the command, its options and its paths
 pub record Asks (args : List (Bor Text)) (request : Request) : Type 0 where
-  pub words : texts args ≡ command_word request.task ∷ option_words request.settings request.file
-  pub file : IsFile request.file
+  pub words : texts args ≡ command_word request.task ∷ option_words request.settings (paths_of request.task request.file)
+  pub files : AreFiles request.task request.file
 
 -- the words ask for something of a file
 pub record IsFileUsage (args : List (Bor Text)) : Type 0 where
   pub request : Request
   pub asks : Asks args request
+
+-- the words ask for a run on answers
+pub record IsReplayUsage (args : List (Bor Text)) : Type 0 where
+  pub request : Request
+  pub asks : Asks args request
+  pub replays : IsReplay request.task
 
 -- the words ask for the code of the expression that this text is
 abbrev pub AsksExpr : List (Bor Text) → Text → Type 0

@@ -1,3 +1,4 @@
 -- What the crate says of its own private functions.
+pub mod AtAnswers
 pub mod AtOptions
 pub mod AtUsage

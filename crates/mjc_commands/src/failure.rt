@@ -7,6 +7,7 @@ ghost use Rattle.minijinja_syntax.specs.declared.error.ErrorKind.TheVariants.{Ou
 ghost use Rattle.mjc_commands.specs.Failure.{status_of, IsRefusedAs};
 
 use minijinja_compiler::error::{Error, ErrorKind};
+use std::alloc::{AllocError, AllocFailed};
 use std::{fmt, io};
 
 /// Why a run fails.
@@ -23,6 +24,8 @@ pub enum Failure<'p> {
         line: u16,
         column: u16,
     },
+    /// A line of the answers, counted from 1, is neither `fault` nor a list of constants.
+    BadAnswer(usize),
     /// The output cannot be written.
     CannotWrite,
 }
@@ -110,6 +113,27 @@ impl<'p> Failure<'p> {
     }
 }
 
+/// Refused memory has no place.
+impl From<AllocError> for Failure<'_> {
+    ghost use Rattle.mjc_commands.specs.Showing.{IsMemory};
+
+    ghost from_gives = { λ _ failure. IsMemory failure };
+
+    fn from(_: AllocError) -> Self {
+        Failure::without_place(ErrorKind::OutOfMemory)
+    }
+}
+
+impl<T: Drop> From<AllocFailed<T>> for Failure<'_> {
+    ghost use Rattle.mjc_commands.specs.Showing.{IsMemory};
+
+    ghost from_gives = { λ _ failure. IsMemory failure };
+
+    fn from(_: AllocFailed<T>) -> Self {
+        Failure::without_place(ErrorKind::OutOfMemory)
+    }
+}
+
 impl fmt::Display for Failure<'_> {
     fn fmt<W: fmt::Write>(&self, f: &mut fmt::Formatter<W>) -> fmt::Result {
         match self {
@@ -122,6 +146,7 @@ impl fmt::Display for Failure<'_> {
                 f,
                 "mjc: {kind:?} at {line}:{column}"
             ),
+            Failure::BadAnswer(line) => write!(f, "mjc: bad answer on line {line}"),
             Failure::CannotWrite => write!(f, "mjc: cannot write"),
         }
     }

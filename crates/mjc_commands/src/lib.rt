@@ -1,12 +1,15 @@
 //! The commands of `mjc`, on any readers and writers: [`run::run`] runs the one that is asked for.
 #![tactic(auto)]
 
+pub mod answers;
 pub mod failure;
 mod options;
 mod print;
 pub mod run;
+pub mod template;
 mod usage;
 pub mod watched;
 
+pub use minijinja_replay::replay;
 pub use print::PrintedToken;
-pub use usage::file_named;
+pub use usage::{answers_named, file_named};

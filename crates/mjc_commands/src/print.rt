@@ -1,4 +1,4 @@
-//! Prints tokens, code and names, one token, instruction or name on a line.
+//! Prints tokens, code, names and runs, one token, instruction, name or event on a line.
 ghost use Rattle.std.specs.Prelude.{IfOk};
 ghost use Rattle.mjc_commands.specs.Showing.{EndsBy};
 ghost use Rattle.mjc_commands.specs.Watched.{Notes};
@@ -9,7 +9,8 @@ use minijinja_compiler::error::Error;
 use minijinja_compiler::instructions::Instructions;
 use minijinja_compiler::lexer::Tokenizer;
 use minijinja_compiler::tokens::{Span, Token};
-use minijinja_compiler::value::{Quoted, Value};
+use minijinja_compiler::value::{Quoted, Value, ValueFault};
+use minijinja_replay::replay::{Answer, End, Event, Run};
 use std::collections::BTreeSet;
 use std::fmt;
 use std::io::{self, Write};
@@ -126,4 +127,50 @@ pub fn print_expression<W: Write>(
     writeln!(out, "expression")?;
     print_instructions(out, code)?;
     out.flush()
+}
+
+/// Writes an event on a line: its instruction, its operands, and its answer.
+fn print_event<W: Write>(
+    out: &mut Watched<W>,
+    code: &Instructions<'_, Value>,
+    event: Event<Value>,
+) -> io::Result<()>
+    ensures notes { Notes out.old out.new result }
+{
+    let Some(instruction) = code.get(event.index) else {
+        return Ok(());
+    };
+    let operands = Value::List(event.operands);
+    match event.answer {
+        Answer::Fault => writeln!(out, "{instruction} <- {operands} -> fault"),
+        Answer::Values(values) => {
+            let values = Value::List(values);
+            writeln!(out, "{instruction} <- {operands} -> {values}")
+        }
+    }
+}
+
+/// Writes each event of a run of this code on a line, and last how the run ended and after how many
+/// steps.
+pub fn print_run<W: Write>(
+    out: &mut Watched<W>,
+    code: &Instructions<'_, Value>,
+    run: Run<Value>,
+) -> io::Result<()>
+    ensures notes { Notes out.old out.new result }
+{
+    for event in run.events {
+        print_event(out, code, event)?;
+    }
+    writeln!(out, "{}, {} steps", ending_word(&run.ending), run.steps)?;
+    out.flush()
+}
+
+fn ending_word(ending: &End<ValueFault>) -> &'static str {
+    match ending {
+        End::Finished => "finished",
+        End::AnswerFault | End::OperatorFault(_) => "fault",
+        End::Starved => "starved",
+        End::Unfit => "unfit",
+    }
 }

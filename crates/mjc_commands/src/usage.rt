@@ -1,47 +1,32 @@
 //! The command line of `mjc`: commands, options and files.
-ghost use Rattle.std.specs.Prelude.{◌≡◌, ◌≤◌, ◌↔◌, length, drop, List, [], ◌∷◌, IsSome, IfSome, IsSomeAnd, IsNone};
+ghost use Rattle.std.specs.Prelude.{◌≡◌, ◌≤◌, ◌↔◌, length, drop, List, [], ◌∷◌, IsSome, IfSome, IsSomeAnd, IsNone, IsTrue};
 ghost use Rattle.std.specs.List.{fold};
 ghost use Rattle.minijinja_syntax.specs.Texts.{Text};
 ghost use Rattle.mjc_commands.specs.Settings.{Setting, texts, with_setting};
-ghost use Rattle.mjc_commands.specs.Usage.{IsUsage, IsFileUsage, IsExprUsage, Request, Asks, AsksExpr, IsFile, option_words};
+ghost use Rattle.mjc_commands.specs.Usage.{IsUsage, IsFileUsage, IsExprUsage, IsReplayUsage, Request, Asks, AsksExpr, AreFiles, IsFile, Task, option_words, replay};
 ghost use Rattle.mjc_commands.specs.private.AtOptions.{syntax_of};
-ghost use Rattle.mjc_commands.specs.private.AtUsage.{IsCommandFor, IsFileCommandFor, IsExprCommandFor};
+ghost use Rattle.mjc_commands.specs.private.AtUsage.{BeginWithFile, IsActionOn, IsCommandFor, IsFileCommandFor, IsExprCommandFor, task_of};
 
 use crate::options::Options;
 
 /// What a command prints of its file.
-#[derive(Clone, Copy, PartialEq, Eq)]
-pub enum Action {
+#[derive(Clone, Copy)]
+pub enum Action<'a> {
     /// Prints the tokens.
     Tokens,
     /// Compiles, and prints the code.
     Code,
     /// Prints the names that the text needs from outside.
     Names,
-}
-
-impl Action {
-    ghost use Rattle.std.specs.Prelude.{◌≡◌, IfSome, IsNone};
-    ghost use Rattle.mjc_commands.specs.Usage.{Task, command_word};
-    ghost use Rattle.mjc_commands.specs.private.AtUsage.{task_of};
-
-    fn of_word(word: &str) -> Option<Self>
-        ensures found { IfSome result (λ action. word.now ≡ command_word (task_of action)) }
-        ensures none { IsNone result → (task : Task) → ¬ (word.now ≡ command_word task) }
-    {
-        match word {
-            "tokens" => Some(Action::Tokens),
-            "code" => Some(Action::Code),
-            "names" => Some(Action::Names),
-            _ => None,
-        }
-    }
+    /// Compiles, runs the code on the answers that the file of this path has, and prints the run.
+    /// `-` is standard input.
+    Replay(&'a str),
 }
 
 /// What the command line asks for.
 #[derive(Drop)]
 pub enum Command<'a> {
-    /// Print the tokens, the code or the names of a file.
+    /// Print the tokens, the code, the names or a run of a file.
     File(FileCommand<'a>),
     /// Print the code of this expression.
     Expr(&'a str),
@@ -51,7 +36,7 @@ pub enum Command<'a> {
 #[derive(Drop)]
 pub struct FileCommand<'a> {
     /// What to print of the file.
-    pub action: Action,
+    pub action: Action<'a>,
     /// The syntax of its text.
     pub options: Options<'a>,
     /// The path of the file, where `-` is standard input.
@@ -67,11 +52,11 @@ fn words_from<'w, 'a>(words: &'w [&'a str], start: usize) -> &'w [&'a str]
 
 /// Applies the options that the words begin with, and returns the words after them.
 fn read_options<'w, 'a>(options: &mut Options<'a>, words: &'w [&'a str]) -> &'w [&'a str]
-    ensures heeded { (settings : List Setting) → (file : Text) → IsFile file → texts words.now ≡
-        option_words settings file → (texts result.now ≡ file ∷ []) ×
+    ensures heeded { (settings : List Setting) → (paths : List Text) → BeginWithFile paths →
+        texts words.now ≡ option_words settings paths → (texts result.now ≡ paths) ×
         (syntax_of options.new ≡ fold with_setting (syntax_of options.old) settings) }
-    ensures behind { (file : Text) → IsFile file → texts result.now ≡ file ∷ [] →
-        (settings : List Setting) × (texts words.now ≡ option_words settings file) }
+    ensures behind { BeginWithFile (texts result.now) → (settings : List Setting) ×
+        (texts words.now ≡ option_words settings (texts result.now)) }
 {
     let mut start = 0;
     while let Some(count) = options.take(words_from(words, start)) {
@@ -80,28 +65,69 @@ fn read_options<'w, 'a>(options: &mut Options<'a>, words: &'w [&'a str]) -> &'w 
     words_from(words, start)
 }
 
+/// Whether a word may name a file.
+fn is_file(word: &str) -> bool
+    ensures { IsTrue result ↔ IsFile word.now }
+{
+    !word.starts_with("--")
+}
+
 /// The file, if it is the only word.
 fn lone_file<'a>(words: &[&'a str]) -> Option<&'a str>
     ensures some { IfSome result (λ file. IsFile file.now × (texts words.now ≡ file.now ∷ [])) }
     ensures none { IsNone result → (file : Text) → IsFile file → ¬ (texts words.now ≡ file ∷ []) }
 {
     match words {
-        [file] if !file.starts_with("--") => Some(*file),
+        [file] if is_file(file) => Some(*file),
         _ => None,
     }
 }
 
-/// Parses a command on a file: the word of the command, options, and one file. Options take their
-/// words as they are, and of a repeated option the last one counts.
+/// The file and that of the answers, if they are the only words. One of the two at most is standard
+/// input.
+fn two_files<'a>(words: &[&'a str]) -> Option<(&'a str, &'a str)>
+    ensures some { IfSome result (λ files. AreFiles (replay files.1.now) files.0.now ×
+        (texts words.now ≡ files.0.now ∷ files.1.now ∷ [])) }
+    ensures none { IsNone result → (file answers : Text) → AreFiles (replay answers) file →
+        ¬ (texts words.now ≡ file ∷ answers ∷ []) }
+{
+    match words {
+        ["-", "-"] => None,
+        [file, answers] if is_file(file) && is_file(answers) => Some((*file, *answers)),
+        _ => None,
+    }
+}
+
+/// What the word of a command asks for, and of which file.
+fn action_on<'a>(word: &str, paths: &[&'a str]) -> Option<(Action<'a>, &'a str)>
+    ensures found { IfSome result (λ asked. IsActionOn word.now (texts paths.now) (task_of asked.0)
+        asked.1.now) }
+    ensures none { IsNone result → (task : Task) → (file : Text) →
+        ¬ IsActionOn word.now (texts paths.now) task file }
+{
+    match word {
+        "tokens" => Some((Action::Tokens, lone_file(paths)?)),
+        "code" => Some((Action::Code, lone_file(paths)?)),
+        "names" => Some((Action::Names, lone_file(paths)?)),
+        "replay" => {
+            let (file, answers) = two_files(paths)?;
+            Some((Action::Replay(answers), file))
+        }
+        _ => None,
+    }
+}
+
+/// Parses a command on a file: the word of the command, options, and the file, after which `replay`
+/// has that of the answers. Options take their words as they are, and of a repeated option the last
+/// one counts.
 fn parse_file_command<'a>(args: &[&'a str]) -> Option<FileCommand<'a>>
     ensures usage { IsSome result ↔ IsFileUsage args.now }
     ensures asked { (request : Request) → Asks args.now request → IsSomeAnd result
         (IsCommandFor request) }
 {
     let (word, rest) = args.split_first()?;
-    let action = Action::of_word(*word)?;
     let mut options = Options::none();
-    let file = lone_file(read_options(&mut options, rest))?;
+    let (action, file) = action_on(*word, read_options(&mut options, rest))?;
     Some(FileCommand {
         action,
         options,
@@ -142,4 +168,17 @@ pub fn file_named<'a>(args: &[&'a str]) -> Option<&'a str>
 {
     let command = parse_file_command(args)?;
     Some(command.file)
+}
+
+/// The file of answers that the words name.
+pub fn answers_named<'a>(args: &[&'a str]) -> Option<&'a str>
+    ensures usage { IsSome result ↔ IsReplayUsage args.now }
+    ensures file { (request : Request) → Asks args.now request → IfSome result
+        (λ path. request.task ≡ replay path.now) }
+{
+    let command = parse_file_command(args)?;
+    match command.action {
+        Action::Replay(answers) => Some(answers),
+        Action::Tokens | Action::Code | Action::Names => None,
+    }
 }

@@ -1,7 +1,9 @@
 //! The lines that `mjc tokens` prints.
 use super::words::Commands;
-use super::{Short, Subject, hold, output, status_of_run};
+use super::{Short, Subject, hold, output};
+use mjc_commands::run::run;
 use std::alloc::Global;
+use std::io;
 use std::process::Abort;
 use std::test::Fail;
 
@@ -93,6 +95,6 @@ fn ends_at_a_failing_write_of_tokens(rt: HostRuntime) {
     let (mut out, mut err) = (Short::new(rt.alloc(), 0), Vec::new(rt.alloc()));
     let file = &mut "{{ a ?".as_bytes();
     let args = &["tokens", "-"];
-    let status = status_of_run(rt.alloc(), args, file, &mut out, &mut err);
+    let status = run(rt.alloc(), args, file, &mut io::empty(), &mut out, &mut err);
     assert!(rt; status == 2 && err.as_slice() == b"mjc: cannot write\n".as_slice());
 }

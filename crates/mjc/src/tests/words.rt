@@ -51,7 +51,14 @@ code, --
 code, a, b
 names
 names, a, b
-replay, a, b
+replay
+replay, a
+replay, -, -
+replay, a, b, c
+replay, --unknown, a, b
+replay, a, --trim-blocks, b
+replay, a, --b
+replay, --a, b
 expr
 expr, a, b
 expr, --trim-blocks, a

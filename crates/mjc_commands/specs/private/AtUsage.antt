@@ -1,11 +1,11 @@
 -- The commands that are read from words, and what they are asked to do.
-use Rattle.std.specs.Prelude.{◌≡◌}
+use Rattle.std.specs.Prelude.{◌≡◌, List, [], ◌∷◌}
 use Rattle.minijinja_syntax.specs.Texts.{Text}
 use Rattle.mjc_commands.specs.Settings.{syntax_with}
-use Rattle.mjc_commands.specs.Usage.{Task, tokens, code, names, Request}
+use Rattle.mjc_commands.specs.Usage.{Task, tokens, code, names, replay, Request, AreFiles, IsFile, command_word, paths_of}
 use Rattle.mjc_commands.specs.private.AtOptions.{syntax_of}
 use Rattle.mjc_commands.specs.declared.usage.Action.{Action}
-use Rattle.mjc_commands.specs.declared.usage.Action.TheVariants.{Tokens, Code, Names}
+use Rattle.mjc_commands.specs.declared.usage.Action.TheVariants.{Tokens, Code, Names, Replay}
 use Rattle.mjc_commands.specs.declared.usage.Command.{Command}
 use Rattle.mjc_commands.specs.declared.usage.Command.TheVariants.{File, Expr}
 use Rattle.mjc_commands.specs.declared.usage.FileCommand.{FileCommand}
@@ -15,6 +15,18 @@ abbrev pub task_of : Action → Task
 task_of Tokens = tokens
 task_of Code = code
 task_of Names = names
+task_of (Replay answers) = replay answers.now
+
+-- the first of these words may name a file
+abbrev pub BeginWithFile : List Text → Type 0
+BeginWithFile [] = ⊥
+BeginWithFile (word ∷ rest) = IsFile word
+
+-- a word and paths ask for a task on a file
+pub record IsActionOn (word : Text) (paths : List Text) (task : Task) (file : Text) : Type 0 where
+  pub named : word ≡ command_word task
+  pub listed : paths ≡ paths_of task file
+  pub files : AreFiles task file
 
 -- the command does what is asked for
 pub record IsCommandFor (request : Request) (command : FileCommand) : Type 0 where

@@ -11,3 +11,8 @@ pub returns-clause-shown : goal.returns-clause-shown
 returns-clause-shown g c =
     let Shown : Syntax → Type 0 = λ syntax. OnOk c.show.result ((source : Text) → g.R.Read.remaining (stream_of c.args.file.now) ≡ Some source → IsShowable (task_of c.args.command.now.action) syntax source) in
     subst Shown c.in_ok-syntax.ensures.value c.show.ensures.shown
+
+pub returns-clause-unanswered : goal.returns-clause-unanswered
+returns-clause-unanswered g c =
+    let Unanswered : Syntax → Type 0 = λ syntax. (source : Text) → g.R.Read.remaining (stream_of c.args.file.now) ≡ Some source → ¬ IsShowable (task_of c.args.command.now.action) syntax source → c.show.new.answers ≡ c.args.answers.now in
+    subst Unanswered c.in_ok-syntax.ensures.value c.show.ensures.unanswered

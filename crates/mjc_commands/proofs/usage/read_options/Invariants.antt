@@ -1,5 +1,5 @@
 -- Reading from the current word on gives what reading from the first word on gives.
-use Rattle.std.proofs.Common.{◌-◌, ◌≤◌, length, drop}
+use Rattle.std.proofs.Common.{◌-◌, ◌≤◌, List, length, drop}
 use Rattle.minijinja_syntax.specs.Texts.{Text}
 use Rattle.minijinja_syntax.specs.Syntax.{Syntax}
 use Rattle.mjc_commands.specs.Settings.{texts}
@@ -10,8 +10,8 @@ use Rattle.mjc_commands.proofs.usage.read_options.Given as goal
 abbrev pub invariant-loop-count : goal.invariant-loop-count
 invariant-loop-count l = record {
   within : l.start ≤ length l.words;
-  onward : (t : Syntax) (file : Text) → Reads (syntax_of l.initial.options) (texts l.words) t file → Reads (syntax_of l.options) (texts (drop l.start l.words)) t file;
-  back : (t : Syntax) (file : Text) → Reads (syntax_of l.options) (texts (drop l.start l.words)) t file → Reads (syntax_of l.initial.options) (texts l.words) t file;
+  onward : (t : Syntax) (paths : List Text) → Reads (syntax_of l.initial.options) (texts l.words) t paths → Reads (syntax_of l.options) (texts (drop l.start l.words)) t paths;
+  back : (t : Syntax) (paths : List Text) → Reads (syntax_of l.options) (texts (drop l.start l.words)) t paths → Reads (syntax_of l.initial.options) (texts l.words) t paths;
 }
 
 abbrev pub decreases-loop-count : goal.decreases-loop-count
