@@ -13,6 +13,7 @@ mod lexer;
 mod marks;
 mod meta;
 mod parser;
+mod prefixes;
 mod refusals;
 mod syntax;
 mod tree;

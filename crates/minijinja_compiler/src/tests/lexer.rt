@@ -1,7 +1,7 @@
 //! The tokens of texts, and where wrong texts are refused.
 //!
 //! The program's tests have the lines and columns of tokens.
-use super::{Subject, hold, parted, syntax_of};
+use super::{Subject, compile_page, hold, parted, repeated, syntax_of};
 use crate::error::Error;
 use crate::lexer::Tokenizer;
 use crate::syntax::SyntaxConfig;
@@ -16,6 +16,8 @@ enum View {
     Places,
     /// Each token as messages name it.
     Words,
+    /// Each token so, with its lines, columns and offsets.
+    Spans,
 }
 
 impl View {
@@ -32,6 +34,11 @@ impl View {
                 span.start_offset, span.end_offset
             ),
             View::Words => write!(words, "{token}, "),
+            View::Spans => write!(
+                words,
+                "{token}{span:?} {}-{}, ",
+                span.start_offset, span.end_offset
+            ),
         }
     }
 }
@@ -250,4 +257,29 @@ x{{ a 'b' 'b\n' 1 18446744073709551616 }}{% + - * / // ** % %} => template-data,
 {{ . , : ~ = | == != > >= < <= [ ] ( ) { } }} => start of variable block, `.`, `,`, `:`, `~`, `=`, `|`, `==`, `!=`, `>`, `>=`, `<`, `<=`, `[`, `]`, `(`, `)`, `{`, `}`, end of variable block, end
 "#;
     hold::<Messages>(&rt, rt.alloc(), rows)
+}
+
+/// Templates in pieces: their tokens with lines, columns and offsets, and the hint of their code.
+enum Spans {}
+
+impl Subject for Spans {
+    fn words(alloc: Global, text: &str) -> Result<String, Fail> {
+        let source = repeated(alloc, text)?;
+        let syntax = SyntaxConfig::default();
+        let mut words = tokens(alloc, &syntax, source.as_str(), false, View::Spans)?;
+        let compiled = compile_page(alloc, source.as_str())?;
+        write!(words, ", hint {}", compiled.buffer_size_hint)?;
+        Ok(words)
+    }
+}
+
+/// Columns count characters, and offsets bytes. Lines and columns stop at 65535, and offsets do not.
+#[test]
+fn lines_columns_and_offsets_are_counted(rt: HostRuntime) -> Result<(), Fail> {
+    let rows = r#"
+é{{ é }} => template-data @ 1:0-1:1 0-2, start of variable block @ 1:1-1:3 2-4, identifier @ 1:4-1:5 5-7, end of variable block @ 1:6-1:8 8-10, end, hint 4
+70000 * x | {{ y }} => template-data @ 1:0-1:65535 0-70000, start of variable block @ 1:65535-1:65535 70000-70002, identifier @ 1:65535-1:65535 70003-70004, end of variable block @ 1:65535-1:65535 70005-70007, end, hint 262144
+65600 * ␊ | {{ x }} => template-data @ 1:0-65535:0 0-65600, start of variable block @ 65535:0-65535:2 65600-65602, identifier @ 65535:3-65535:4 65603-65604, end of variable block @ 65535:5-65535:7 65605-65607, end, hint 262144
+"#;
+    hold::<Spans>(&rt, rt.alloc(), rows)
 }

@@ -183,12 +183,12 @@ f(x | 2000 * , x | ) => SyntaxError
 
 /// The kind and the place of a refusal.
 #[derive(Clone, Copy, PartialEq, Eq)]
-struct Refusal {
-    kind: ErrorKind,
-    span: Option<Span>,
+pub struct Refusal {
+    pub kind: ErrorKind,
+    pub span: Option<Span>,
 }
 
-fn refusal_of(error: Error<'_>) -> Refusal {
+pub fn refusal_of(error: Error<'_>) -> Refusal {
     Refusal {
         kind: error.kind(),
         span: error.span(),
