@@ -185,6 +185,7 @@ a b => unexpected `b`, expected end of input, 1:2
 a 'b' => unexpected string, expected end of input, 1:2
 a, b => unexpected `,`, expected end of input, 1:1
 a + => unexpected end of input, expected expression, 1:2
+'\é' => invalid string escape, 1:0
 "#;
     hold::<Expressions>(&rt, rt.alloc(), rows)
 }
