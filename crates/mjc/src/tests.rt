@@ -265,22 +265,46 @@ impl Printing<'_> {
     }
 }
 
-#[test]
-fn ends_at_a_failing_write(rt: HostRuntime) {
-    let code = Printing {
+/// Each command, on a text of which it prints several lines.
+const PRINTINGS: [Printing<'static>; 5] = [
+    Printing {
+        args: &["tokens", "-"],
+        source: "a{{ b }}",
+        answers: "",
+        printed: "1:0-1:1 TemplateData(\"a\")\n1:1-1:3 VariableStart\n1:4-1:5 Ident(\"b\")\n\
+            1:6-1:8 VariableEnd\n",
+    },
+    Printing {
         args: &CODE,
         source: GREETING,
         answers: "",
         printed: GREETING_CODE,
-    };
-    code.ends_at_each_failing_write(&rt, rt.alloc());
-    let replay = Printing {
+    },
+    Printing {
+        args: &["names", "-"],
+        source: "{% set x = foo %}{{ x }}{{ bar.baz }}",
+        answers: "",
+        printed: "plain bar\nplain foo\nnested bar.baz\nnested foo\n",
+    },
+    Printing {
+        args: &["expr", "a.b"],
+        source: "",
+        answers: "",
+        printed: "expression\n0 Lookup(\"a\")\n1 GetAttr(\"b\")\n",
+    },
+    Printing {
         args: &["replay", "-", "answers"],
         source: "{{ a }}",
         answers: "[1]\n[]\n",
         printed: "Lookup(\"a\") <- [] -> [1]\nEmit <- [1] -> []\nfinished, 2 steps\n",
-    };
-    replay.ends_at_each_failing_write(&rt, rt.alloc());
+    },
+];
+
+#[test]
+fn ends_at_a_failing_write(rt: HostRuntime) {
+    for printing in &PRINTINGS {
+        printing.ends_at_each_failing_write(&rt, rt.alloc());
+    }
 }
 
 /// The status of a run on a template that can say nothing.

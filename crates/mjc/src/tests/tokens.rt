@@ -26,6 +26,7 @@ Hello {{ name }}! => 1:0-1:6 TemplateData("Hello ")␊1:6-1:8 VariableStart␊1:
 {% raw %}{{ a }}{% endraw %} => 1:9-1:16 TemplateData("{{ a }}")␊
 {{-1}} => 1:0-1:3 VariableStart␊1:3-1:4 Int(1)␊1:4-1:6 VariableEnd␊
 a {#-#} b => 1:0-1:1 TemplateData("a")␊1:7-1:9 TemplateData(" b")␊
+é{{ é }} => 1:0-1:1 TemplateData("é")␊1:1-1:3 VariableStart␊1:4-1:5 Ident("é")␊1:6-1:8 VariableEnd␊
 {{ "a\n\"b" }} => 1:0-1:2 VariableStart␊1:3-1:11 String("a\n\"b")␊1:12-1:14 VariableEnd␊
 {{ 'a' 18446744073709551616 }} => 1:0-1:2 VariableStart␊1:3-1:6 Str("a")␊1:7-1:27 Int128(18446744073709551616)␊1:28-1:30 VariableEnd␊
 {{ a+b**2//1 }} => 1:0-1:2 VariableStart␊1:3-1:4 Ident("a")␊1:4-1:5 Plus␊1:5-1:6 Ident("b")␊1:6-1:8 Pow␊1:8-1:9 Int(2)␊1:9-1:11 FloorDiv␊1:11-1:12 Int(1)␊1:13-1:15 VariableEnd␊
@@ -46,6 +47,7 @@ fn prints_the_tokens_before_a_refusal(rt: HostRuntime) -> Result<(), Fail> {
 #[test]
 fn heeds_options(rt: HostRuntime) -> Result<(), Fail> {
     let rows = r#"
+tokens, --variable, «, », - < «x» => 1:0-1:1 VariableStart␊1:1-1:2 Ident("x")␊1:2-1:3 VariableEnd␊
 tokens, --variable, «, », - < «é» => 1:0-1:1 VariableStart␊1:1-1:2 Ident("é")␊1:2-1:3 VariableEnd␊
 tokens, --variable, {{, ␠}, - < {{ x- }y => 1:0-1:2 VariableStart␊1:3-1:4 Ident("x")␊1:4-1:7 VariableEnd␊1:7-1:8 TemplateData("y")␊
 tokens, --trim-blocks, - < {% set a = 1 %}␍␊x => 1:0-1:2 BlockStart␊1:3-1:6 Ident("set")␊1:7-1:8 Ident("a")␊1:9-1:10 Assign␊1:11-1:12 Int(1)␊1:13-1:15 BlockEnd␊2:0-2:1 TemplateData("x")␊

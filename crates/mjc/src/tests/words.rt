@@ -88,17 +88,34 @@ names, --trim-blocks, --variable, [[, ]], - < [[ x.y ]] => plain x␊nested x.y�
     hold::<Commands>(&rt, rt.alloc(), rows)
 }
 
-/// Commands: what they print of a file that cannot be read.
+/// Commands: what they print of a file that cannot be read to its end, and of one that is no text.
 enum Unread {}
 
 impl Subject for Unread {
     fn words(alloc: Global, text: &str) -> Result<String, Fail> {
         let mut broken = Trickle {
-            rest: b"",
+            rest: b"Hello {{ na",
             end: Err(io::Error::from(io::ErrorKind::ConnectionReset)),
         };
-        output_of(alloc, text, &mut broken)
+        let of_broken = output_of(alloc, text, &mut broken)?;
+        let of_no_text = output_of(alloc, text, &mut b"Hello \xff{{ name }}!".as_slice())?;
+        if of_no_text.as_str() == of_broken.as_str() {
+            Ok(of_broken)
+        } else {
+            Ok(format!(in alloc; "{of_broken}{of_no_text}")?)
+        }
     }
+}
+
+#[test]
+fn says_which_file_cannot_be_read(rt: HostRuntime) -> Result<(), Fail> {
+    let rows = r#"
+tokens, a/b => ! 2 mjc: cannot read a/b␊
+code, a/b => ! 2 mjc: cannot read a/b␊
+names, a/b => ! 2 mjc: cannot read a/b␊
+replay, a/b, answers => ! 2 mjc: cannot read a/b␊
+"#;
+    hold::<Unread>(&rt, rt.alloc(), rows)
 }
 
 /// Also where the file cannot be read.
