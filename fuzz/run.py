@@ -1,0 +1,174 @@
+"""Compares `mjc` with another program that has its forms, and with models, on texts that are made up.
+
+    run.py --mjc MJC --upstream PROGRAM [--seed SEED] [--count TEXTS] [--seconds SECONDS] [--processes N]
+
+It prints each difference that no rule explains as a line of JSON, and at the end how many texts were compared, and how
+often each rule explained one. The status is 0 where no difference is left.
+"""
+
+import argparse
+import json
+import multiprocessing
+import os
+import signal
+import sys
+import tempfile
+import time
+from collections import Counter
+from queue import Empty
+from typing import NamedTuple
+
+import comparison
+
+
+ROWS = os.path.join(os.path.dirname(os.path.abspath(__file__)), "rows.jsonl")
+
+
+class Work(NamedTuple):
+    """What a process does: which seeds, until when, and how."""
+
+    words: argparse.Namespace
+    first: int
+    step: int
+    until: float
+    share: int
+    rows: list
+
+
+def work(job: Work, queue):
+    """Compares files of seeds until there are enough texts, or time is over, and puts results into a queue."""
+    os.nice(job.words.nice)
+    # Texts nest some hundred deep, and the model of names needs several calls for each.
+    sys.setrecursionlimit(20_000)
+    with tempfile.TemporaryDirectory(dir=job.words.folder) as folder:
+        compare = comparison.Comparison(job.words, folder)
+        try:
+            for row in job.rows:
+                compare.row(row)
+            tell_differences(compare, queue)
+            seed = job.first
+            while compare.compared() < job.share and time.monotonic() < job.until:
+                try_file(compare, seed)
+                tell_differences(compare, queue)
+                queue.put(("counts", compare.take_counts()))
+                seed += job.step
+        except KeyboardInterrupt:
+            pass
+        queue.put(("counts", compare.take_counts()))
+        queue.put(("examples", compare.examples))
+    queue.put(("end", job.first))
+
+
+def try_file(compare: comparison.Comparison, seed: int):
+    """Compares the file of a seed. Where that fails, this is told, and the next one goes on."""
+    try:
+        compare.file(seed)
+    except Exception as why:
+        compare.differences.append({"kind": "this script", "seed": seed, "why": repr(why)})
+
+
+def tell_differences(compare: comparison.Comparison, queue):
+    """Puts the differences since the last time into the queue."""
+    for difference in compare.take_differences():
+        queue.put(("difference", difference))
+
+
+def run(words) -> int:
+    """Starts the processes, and prints what they found."""
+    start = shown = time.monotonic()
+    queue = multiprocessing.Queue()
+    share = -(-words.count // words.processes)
+    rows = read_rows(words.rows) if words.upstream and words.rows else []
+    jobs = [
+        Work(words, words.seed + at, words.processes, start + words.seconds, share, [] if at else rows)
+        for at in range(words.processes)
+    ]
+    processes = [multiprocessing.Process(target=work, args=(job, queue)) for job in jobs]
+    for process in processes:
+        process.start()
+    # An interrupt ends the processes, which tell what they have counted.
+    signal.signal(signal.SIGINT, signal.SIG_IGN)
+    counts, examples, differences, ended = Counter(), {}, 0, 0
+    found = open(words.found, "a", encoding="utf-8") if words.found else None
+    while ended < len(processes):
+        try:
+            kind, content = queue.get(timeout=5)
+        except Empty:
+            if any(it.is_alive() for it in processes):
+                continue
+            differences += 1
+            print("a process was stopped", flush=True)
+            break
+        if kind == "counts":
+            counts += content
+            if time.monotonic() - shown >= 60:
+                shown = time.monotonic()
+                print(f"{comparison.number_of_texts(counts)} texts", file=sys.stderr, flush=True)
+        elif kind == "examples":
+            for rule, case in content.items():
+                comparison.keep_shortest(examples, rule, case)
+        elif kind == "end":
+            ended += 1
+        else:
+            differences += 1
+            line = json.dumps(content, ensure_ascii=False)
+            print(line[: words.width], flush=True)
+            if found:
+                print(line, file=found, flush=True)
+    for process in processes:
+        process.join()
+    if words.examples:
+        write_examples(words.examples, examples)
+    print(report(words, counts, differences, time.monotonic() - start))
+    return 1 if differences else 0
+
+
+def read_rows(path: str) -> list:
+    """The rows of a file, one a line."""
+    with open(path, encoding="utf-8") as file:
+        return [json.loads(line) for line in file]
+
+
+def write_examples(path: str, examples: dict):
+    """Writes the shortest text of each rule as a row."""
+    with open(path, "w", encoding="utf-8") as file:
+        for rule, case in sorted(examples.items()):
+            row = {"rules": [rule], "options": case.options, "source": case.text}
+            print(json.dumps(row, ensure_ascii=False), file=file)
+
+
+def report(words, counts: Counter, differences: int, seconds: float) -> str:
+    """The counts as lines."""
+    texts = comparison.number_of_texts(counts)
+    lines = [f"seeds from {words.seed} on, {words.processes} processes, {seconds:.0f} seconds"]
+    lines += [f"texts {texts}, {texts / max(seconds, 1):.0f} in a second"]
+    lines += [f"  {name}: {count}" for name, count in sorted(counts.items())]
+    lines += [f"differences that no rule explains: {differences}"]
+    return "\n".join(lines)
+
+
+def main() -> int:
+    """Reads the arguments."""
+    parser = argparse.ArgumentParser(description="compares mjc with another program, and with models")
+    parser.add_argument("--mjc", required=True, help="the program that is tried")
+    parser.add_argument("--upstream", help="the program that it is compared with")
+    parser.add_argument("--upstream-option", action="append", default=[], help="an option that this one always gets")
+    parser.add_argument("--seed", type=int, default=1, help="the first seed")
+    parser.add_argument("--count", type=int, default=10_000, help="how many texts to compare")
+    parser.add_argument("--seconds", type=float, default=600, help="after how many seconds to stop")
+    parser.add_argument("--processes", type=int, default=1, help="how many processes compare side by side")
+    parser.add_argument("--templates", type=int, default=100, help="how many templates a file has")
+    parser.add_argument("--broken", type=int, default=5, help="how many broken texts go with a file")
+    parser.add_argument("--expressions", type=int, default=3, help="how many expressions go with a file")
+    parser.add_argument("--replays", type=int, default=1, help="how many runs of code go with a file")
+    parser.add_argument("--found", help="a file that each difference is added to, as a row")
+    parser.add_argument("--examples", help="a file that gets the shortest text of each rule, as rows")
+    parser.add_argument("--rows", default=ROWS, help="a file of rows, which are compared first")
+    parser.add_argument("--folder", help="where files are written for the programs; one in memory is faster")
+    parser.add_argument("--width", type=int, default=4000, help="how much of a difference is printed")
+    parser.add_argument("--nice", type=int, default=10, help="how far the processes stand back for others")
+    return run(parser.parse_args())
+
+
+if __name__ == "__main__":
+    sys.exit(main())
