@@ -1,11 +1,11 @@
 -- What the refusals of a generator say.
 use Rattle.std.specs.Prelude.{◌≡◌, ◌⊎◌, ◌<◌, ◌≤◌, ◌^◌, ℕ, List, Option, Some, None, Result, Err, IfErr, IfNone, IfSome, OnOk, length}
 use Rattle.std.specs.List.{Any}
-use Rattle.minijinja_syntax.specs.Errors.{IsOutOfMemory, kind_of, name_of, span_of}
+use Rattle.minijinja_syntax.specs.Errors.{kind_of}
 use Rattle.minijinja_syntax.specs.declared.error.Error.{Error}
-use Rattle.minijinja_syntax.specs.declared.error.ErrorKind.TheVariants.{OutOfMemory, TooManyInstructions}
+use Rattle.minijinja_syntax.specs.declared.error.ErrorKind.TheVariants.{TooManyInstructions}
 use Rattle.minijinja_value.specs.Values.{Functions}
-use Rattle.minijinja_instructions.specs.InstructionLists.{IsAddError}
+use Rattle.minijinja_instructions.specs.InstructionLists.{HasNoPlaceOrName, IsAddError}
 use Rattle.minijinja_tree.specs.Tree.{Block}
 use Rattle.minijinja_semantics.specs.Code.{Instr}
 use Rattle.minijinja_semantics.specs.Layout.{block_code}
@@ -22,13 +22,6 @@ HaveTooLong f bs = Any (λ b. 2 ^ 32 ≤ length (block_code f b.body)) bs
 -- 32 instructions or more
 abbrev pub OnlyWhereOneIsTooLong : {C L F : Type 0} → Functions C F → Error → List (Instr C) → List (Block C L) → Type 0
 OnlyWhereOneIsTooLong f e code bs = kind_of e ≡ TooManyInstructions → (2 ^ 32 ≤ length code) ⊎ HaveTooLong f bs
-
--- a generator's refusal has no place in the text, since no token is at fault, and no name of a
--- source; one for memory says no more than that
-pub record HasNoPlaceOrName (e : Error) : Type 0 where
-  pub no_span : span_of e ≡ None
-  pub no_name : name_of e ≡ None
-  pub memory : kind_of e ≡ OutOfMemory → IsOutOfMemory e
 
 -- A call that adds code, after which the list has so many instructions. It fails if memory is refused
 -- or these are 2 ^ 32 or more, and from then on every call returns that error.

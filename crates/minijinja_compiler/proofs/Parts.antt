@@ -9,9 +9,9 @@ use Rattle.minijinja_parser.specs.Causes as parser
 use Rattle.minijinja_parser.specs.Causes.{IsRefusal}
 use Rattle.minijinja_compiler.specs.Headline.{IsCompileLimit, IsCompileUnplaced}
 use Rattle.minijinja_code.specs.Building.{OpenBlock, are_closed}
-use Rattle.minijinja_code.specs.Generator.{HasNoPlaceOrName, OnlyWhereTooLong}
+use Rattle.minijinja_code.specs.Generator.{OnlyWhereTooLong}
 use Rattle.minijinja_semantics.specs.Code.{Instr}
-use Rattle.minijinja_instructions.specs.InstructionLists.{IsAddError}
+use Rattle.minijinja_instructions.specs.InstructionLists.{HasNoPlaceOrName, IsAddError}
 use Rattle.minijinja_semantics.specs.Pieces.{Here, start}
 use Rattle.minijinja_code.specs.Hint.{IsHint}
 

@@ -1,7 +1,8 @@
 -- The contents of a list of instructions, which contracts speak of.
-use Rattle.std.specs.Prelude.{◌≡◌, ◌⊎◌, Bool, List}
+use Rattle.std.specs.Prelude.{◌≡◌, ◌⊎◌, Bool, List, None}
 use Rattle.minijinja_syntax.specs.Texts.{Text}
-use Rattle.minijinja_syntax.specs.Errors.{kind_of}
+use Rattle.minijinja_syntax.specs.Errors.{IsOutOfMemory, kind_of, span_of}
+use Rattle.minijinja_syntax.specs.Errors as error
 use Rattle.minijinja_syntax.specs.declared.error.Error.{Error}
 use Rattle.minijinja_syntax.specs.declared.error.ErrorKind.TheVariants.{OutOfMemory, TooManyInstructions}
 use Rattle.minijinja_semantics.specs.Marks.{Mark}
@@ -33,3 +34,10 @@ is_required code = code.is_required_block
 -- an instruction is refused for want of memory or of room
 abbrev pub IsAddError : Error → Type 0
 IsAddError e = (kind_of e ≡ OutOfMemory) ⊎ (kind_of e ≡ TooManyInstructions)
+
+-- the refusal of an instruction has no place in the text, since no token is at fault, and no name of
+-- a source; one for memory says no more than that
+pub record HasNoPlaceOrName (e : Error) : Type 0 where
+  pub no_span : span_of e ≡ None
+  pub no_name : error.name_of e ≡ None
+  pub memory : kind_of e ≡ OutOfMemory → IsOutOfMemory e

@@ -3,8 +3,8 @@ ghost use Rattle.std.specs.Prelude.{◌≡◌, ◌+◌, ◌≤◌, ◌<◌, ◌^
 ghost use Rattle.std.specs.Option.{option_copied, option_copied_mut};
 ghost use Rattle.std.specs.Slice.Iter.{iter_rest};
 ghost use Rattle.std.specs.Iterator.Adapters.{IterYieldsInOrder, IterYieldsInReverse};
-ghost use Rattle.minijinja_syntax.specs.Errors.{kind_of};
-ghost use Rattle.minijinja_syntax.specs.declared.error.ErrorKind.TheVariants.{OutOfMemory, TooManyInstructions};
+ghost use Rattle.minijinja_syntax.specs.Errors.{kind_of, IsOutOfMemory};
+ghost use Rattle.minijinja_syntax.specs.declared.error.ErrorKind.TheVariants.{TooManyInstructions};
 ghost use Rattle.minijinja_instructions.specs.MarkLists.{marks_in};
 
 use crate::lists::reserve_one;
@@ -218,7 +218,7 @@ pub type Instructions<'s, V = Value> = InstructionList<'s, Instruction<'s, V>>;
 impl<'s, I> InstructionList<'s, I> {
     ghost use Rattle.std.specs.Borrow.{sem};
     ghost use Rattle.minijinja_semantics.specs.Marks.{at_line, at_span, last_mark, shown};
-    ghost use Rattle.minijinja_instructions.specs.InstructionLists.{instructions_of, is_required, marks_of, name_of, source_of, IsAddError};
+    ghost use Rattle.minijinja_instructions.specs.InstructionLists.{instructions_of, is_required, marks_of, name_of, source_of, HasNoPlaceOrName, IsAddError};
     ghost use Rattle.minijinja_instructions.specs.Lending.{lends_instruction};
     ghost use Rattle.minijinja_instructions.specs.Marks.{line_at, span_at};
 
@@ -244,6 +244,25 @@ impl<'s, I> InstructionList<'s, I> {
         ensures { result ≡ is_required self.now }
     {
         self.is_required_block
+    }
+
+    /// Marks the list as that of a block that another template has to override, or as no such list.
+    /// The compiler marks the lists of required blocks; a caller that makes lists itself does it by
+    /// this:
+    ///
+    /// ```
+    /// let mut title = Instructions::new(alloc, "page.html", "");
+    /// title.mark_required_block(true);
+    /// assert!(rt; title.is_required_block());
+    /// ```
+    pub fn mark_required_block(&mut self, required: bool)
+        ensures required { is_required self.new ≡ required }
+        ensures instructions { instructions_of self.new ≡ instructions_of self.old }
+        ensures marks { marks_of self.new ≡ marks_of self.old }
+        ensures name { name_of self.new ≡ name_of self.old }
+        ensures source { source_of self.new ≡ source_of self.old }
+    {
+        self.is_required_block = required;
     }
 
     /// The name of the source.
@@ -333,6 +352,7 @@ impl<'s, I> InstructionList<'s, I> {
         ensures unchanged { OnErr result (instructions_of self.new ≡ instructions_of self.old) }
         ensures same_marks { OnErr result (marks_of self.new ≡ marks_of self.old) }
         ensures causes { IfErr result IsAddError }
+        ensures unplaced { IfErr result HasNoPlaceOrName }
         ensures too_many { IfErr result (λ e. kind_of e ≡ TooManyInstructions → 2 ^ 32 ≤ length
             (instructions_of self.old) + 1) }
         ensures full { 2 ^ 32 ≤ length (instructions_of self.old) + 1 → IfErr result
@@ -362,6 +382,7 @@ impl<'s, I> InstructionList<'s, I> {
         ensures unchanged { OnErr result (instructions_of self.new ≡ instructions_of self.old) }
         ensures same_marks { OnErr result (marks_of self.new ≡ marks_of self.old) }
         ensures causes { IfErr result IsAddError }
+        ensures unplaced { IfErr result HasNoPlaceOrName }
         ensures too_many { IfErr result (λ e. kind_of e ≡ TooManyInstructions → 2 ^ 32 ≤ length
             (instructions_of self.old) + 1) }
         ensures full { 2 ^ 32 ≤ length (instructions_of self.old) + 1 → IfErr result
@@ -387,6 +408,7 @@ impl<'s, I> InstructionList<'s, I> {
         ensures unchanged { OnErr result (instructions_of self.new ≡ instructions_of self.old) }
         ensures same_marks { OnErr result (marks_of self.new ≡ marks_of self.old) }
         ensures causes { IfErr result IsAddError }
+        ensures unplaced { IfErr result HasNoPlaceOrName }
         ensures too_many { IfErr result (λ e. kind_of e ≡ TooManyInstructions → 2 ^ 32 ≤ length
             (instructions_of self.old) + 1) }
         ensures full { 2 ^ 32 ≤ length (instructions_of self.old) + 1 → IfErr result
@@ -410,6 +432,7 @@ impl<'s, I> InstructionList<'s, I> {
         ensures unchanged { OnErr result (instructions_of self.new ≡ instructions_of self.old) }
         ensures same_marks { OnErr result (marks_of self.new ≡ marks_of self.old) }
         ensures causes { IfErr result IsAddError }
+        ensures unplaced { IfErr result HasNoPlaceOrName }
         ensures too_many { IfErr result (λ e. kind_of e ≡ TooManyInstructions → 2 ^ 32 ≤ length
             (instructions_of self.old) + 1) }
         ensures full { 2 ^ 32 ≤ length (instructions_of self.old) + 1 → IfErr result
@@ -455,7 +478,7 @@ impl<'s, V: TemplateValue> InstructionList<'s, Instruction<'s, V>> {
         ensures expression { IfOk result (λ names. (e : Expr V.Contents) →
             code_of V.contents self.now ≡ expr_code V.functions e start →
             map (λ x. x.now) names.items ≡ referenced (code_of V.contents self.now) [] index) }
-        ensures causes { IfErr result (λ e. kind_of e ≡ OutOfMemory) }
+        ensures memory { IfErr result IsOutOfMemory }
     {
         let alloc = *self.instructions.allocator();
         Ok(referenced_names(alloc, &self.instructions, index as usize)?)

@@ -3,7 +3,7 @@ ghost use Rattle.std.specs.Prelude.{◌≡◌, ◌+◌, ◌≤◌, ◌<◌, ◌^
 ghost use Rattle.minijinja_syntax.specs.Errors as Errors;
 ghost use Rattle.minijinja_syntax.specs.Errors.{kind_of, span_of};
 ghost use Rattle.minijinja_syntax.specs.declared.error.ErrorKind.TheVariants.{TooManyInstructions};
-ghost use Rattle.minijinja_instructions.specs.InstructionLists.{instructions_of, is_required, marks_of, name_of, source_of, IsAddError};
+ghost use Rattle.minijinja_instructions.specs.InstructionLists.{instructions_of, is_required, marks_of, name_of, source_of, HasNoPlaceOrName, IsAddError};
 ghost use Rattle.minijinja_instructions.specs.MarkLists.{marks_in};
 
 use crate::instructions::{Instruction, InstructionList, Instructions};
@@ -60,6 +60,7 @@ pub(crate) fn reserve_one<I>(list: &mut Vec<I>) -> Result<(), Error<'static>>
     ensures room { OnOk result (vec_len list.new < vec_capacity list.new) }
     ensures fits { OnOk result (length list.old.items + 1 < 2 ^ 32) }
     ensures causes { IfErr result IsAddError }
+    ensures unplaced { IfErr result HasNoPlaceOrName }
     ensures too_many { IfErr result
         (λ e. kind_of e ≡ TooManyInstructions → 2 ^ 32 ≤ length list.old.items + 1) }
     ensures full { 2 ^ 32 ≤ length list.old.items + 1 → IfErr result
