@@ -1,0 +1,4 @@
+pub mod Firsts
+pub mod Unused
+pub mod Sorting
+pub mod Collected

@@ -1,0 +1,6 @@
+//! What a linter finds in a template.
+#![tactic(auto)]
+
+pub mod lint;
+#[cfg(test)]
+mod tests;
