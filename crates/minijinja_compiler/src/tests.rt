@@ -11,6 +11,7 @@ mod flags;
 mod hostile;
 mod lexer;
 mod marks;
+mod memory;
 mod meta;
 mod parser;
 mod prefixes;

@@ -7,7 +7,9 @@ mod blocks;
 mod calls;
 mod expr;
 mod imports;
+mod lint;
 mod macros;
+mod memory;
 mod names;
 mod print;
 mod replay;
@@ -229,13 +231,14 @@ fn reads_to_the_end(rt: HostRuntime) -> Result<(), Fail> {
     Ok(())
 }
 
-/// A command, the text of its file and its answers, and what it prints.
+/// A command, the text of its file and its answers, what it prints, and its status.
 #[derive(Clone, Copy)]
 struct Printing<'t> {
     args: &'t [&'t str],
     source: &'t str,
     answers: &'t str,
     printed: &'t str,
+    status: u8,
 }
 
 impl Printing<'_> {
@@ -246,7 +249,7 @@ impl Printing<'_> {
         let (file, answers) = (&mut self.source.as_bytes(), &mut self.answers.as_bytes());
         let status = run(alloc, self.args, file, answers, &mut out, &mut err);
         assert!(rt; self.printed.as_bytes().starts_with(&out.taken));
-        if status == 0 {
+        if status == self.status {
             assert!(rt; out.taken.len() == self.printed.len() && err.is_empty() && writes > 0);
             return true;
         }
@@ -266,37 +269,49 @@ impl Printing<'_> {
 }
 
 /// Each command, on a text of which it prints several lines.
-const PRINTINGS: [Printing<'static>; 5] = [
+const PRINTINGS: [Printing<'static>; 6] = [
     Printing {
         args: &["tokens", "-"],
         source: "a{{ b }}",
         answers: "",
         printed: "1:0-1:1 TemplateData(\"a\")\n1:1-1:3 VariableStart\n1:4-1:5 Ident(\"b\")\n\
             1:6-1:8 VariableEnd\n",
+        status: 0,
     },
     Printing {
         args: &CODE,
         source: GREETING,
         answers: "",
         printed: GREETING_CODE,
+        status: 0,
     },
     Printing {
         args: &["names", "-"],
         source: "{% set x = foo %}{{ x }}{{ bar.baz }}",
         answers: "",
         printed: "plain bar\nplain foo\nnested bar.baz\nnested foo\n",
+        status: 0,
+    },
+    Printing {
+        args: &["lint", "-"],
+        source: "{% macro f() %}{{ a }}{% endmacro %}",
+        answers: "",
+        printed: "free a at 1:18\nmacro f unused at 1:3\n",
+        status: 3,
     },
     Printing {
         args: &["expr", "a.b"],
         source: "",
         answers: "",
         printed: "expression\n0 Lookup(\"a\")\n1 GetAttr(\"b\")\n",
+        status: 0,
     },
     Printing {
         args: &["replay", "-", "answers"],
         source: "{{ a }}",
         answers: "[1]\n[]\n",
         printed: "Lookup(\"a\") <- [] -> [1]\nEmit <- [1] -> []\nfinished, 2 steps\n",
+        status: 0,
     },
 ];
 

@@ -1,12 +1,17 @@
 -- What a command does is what is asked for.
 use Rattle.std.proofs.Common.{◌≡◌, subst, sym}
-use Rattle.std.specs.Prelude.{IfErr, IfOk, IsErrAnd, Result, Ok, Err}
+use Rattle.std.specs.Prelude.{ℕ, IfErr, IfOk, IsErrAnd, Result, Ok, Err}
 use Rattle.minijinja_syntax.specs.Texts.{Text}
+use Rattle.mjc_commands.specs.Failure.{exit_status}
 use Rattle.mjc_commands.specs.Settings.{syntax_with}
 use Rattle.mjc_commands.specs.Showing.{IsShowable}
 use Rattle.mjc_commands.specs.Usage.{Request}
 use Rattle.mjc_commands.specs.private.AtOptions.{syntax_of}
 use Rattle.mjc_commands.specs.private.AtUsage.{IsCommandFor, task_of}
+use Rattle.mjc_commands.specs.declared.failure.Failure.{Failure}
+use Rattle.mjc_commands.specs.declared.failure.Failure.TheVariants.{Usage, CannotRead, Refused, BadAnswer, CannotWrite}
+use Rattle.mjc_commands.specs.declared.run.Ending.{Ending}
+use Rattle.mjc_commands.specs.declared.run.Ending.TheVariants.{Done, Found}
 use Rattle.mjc_commands.specs.declared.usage.FileCommand.{FileCommand}
 
 -- what a success has can be turned into what follows from it
@@ -27,3 +32,13 @@ passed_on P (Err e) x same has = subst P (sym same) has
 pub shown_as : (request : Request) (command : FileCommand) (source : Text) → IsCommandFor request command → IsShowable (task_of command.action) (syntax_of command.options) source → IsShowable request.task (syntax_with request.settings) source
 shown_as request command source is shown =
     subst (λ t. IsShowable t (syntax_with request.settings) source) is.task (subst (λ s. IsShowable (task_of command.action) s source) is.syntax shown)
+
+-- a run that ends with success ends as its status says
+pub ends_as : (ending : Result Ending Failure) (status : ℕ) (P : Ending → Type 0) → status ≡ exit_status ending → IfOk ending P → (status ≡ 0 → P Done) × (status ≡ 3 → P Found)
+ends_as (Ok Done) status P e is = (λ zero. is, λ three. absurd cc)
+ends_as (Ok Found) status P e is = (λ zero. absurd cc, λ three. is)
+ends_as (Err (Refused kind line column)) status P e is = (λ zero. absurd cc, λ three. absurd cc)
+ends_as (Err Usage) status P e is = (λ zero. absurd cc, λ three. absurd cc)
+ends_as (Err (CannotRead path)) status P e is = (λ zero. absurd cc, λ three. absurd cc)
+ends_as (Err (BadAnswer line)) status P e is = (λ zero. absurd cc, λ three. absurd cc)
+ends_as (Err CannotWrite) status P e is = (λ zero. absurd cc, λ three. absurd cc)

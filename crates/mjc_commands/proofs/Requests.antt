@@ -1,5 +1,5 @@
 -- Options are read one after the other, and in one way only.
-use Rattle.std.proofs.Common.{◌≡◌, refl, sym, ◌∙◌, ap, subst, arith, ℕ, ◌+◌, ◌≤◌, ◌<◌, length, slice_index_or, Bool, List, [], ◌∷◌, ◌++◌, drop, append_assoc, true, false, Option, None, Some, IfSome, codes, nat_eq, if◌then◌else◌}
+use Rattle.std.proofs.Common.{◌≡◌, ◌≢◌, refl, sym, ◌∙◌, ap, subst, arith, ℕ, ◌+◌, ◌≤◌, ◌<◌, length, slice_index_or, Bool, List, [], ◌∷◌, ◌++◌, drop, append_assoc, true, false, Option, None, Some, IfSome, codes, nat_eq, if◌then◌else◌}
 use Rattle.std.specs.List.{fold, flat_map, starts_with}
 use Rattle.std.specs.Str.{bytes_eq}
 use Rattle.std.specs.Borrow.{Bor}
@@ -8,7 +8,7 @@ use Rattle.std.proofs.lemmas.Slice.Eq.{bytes_eq-Decides}
 use Rattle.minijinja_syntax.specs.Texts.{Text}
 use Rattle.minijinja_syntax.specs.Syntax.{Syntax}
 use Rattle.mjc_commands.specs.Settings.{Setting, block, variable, comment, line_statement, line_comment, trim_blocks, lstrip_blocks, keep_newline, words_of, with_setting, texts}
-use Rattle.mjc_commands.specs.Usage.{AreFiles, IsFile, Request, Task, tokens, code, names, replay, option_words, paths_of, command_word, Asks, AsksExpr}
+use Rattle.mjc_commands.specs.Usage.{AreFiles, IsFile, Request, Task, tokens, code, names, lint, replay, option_words, paths_of, command_word, Asks, AsksExpr}
 use Rattle.mjc_commands.specs.private.AtOptions.{option_named, setting_of, first_setting, Takes}
 use Rattle.mjc_commands.specs.private.AtUsage.{BeginWithFile, IsActionOn}
 use Rattle.mjc_commands.specs.declared.options.OptionName.{OptionName}
@@ -168,6 +168,7 @@ pub paths_begin : (task : Task) (file : Text) → AreFiles task file → BeginWi
 paths_begin tokens file are = are
 paths_begin code file are = are
 paths_begin names file are = are
+paths_begin lint file are = are
 paths_begin (replay answers) file are = are.0
 
 -- the words of a command, of options and of paths are asked for
@@ -185,24 +186,37 @@ word_asked args word rest request e asked = let same = sym (ap texts e) ∙ aske
 pub rest_asked : (args : List (Bor Text)) (word : Bor Text) (rest : List (Bor Text)) (request : Request) → args ≡ word ∷ rest → Asks args request → texts rest ≡ option_words request.settings (paths_of request.task request.file)
 rest_asked args word rest request e asked = let same = sym (ap texts e) ∙ asked.words in cc
 
+-- words that do not compare equal differ
+words_differ : (word other : Text) → bytes_eq word other ≡ false → word ≢ other
+words_differ word other apart same = let compared = (bytes_eq-Decides word other).1 same in absurd cc
+
 -- a command is one task, on one file
 pub same_asked : (t u : Task) (file other : Text) → command_word t ≡ command_word u → paths_of t file ≡ paths_of u other → (t ≡ u) × (file ≡ other)
 same_asked tokens tokens file other w p = (refl, cc)
 same_asked code code file other w p = (refl, cc)
 same_asked names names file other w p = (refl, cc)
+same_asked lint lint file other w p = (refl, cc)
 same_asked (replay a) (replay b) file other w p = (cc, cc)
 same_asked tokens code file other w p = absurd cc
 same_asked tokens names file other w p = absurd cc
+same_asked tokens lint file other w p = absurd cc
 same_asked tokens (replay b) file other w p = absurd cc
 same_asked code tokens file other w p = absurd cc
 same_asked code names file other w p = absurd cc
+same_asked code lint file other w p = absurd (words_differ (codes "code") (codes "lint") refl w)
 same_asked code (replay b) file other w p = absurd cc
 same_asked names tokens file other w p = absurd cc
 same_asked names code file other w p = absurd cc
+same_asked names lint file other w p = absurd cc
 same_asked names (replay b) file other w p = absurd cc
+same_asked lint tokens file other w p = absurd cc
+same_asked lint code file other w p = absurd (words_differ (codes "lint") (codes "code") refl w)
+same_asked lint names file other w p = absurd cc
+same_asked lint (replay b) file other w p = absurd cc
 same_asked (replay a) tokens file other w p = absurd cc
 same_asked (replay a) code file other w p = absurd cc
 same_asked (replay a) names file other w p = absurd cc
+same_asked (replay a) lint file other w p = absurd cc
 
 -- two words, of which the first is `expr`
 pub asks_expr : (args : List (Bor Text)) (d e : Bor Text) → 2 ≤ length args → length args < 3 → bytes_eq (slice_index_or args 0 d).now (codes "expr") ≡ true → AsksExpr args (slice_index_or args 1 e).now

@@ -1,11 +1,13 @@
--- Failures of a run, and the status of the process for each.
-use Rattle.std.specs.Prelude.{◌≡◌, ◌≢◌, ℕ, Result, Ok, Err}
+-- How a run ends, and the status of the process for each ending.
+use Rattle.std.specs.Prelude.{◌≡◌, ◌≢◌, ◌⊎◌, ℕ, Result, Ok, Err}
 use Rattle.std.specs.IoError.{error_kind}
 use Rattle.std.specs.declared.io.Error as io
 use Rattle.std.specs.declared.io.ErrorKind.TheVariants as kind
 use Rattle.minijinja_syntax.specs.declared.error.ErrorKind.{ErrorKind}
 use Rattle.mjc_commands.specs.declared.failure.Failure.{Failure}
 use Rattle.mjc_commands.specs.declared.failure.Failure.TheVariants.{Usage, CannotRead, Refused, BadAnswer, CannotWrite}
+use Rattle.mjc_commands.specs.declared.run.Ending.{Ending}
+use Rattle.mjc_commands.specs.declared.run.Ending.TheVariants.{Done, Found}
 
 -- 1 for a refused syntax or text and for want of memory, otherwise 2
 abbrev pub status_of : Failure → ℕ
@@ -15,10 +17,20 @@ status_of (CannotRead path) = 2
 status_of (BadAnswer line) = 2
 status_of CannotWrite = 2
 
--- 0 is success
-abbrev pub ending_status : Result (Unit {0}) Failure → ℕ
+-- 0 where nothing fails
+abbrev pub ending_status : {A : Type 0} → Result A Failure → ℕ
 ending_status (Ok done) = 0
 ending_status (Err failure) = status_of failure
+
+-- the status of the process: 0 is success, and so is 3, where a linter has found something
+abbrev pub exit_status : Result Ending Failure → ℕ
+exit_status (Ok Done) = 0
+exit_status (Ok Found) = 3
+exit_status (Err failure) = status_of failure
+
+-- a status of success
+abbrev pub IsSuccess : ℕ → Type 0
+IsSuccess status = (status ≡ 0) ⊎ (status ≡ 3)
 
 -- the syntax or the text is refused, or memory ran out
 abbrev pub IsRefused : Failure → Type 0

@@ -2,6 +2,7 @@
 pub mod Settings
 pub mod Usage
 pub mod Failure
+pub mod Linting
 pub mod Reading
 pub mod Watched
 pub mod AnswerFile

@@ -1,4 +1,4 @@
--- The texts whose tokens, code, names or runs are shown to the end.
+-- The texts whose tokens, code, names, findings or runs are shown to the end.
 use Rattle.std.specs.Prelude.{◌≡◌, ◌⊎◌, ◌≤◌, ◌^◌, ℕ, List, length, Option, Some, IfSome, MatchOption, Result, IfErr}
 use Rattle.std.specs.Borrow.{Bor}
 use Rattle.minijinja_syntax.specs.Texts.{Text}
@@ -12,7 +12,7 @@ use Rattle.minijinja_lexer.specs.TextTokens.{tokens_of_template}
 use Rattle.minijinja_parser.specs.Derived.{IsDerived, IsExprDerived}
 use Rattle.minijinja_compiler.specs.Headline.{HasTooLongCode, HasTooLongExprCode}
 use Rattle.mjc_commands.specs.Settings.{syntax_with}
-use Rattle.mjc_commands.specs.Usage.{Task, tokens, code, names, replay, Request, Asks}
+use Rattle.mjc_commands.specs.Usage.{Task, tokens, code, names, lint, replay, Request, Asks}
 use Rattle.mjc_commands.specs.AnswerFile.{IsAnswerFile, IsBadLine}
 use Rattle.mjc_commands.specs.Failure.{IsBadAnswer, IsRefused, IsRefusedAs}
 use Rattle.mjc_commands.specs.declared.failure.Failure.{Failure}
@@ -22,6 +22,7 @@ abbrev pub IsShowable : Task → Syntax → Text → Type 0
 IsShowable tokens syntax source = (tokens_of_template syntax source).ending ≡ finished
 IsShowable code syntax source = (tree : _) × IsDerived value_functions syntax source tree
 IsShowable names syntax source = (tree : _) × IsDerived value_functions syntax source tree
+IsShowable lint syntax source = (tree : _) × IsDerived value_functions syntax source tree
 IsShowable (replay answers) syntax source = (tree : _) × IsDerived value_functions syntax source tree
 
 -- the text is an expression that has a tree
@@ -33,6 +34,7 @@ abbrev pub IsTooLarge : Task → Syntax → Text → Type 0
 IsTooLarge tokens syntax source = 2 ^ 32 ≤ length source
 IsTooLarge code syntax source = (2 ^ 32 ≤ length source) ⊎ HasTooLongCode value_functions syntax source
 IsTooLarge names syntax source = 2 ^ 32 ≤ length source
+IsTooLarge lint syntax source = 2 ^ 32 ≤ length source
 IsTooLarge (replay answers) syntax source = (2 ^ 32 ≤ length source) ⊎ HasTooLongCode value_functions syntax source
 
 -- the expression has 2^32 bytes or more, or its code 2^32 instructions or more
@@ -44,12 +46,12 @@ abbrev pub IsMemory : Failure → Type 0
 IsMemory failure = IsRefusedAs OutOfMemory failure
 
 -- a run on a text that can be shown ends in success, or by want of memory, or the text is too large
-abbrev pub Succeeds : Task → Syntax → Text → Result (Unit {0}) Failure → Type 0
+abbrev pub Succeeds : {A : Type 0} → Task → Syntax → Text → Result A Failure → Type 0
 Succeeds task syntax source ending = IfErr ending (λ failure. IsMemory failure ⊎ IsTooLarge task syntax source)
 
 -- a run on an expression that can be shown ends in success, or by want of memory, or the text is
 -- too large
-abbrev pub SucceedsExpr : Text → Result (Unit {0}) Failure → Type 0
+abbrev pub SucceedsExpr : {A : Type 0} → Text → Result A Failure → Type 0
 SucceedsExpr source ending = IfErr ending (λ failure. IsMemory failure ⊎ IsTooLargeExpr source)
 
 -- what was written of tokens is all of them, or what ends them is the text's own refusal or want of

@@ -10,10 +10,10 @@ use Rattle.mjc_commands.specs.Settings.{Setting, texts, words_of, syntax_with}
 abbrev pub IsFile : Text → Type 0
 IsFile word = starts_with nat_eq word (codes "--") ≡ false
 
--- what is shown of a file: its tokens, its code, the names that it needs from outside, or a run of
--- its code on the answers that the file of another path has
+-- what is shown of a file: its tokens, its code, the names that it needs from outside, what a linter
+-- finds in it, or a run of its code on the answers that the file of another path has
 pub data Task : Type 0 where
-  tokens code names : Task
+  tokens code names lint : Task
   replay : (answers : Text) → Task
 
 -- the task runs code on answers
@@ -26,6 +26,7 @@ abbrev pub command_word : Task → Text
 command_word tokens = codes "tokens"
 command_word code = codes "code"
 command_word names = codes "names"
+command_word lint = codes "lint"
 command_word (replay answers) = codes "replay"
 
 -- the paths that a command ends with
@@ -57,6 +58,12 @@ pub record Asks (args : List (Bor Text)) (request : Request) : Type 0 where
 pub record IsFileUsage (args : List (Bor Text)) : Type 0 where
   pub request : Request
   pub asks : Asks args request
+
+-- the words ask for what a linter finds
+pub record IsLintUsage (args : List (Bor Text)) : Type 0 where
+  pub request : Request
+  pub asks : Asks args request
+  pub lints : request.task ≡ lint
 
 -- the words ask for a run on answers
 pub record IsReplayUsage (args : List (Bor Text)) : Type 0 where

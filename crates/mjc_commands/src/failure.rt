@@ -139,7 +139,7 @@ impl fmt::Display for Failure<'_> {
         match self {
             Failure::Usage => write!(
                 f,
-                "usage: mjc tokens|code|names|replay [OPTION..] FILE [ANSWERS], mjc expr TEXT"
+                "usage: mjc tokens|code|names|lint|replay [OPTION..] FILE [ANSWERS], mjc expr TEXT"
             ),
             Failure::CannotRead(path) => write!(f, "mjc: cannot read {path}"),
             Failure::Refused { kind, line, column } => write!(

@@ -1,4 +1,4 @@
-//! Prints tokens, code, names and runs, one token, instruction, name or event on a line.
+//! Prints tokens, code, names, findings and runs, one of each, or one event of a run, on a line.
 ghost use Rattle.std.specs.Prelude.{IfOk};
 ghost use Rattle.mjc_commands.specs.Showing.{EndsBy};
 ghost use Rattle.mjc_commands.specs.Watched.{Notes};
@@ -10,6 +10,7 @@ use minijinja_compiler::instructions::Instructions;
 use minijinja_compiler::lexer::Tokenizer;
 use minijinja_compiler::tokens::{Span, Token};
 use minijinja_compiler::value::{Quoted, Value, ValueFault};
+use minijinja_lint::lint::Finding;
 use minijinja_replay::replay::{Answer, End, Event, Run};
 use std::collections::BTreeSet;
 use std::fmt;
@@ -115,6 +116,34 @@ pub fn print_names<W: Write>(
         writeln!(out, "nested {name}")?;
     }
     out.flush()
+}
+
+/// Writes what a linter found, each finding on a line, with its line from 1 and its column from 0.
+pub fn print_findings<W: Write>(out: &mut Watched<W>, findings: &[Finding<'_>]) -> io::Result<()>
+    ensures notes { Notes out.old out.new result }
+{
+    for finding in findings {
+        print_finding(out, *finding)?;
+    }
+    out.flush()
+}
+
+/// Writes a finding on a line.
+fn print_finding<W: Write>(out: &mut Watched<W>, finding: Finding<'_>) -> io::Result<()>
+    ensures notes { Notes out.old out.new result }
+{
+    match finding {
+        Finding::Free(name, at) => {
+            writeln!(out, "free {name} at {}:{}", at.start_line, at.start_col)
+        }
+        Finding::UnusedMacro(name, at) => {
+            writeln!(
+                out,
+                "macro {name} unused at {}:{}",
+                at.start_line, at.start_col
+            )
+        }
+    }
 }
 
 /// Writes the code of an expression.

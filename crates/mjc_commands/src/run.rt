@@ -1,10 +1,10 @@
 //! One run of the program, on any readers and writers.
-ghost use Rattle.std.specs.Prelude.{◌≡◌, ◌≢◌, ◌≤◌, ◌⊎◌, IfErr, IfOk, IfSome, IsErr, IsErrOf, OnOk, Some};
+ghost use Rattle.std.specs.Prelude.{◌≡◌, ◌≤◌, ◌⊎◌, IfErr, IfOk, IfSome, IsErr, IsErrOf, OnOk, Some, map};
 ghost use Rattle.std.specs.Io.KnownBytes.{IsAtEnd};
 ghost use Rattle.minijinja_syntax.specs.Texts.{Text};
 ghost use Rattle.minijinja_syntax.specs.Syntax.{IsBuildable};
 ghost use Rattle.mjc_commands.specs.Settings.{syntax_with};
-ghost use Rattle.mjc_commands.specs.Usage.{IsUsage, IsFileUsage, IsExprUsage, IsReplay, IsReplayUsage, IsUnbuildable, AsksExpr, tokens, code, names, replay};
+ghost use Rattle.mjc_commands.specs.Usage.{IsUsage, IsFileUsage, IsExprUsage, IsLintUsage, IsReplay, IsReplayUsage, IsUnbuildable, AsksExpr, tokens, code, names, lint, replay};
 ghost use Rattle.mjc_commands.specs.private.AtOptions.{syntax_of};
 ghost use Rattle.mjc_commands.specs.private.AtUsage.{IsCommandFor, task_of};
 ghost use Rattle.mjc_commands.specs.Reading.{IsNoText};
@@ -12,11 +12,15 @@ ghost use Rattle.mjc_commands.specs.Watched.{stream_of, IsUnfailed, Stops};
 ghost use Rattle.mjc_commands.specs.AnswerFile.{IsAnswerFile};
 ghost use Rattle.mjc_commands.specs.Showing.{HasAnswers, IsOfContents, IsShowable, IsShowableExpr, IsMemory, IsTooLarge, OfFile, Succeeds, SucceedsExpr};
 ghost use Rattle.mjc_commands.specs.TemplateRuns.{IsCode};
-ghost use Rattle.mjc_commands.specs.Failure.{IsRefused, ending_status, status_of};
+ghost use Rattle.minijinja_lint.specs.Findings.{remark_of};
+ghost use Rattle.mjc_commands.specs.Linting.{EndsWithFindings, IsLinted, ending_with};
+ghost use Rattle.mjc_commands.specs.Failure.{IsRefused, IsSuccess, ending_status, exit_status, status_of};
 
 use crate::answers::read_answers;
 use crate::failure::Failure;
-use crate::print::{print_code, print_expression, print_names, print_run, print_tokens};
+use crate::print::{
+    print_code, print_expression, print_findings, print_names, print_run, print_tokens,
+};
 use crate::template::replay_template;
 use crate::usage::{Action, Command, FileCommand, parse};
 use crate::watched::Watched;
@@ -27,13 +31,23 @@ use minijinja_compiler::meta::find_undeclared;
 use minijinja_compiler::parser::parse as parse_template;
 use minijinja_compiler::syntax::SyntaxConfig;
 use minijinja_compiler::value::Value;
+use minijinja_lint::lint::{Finding, lint};
 use std::alloc::Global;
 use std::collections::BTreeSet;
 use std::io::{Read, Write};
 
+/// How a run ends that does not fail.
+#[derive(Clone, Copy, Debug, PartialEq, Eq)]
+pub enum Ending {
+    /// It did what was asked for.
+    Done,
+    /// It printed what a linter found, which is something.
+    Found,
+}
+
 /// Runs a command, and returns the status of the process: 0 for success, 1 where the syntax or the
-/// text is refused or memory runs out, and 2 for bad usage, for answers that are none, and where
-/// something cannot be read or written.
+/// text is refused or memory runs out, 2 for bad usage, for answers that are none, and where
+/// something cannot be read or written, and 3 where `lint` found something.
 ///
 /// `args` are the words after the program's name, `file` is the file that they name, and `answers`
 /// that of the answers, which only `replay` reads. A failure is one line on `err`; a failing write
@@ -46,7 +60,7 @@ pub fn run<R: Read, Q: Read, W: Write, X: Write>(
     out: &mut W,
     err: &mut X,
 ) -> u8
-    ensures within { result ≤ 2 }
+    ensures within { result ≤ 3 }
 
     // Bad usage reads nothing and prints nothing on `out`.
     ensures misused { ¬ IsUsage args.now → result ≡ 2 }
@@ -60,7 +74,8 @@ pub fn run<R: Read, Q: Read, W: Write, X: Write>(
 
     // A file that is no text is no success, and nothing is printed of it. An expression stands in the
     // words: no file is read.
-    ensures unreadable { IsFileUsage args.now → IsNoText (R.remaining file.old) → result ≢ 0 }
+    ensures unreadable { IsFileUsage args.now → IsNoText (R.remaining file.old) →
+        ¬ IsSuccess result }
     ensures unprinted { IsFileUsage args.now → IsNoText (R.remaining file.old) →
         out.new ≡ out.old }
     ensures expr { IsExprUsage args.now → file.new ≡ file.old }
@@ -73,8 +88,13 @@ pub fn run<R: Read, Q: Read, W: Write, X: Write>(
     ensures answered { IsReplayUsage args.now → result ≡ 0 →
         IfSome (Q.remaining answers.old) IsAnswerFile }
 
-    // A text that is refused, by the tokenizer or the grammar, is no success.
-    ensures shown { result ≡ 0 → OfFile args.now (R.remaining file.old) IsShowable }
+    // A text that is refused, by the tokenizer or the grammar, is no success. Only `lint` finds
+    // something: what a linter finds in its tree.
+    ensures shown { IsSuccess result → OfFile args.now (R.remaining file.old) IsShowable }
+    ensures found { result ≡ 3 → IsLintUsage args.now }
+    ensures linted { OfFile args.now (R.remaining file.old) (λ task syntax source. task ≡ lint →
+        (result ≡ 0 → IsLinted syntax source Ending.Done) ×
+        (result ≡ 3 → IsLinted syntax source Ending.Found)) }
     ensures expr_shown { result ≡ 0 → (source : Text) → AsksExpr args.now source →
         IsShowableExpr source }
 {
@@ -93,7 +113,7 @@ pub fn run_watched<'a, R: Read, Q: Read, W: Write, X: Write>(
     answers: &mut Watched<Q>,
     out: &mut Watched<W>,
     err: &mut X,
-) -> Result<(), Failure<'a>>
+) -> Result<Ending, Failure<'a>>
     ensures misused { ¬ IsUsage args.now → IsErrOf result Failure.Usage }
 
     // Bad usage reads nothing and prints nothing on `out`.
@@ -128,7 +148,11 @@ pub fn run_watched<'a, R: Read, Q: Read, W: Write, X: Write>(
     ensures answered { IsReplayUsage args.now →
         OnOk result (IfSome (Q.remaining (stream_of answers.old)) IsAnswerFile) }
 
-    // A text that is refused, by the tokenizer or the grammar, is never a success.
+    // A text that is refused, by the tokenizer or the grammar, is never a success. Only `lint` finds
+    // something: what a linter finds in its tree.
+    ensures found { IfOk result (λ ending. ending ≡ Ending.Found → IsLintUsage args.now) }
+    ensures linted { OfFile args.now (R.remaining (stream_of file.old)) (λ task syntax source.
+        task ≡ lint → IfOk result (IsLinted syntax source)) }
     ensures shown { OnOk result (OfFile args.now (R.remaining (stream_of file.old)) IsShowable) }
     ensures expr_shown { OnOk result ((source : Text) → AsksExpr args.now source →
         IsShowableExpr source) }
@@ -159,14 +183,15 @@ pub fn run_watched<'a, R: Read, Q: Read, W: Write, X: Write>(
 }
 
 /// The status of the process: 0 for success, 1 where the syntax or the text is refused or memory
-/// runs out, and 2 for bad usage, for answers that are none, and where something cannot be read or
-/// written.
-pub fn status(ending: &Result<(), Failure<'_>>) -> u8
-    ensures value { result ≡ ending_status ending.now }
-    ensures within { result ≤ 2 }
+/// runs out, 2 for bad usage, for answers that are none, and where something cannot be read or
+/// written, and 3 where `lint` found something.
+pub fn status(ending: &Result<Ending, Failure<'_>>) -> u8
+    ensures value { result ≡ exit_status ending.now }
+    ensures within { result ≤ 3 }
 {
     match ending {
-        Ok(()) => 0,
+        Ok(Ending::Done) => 0,
+        Ok(Ending::Found) => 3,
         Err(failure) => failure.status(),
     }
 }
@@ -189,7 +214,7 @@ fn run_command<'a, R: Read, Q: Read, W: Write>(
     file: &mut Watched<R>,
     answers: &mut Watched<Q>,
     out: &mut Watched<W>,
-) -> Result<(), Failure<'a>>
+) -> Result<Ending, Failure<'a>>
     ensures misused { ¬ IsUsage args.now → IsErrOf result Failure.Usage }
     ensures unread { ¬ IsUsage args.now → file.new ≡ file.old }
     ensures unwritten { ¬ IsUsage args.now → out.new ≡ out.old }
@@ -211,6 +236,9 @@ fn run_command<'a, R: Read, Q: Read, W: Write>(
         OnOk result (IsAtEnd (Q.remaining (stream_of answers.new))) }
     ensures answered { IsReplayUsage args.now →
         OnOk result (IfSome (Q.remaining (stream_of answers.old)) IsAnswerFile) }
+    ensures found { IfOk result (λ ending. ending ≡ Ending.Found → IsLintUsage args.now) }
+    ensures linted { OfFile args.now (R.remaining (stream_of file.old)) (λ task syntax source.
+        task ≡ lint → IfOk result (IsLinted syntax source)) }
     ensures shown { OnOk result (OfFile args.now (R.remaining (stream_of file.old)) IsShowable) }
     ensures expr_shown { OnOk result ((source : Text) → AsksExpr args.now source →
         IsShowableExpr source) }
@@ -229,7 +257,10 @@ fn run_command<'a, R: Read, Q: Read, W: Write>(
 {
     match parse(args) {
         Some(Command::File(command)) => run_on_file(alloc, &command, file, answers, out),
-        Some(Command::Expr(text)) => show_expression(alloc, text, out),
+        Some(Command::Expr(text)) => {
+            show_expression(alloc, text, out)?;
+            Ok(Ending::Done)
+        }
         None => Err(Failure::Usage),
     }
 }
@@ -256,7 +287,7 @@ fn run_on_file<'a, R: Read, Q: Read, W: Write>(
     file: &mut Watched<R>,
     answers: &mut Watched<Q>,
     out: &mut Watched<W>,
-) -> Result<(), Failure<'a>>
+) -> Result<Ending, Failure<'a>>
     ensures unbuilt { ¬ IsBuildable (syntax_of command.now.options) → ending_status result ≡ 1 }
     ensures unbuilt_unread { ¬ IsBuildable (syntax_of command.now.options) → file.new ≡ file.old }
     ensures unbuilt_unanswered { ¬ IsBuildable (syntax_of command.now.options) →
@@ -273,6 +304,11 @@ fn run_on_file<'a, R: Read, Q: Read, W: Write>(
         OnOk result (IsAtEnd (Q.remaining (stream_of answers.new))) }
     ensures answered { IsReplay (task_of command.now.action) →
         OnOk result (IfSome (Q.remaining (stream_of answers.old)) IsAnswerFile) }
+    ensures found { IfOk result (λ ending. ending ≡ Ending.Found →
+        task_of command.now.action ≡ lint) }
+    ensures linted { (source : Text) → R.remaining (stream_of file.old) ≡ Some source →
+        task_of command.now.action ≡ lint →
+        IfOk result (IsLinted (syntax_of command.now.options) source) }
     ensures shown { OnOk result ((source : Text) → R.remaining (stream_of file.old) ≡ Some source →
         IsShowable (task_of command.now.action) (syntax_of command.now.options) source) }
     ensures succeeds { IsUnfailed file.new → IsUnfailed answers.new → IsUnfailed out.new →
@@ -291,7 +327,8 @@ fn run_on_file<'a, R: Read, Q: Read, W: Write>(
     show(alloc, command, &syntax, file, answers, out)
 }
 
-/// Reads the file of a command and writes its tokens, its code, its names or a run of its code.
+/// Reads the file of a command and writes its tokens, its code, its names, what a linter finds in it,
+/// or a run of its code.
 fn show<'a, R: Read, Q: Read, W: Write>(
     alloc: Global,
     command: &FileCommand<'a>,
@@ -299,7 +336,7 @@ fn show<'a, R: Read, Q: Read, W: Write>(
     file: &mut Watched<R>,
     answers: &mut Watched<Q>,
     out: &mut Watched<W>,
-) -> Result<(), Failure<'a>>
+) -> Result<Ending, Failure<'a>>
     ensures unreadable { IsNoText (R.remaining (stream_of file.old)) → IsErr result }
     ensures unprinted { IsNoText (R.remaining (stream_of file.old)) → out.new ≡ out.old }
     ensures whole { OnOk result (IsAtEnd (R.remaining (stream_of file.new))) }
@@ -311,6 +348,10 @@ fn show<'a, R: Read, Q: Read, W: Write>(
         OnOk result (IsAtEnd (Q.remaining (stream_of answers.new))) }
     ensures answered { IsReplay (task_of command.now.action) →
         OnOk result (IfSome (Q.remaining (stream_of answers.old)) IsAnswerFile) }
+    ensures found { IfOk result (λ ending. ending ≡ Ending.Found →
+        task_of command.now.action ≡ lint) }
+    ensures linted { (source : Text) → R.remaining (stream_of file.old) ≡ Some source →
+        task_of command.now.action ≡ lint → IfOk result (IsLinted syntax.now source) }
     ensures shown { OnOk result ((source : Text) → R.remaining (stream_of file.old) ≡ Some source →
         IsShowable (task_of command.now.action) syntax.now source) }
     ensures succeeds { IsUnfailed file.new → IsUnfailed answers.new → IsUnfailed out.new →
@@ -329,13 +370,15 @@ fn show<'a, R: Read, Q: Read, W: Write>(
         .read_text(alloc)
         .map_err(|error| Failure::of_read(&error, path))?;
     match command.action {
-        Action::Tokens => show_tokens(alloc, path, &text, syntax, out),
-        Action::Code => show_code(alloc, path, &text, syntax, out),
-        Action::Names => show_names(alloc, path, &text, syntax, out),
+        Action::Tokens => show_tokens(alloc, path, &text, syntax, out)?,
+        Action::Code => show_code(alloc, path, &text, syntax, out)?,
+        Action::Names => show_names(alloc, path, &text, syntax, out)?,
+        Action::Lint => return show_findings(alloc, path, &text, syntax, out),
         Action::Replay(answers_path) => {
-            show_replay(alloc, path, &text, syntax, answers_path, answers, out)
+            show_replay(alloc, path, &text, syntax, answers_path, answers, out)?;
         }
     }
+    Ok(Ending::Done)
 }
 
 /// Writes the tokens of a text, also those before a refusal.
@@ -495,6 +538,54 @@ fn undeclared<'a>(
     ensures status { IfErr result (λ failure. status_of failure ≡ 1) }
 {
     find_undeclared(alloc, template, track_nested).map_err(|error| Failure::of_refusal(&error))
+}
+
+/// Writes what a linter finds in a text.
+fn show_findings<'a, W: Write>(
+    alloc: Global,
+    path: &'a str,
+    text: &str,
+    syntax: &SyntaxConfig,
+    out: &mut Watched<W>,
+) -> Result<Ending, Failure<'a>>
+    ensures shown { OnOk result (IsShowable lint syntax.now text.now) }
+    ensures linted { IfOk result (IsLinted syntax.now text.now) }
+    ensures succeeds { IsUnfailed out.new → IsShowable lint syntax.now text.now →
+        Succeeds lint syntax.now text.now result }
+    ensures written { Stops out.old out.new (ending_status result) }
+    ensures unfailed { IsUnfailed out.new → IfErr result IsRefused }
+{
+    match parse_template::<Value>(alloc, text, path, syntax) {
+        Ok(template) => write_findings(alloc, &template, out),
+        Err(error) => Err(Failure::of_refusal(&error)),
+    }
+}
+
+/// Writes what a linter finds in a template.
+fn write_findings<'a, W: Write>(
+    alloc: Global,
+    template: &Stmt<'_, Value>,
+    out: &mut Watched<W>,
+) -> Result<Ending, Failure<'a>>
+    ensures linted { IfOk result (EndsWithFindings template.now) }
+    ensures succeeds { IsUnfailed out.new → IfErr result IsMemory }
+    ensures written { Stops out.old out.new (ending_status result) }
+    ensures unfailed { IsUnfailed out.new → IfErr result IsRefused }
+{
+    let findings = lint(alloc, template).map_err(|error| Failure::of_refusal(&error))?;
+    print_findings(out, &findings).map_err(|error| Failure::of_write(&error))?;
+    Ok(ending_of(&findings))
+}
+
+/// How a run ends that prints these findings.
+fn ending_of(findings: &[Finding<'_>]) -> Ending
+    ensures { result ≡ ending_with (map remark_of findings.now) }
+{
+    if findings.is_empty() {
+        Ending::Done
+    } else {
+        Ending::Found
+    }
 }
 
 /// Compiles an expression and writes its code.

@@ -18,6 +18,8 @@ pub enum Action<'a> {
     Code,
     /// Prints the names that the text needs from outside.
     Names,
+    /// Prints what a linter finds in the text.
+    Lint,
     /// Compiles, runs the code on the answers that the file of this path has, and prints the run.
     /// `-` is standard input.
     Replay(&'a str),
@@ -26,7 +28,7 @@ pub enum Action<'a> {
 /// What the command line asks for.
 #[derive(Drop)]
 pub enum Command<'a> {
-    /// Print the tokens, the code, the names or a run of a file.
+    /// Print the tokens, the code, the names, the findings or a run of a file.
     File(FileCommand<'a>),
     /// Print the code of this expression.
     Expr(&'a str),
@@ -109,6 +111,7 @@ fn action_on<'a>(word: &str, paths: &[&'a str]) -> Option<(Action<'a>, &'a str)>
         "tokens" => Some((Action::Tokens, lone_file(paths)?)),
         "code" => Some((Action::Code, lone_file(paths)?)),
         "names" => Some((Action::Names, lone_file(paths)?)),
+        "lint" => Some((Action::Lint, lone_file(paths)?)),
         "replay" => {
             let (file, answers) = two_files(paths)?;
             Some((Action::Replay(answers), file))
@@ -179,6 +182,6 @@ pub fn answers_named<'a>(args: &[&'a str]) -> Option<&'a str>
     let command = parse_file_command(args)?;
     match command.action {
         Action::Replay(answers) => Some(answers),
-        Action::Tokens | Action::Code | Action::Names => None,
+        Action::Tokens | Action::Code | Action::Names | Action::Lint => None,
     }
 }

@@ -29,7 +29,7 @@ enum Misused {}
 impl Subject for Misused {
     fn words(alloc: Global, text: &str) -> Result<String, Fail> {
         let usage =
-            "! 2 usage: mjc tokens|code|names|replay [OPTION..] FILE [ANSWERS], mjc expr TEXT\n";
+            "! 2 usage: mjc tokens|code|names|lint|replay [OPTION..] FILE [ANSWERS], mjc expr TEXT\n";
         let output = output_of(alloc, text, &mut GREETING.as_bytes())?;
         let others = if output.as_str() == usage {
             ""

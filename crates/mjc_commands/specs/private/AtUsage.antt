@@ -2,10 +2,10 @@
 use Rattle.std.specs.Prelude.{◌≡◌, List, [], ◌∷◌}
 use Rattle.minijinja_syntax.specs.Texts.{Text}
 use Rattle.mjc_commands.specs.Settings.{syntax_with}
-use Rattle.mjc_commands.specs.Usage.{Task, tokens, code, names, replay, Request, AreFiles, IsFile, command_word, paths_of}
+use Rattle.mjc_commands.specs.Usage.{Task, tokens, code, names, lint, replay, Request, AreFiles, IsFile, command_word, paths_of}
 use Rattle.mjc_commands.specs.private.AtOptions.{syntax_of}
 use Rattle.mjc_commands.specs.declared.usage.Action.{Action}
-use Rattle.mjc_commands.specs.declared.usage.Action.TheVariants.{Tokens, Code, Names, Replay}
+use Rattle.mjc_commands.specs.declared.usage.Action.TheVariants.{Tokens, Code, Names, Lint, Replay}
 use Rattle.mjc_commands.specs.declared.usage.Command.{Command}
 use Rattle.mjc_commands.specs.declared.usage.Command.TheVariants.{File, Expr}
 use Rattle.mjc_commands.specs.declared.usage.FileCommand.{FileCommand}
@@ -15,6 +15,7 @@ abbrev pub task_of : Action → Task
 task_of Tokens = tokens
 task_of Code = code
 task_of Names = names
+task_of Lint = lint
 task_of (Replay answers) = replay answers.now
 
 -- the first of these words may name a file
