@@ -1,11 +1,13 @@
 //! A template compiler: from the source text of a Jinja2 style template to its instructions.
 //!
 //! [`compile::compile`] compiles a template, and [`compile::compile_expression`] one expression.
-//! The modules of the layers below are re-exported under their names.
+//! [`owned_error`] has a refusal that outlives its source. The modules of the layers below are
+//! re-exported under their names.
 #![tactic(auto)]
 
 pub mod compile;
 pub mod laws;
+pub mod owned_error;
 #[cfg(test)]
 mod tests;
 

@@ -1,6 +1,10 @@
 //! The words of refusals and of places.
+use crate::compile::compile;
 use crate::error::{BodyStatement, Detail, Error, ErrorKind, Expected, Found, OpenStatement};
+use crate::owned_error::OwnedError;
+use crate::syntax::SyntaxConfig;
 use crate::tokens::{Span, Token};
+use crate::value::Value;
 use std::alloc::{AllocError, Global};
 use std::process::Abort;
 use std::test::Fail;
@@ -69,7 +73,7 @@ fn details() -> [(ErrorKind, Detail<'static>); 31] {
     ]
 }
 
-/// Whether a refusal is printed as these words and then its place.
+/// Whether a refusal, and its copy, is printed as these words and then its place.
 fn is_printed(
     alloc: Global,
     error: Error<'_>,
@@ -77,7 +81,8 @@ fn is_printed(
     place: &str,
 ) -> Result<bool, AllocError> {
     let printed = error.to_string(alloc)?;
-    Ok(printed.as_str().strip_prefix(words) == Some(place))
+    let copy = OwnedError::copied(alloc, &error)?.to_string(alloc)?;
+    Ok(printed.as_str().strip_prefix(words) == Some(place) && copy.as_str() == printed.as_str())
 }
 
 /// Whether a refusal is printed as these words, and then as much of a place as it names.
@@ -152,6 +157,31 @@ too many instructions: too many instructions";
     assert!(rt; lines.next().is_none());
     let error = Error::from(AllocError);
     assert!(rt; is_printed(rt.alloc(), error, "out of memory: out of memory", "")?);
+    Ok(())
+}
+
+/// The refusal of a text that is dropped here, and of a name that is dropped too.
+fn kept_refusal(alloc: Global) -> Result<Option<OwnedError>, AllocError> {
+    let source = "{% if x %}\n  {{ x y }}".to_string(alloc)?;
+    let name = "page".to_string(alloc)?;
+    let syntax = SyntaxConfig::default();
+    match compile::<Value>(alloc, source.as_str(), name.as_str(), &syntax) {
+        Ok(_) => Ok(None),
+        Err(error) => Ok(Some(OwnedError::copied(alloc, &error)?)),
+    }
+}
+
+#[test]
+fn a_copied_refusal_outlives_its_source(rt: HostRuntime) -> Result<(), Fail> {
+    let Some(error) = kept_refusal(rt.alloc())? else {
+        assert!(rt; false, "the text compiles");
+        return Ok(());
+    };
+    assert!(rt; error.kind() == ErrorKind::SyntaxError);
+    assert!(rt; error.name() == Some("page"));
+    assert!(rt; error.detail() == "unexpected `y`, expected end of variable block");
+    assert!(rt; error.line() == Some(2) && error.column() == Some(7));
+    assert!(rt; error.span().is_some_and(|span| span.start_offset == 18));
     Ok(())
 }
 
