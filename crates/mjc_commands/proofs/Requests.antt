@@ -1,16 +1,17 @@
 -- Options are read one after the other, and in one way only.
-use Rattle.std.proofs.Common.{◌≡◌, ◌≢◌, refl, sym, ◌∙◌, ap, subst, arith, ℕ, ◌+◌, ◌≤◌, ◌<◌, length, slice_index_or, Bool, List, [], ◌∷◌, ◌++◌, drop, append_assoc, true, false, Option, None, Some, IfSome, codes, nat_eq, if◌then◌else◌}
-use Rattle.std.specs.List.{fold, flat_map, starts_with}
+use Rattle.std.proofs.Common.{inl, inr, ◌≡◌, ◌≢◌, refl, sym, ◌∙◌, ap, subst, arith, ℕ, zero, suc, ◌+◌, ◌≤◌, ◌<◌, length, slice_index_or, Bool, List, [], ◌∷◌, ◌++◌, drop, append_assoc, true, false, Option, None, Some, IfSome, IsSome, codes, nat_eq, if◌then◌else◌}
+use Rattle.std.specs.List.{All, fold, flat_map, starts_with}
 use Rattle.std.specs.Str.{bytes_eq}
 use Rattle.std.specs.Borrow.{Bor}
 use Rattle.std.proofs.lemmas.List.{drop-map, drop-drop}
+use Rattle.std.proofs.lemmas.List.Elements.{All-map}
 use Rattle.std.proofs.lemmas.Slice.Eq.{bytes_eq-Decides}
 use Rattle.minijinja_syntax.specs.Texts.{Text}
 use Rattle.minijinja_syntax.specs.Syntax.{Syntax}
 use Rattle.mjc_commands.specs.Settings.{Setting, block, variable, comment, line_statement, line_comment, trim_blocks, lstrip_blocks, keep_newline, words_of, with_setting, texts}
-use Rattle.mjc_commands.specs.Usage.{AreFiles, IsFile, Request, Task, tokens, code, names, lint, replay, option_words, paths_of, command_word, Asks, AsksExpr}
+use Rattle.mjc_commands.specs.Usage.{AreApart, IsFile, Mark, bare, marked, Request, Task, tokens, code, names, lint, replay, option_words, path_words, paths_of, command_word, Asks, AsksExpr}
 use Rattle.mjc_commands.specs.private.AtOptions.{option_named, setting_of, first_setting, Takes}
-use Rattle.mjc_commands.specs.private.AtUsage.{BeginWithFile, IsActionOn}
+use Rattle.mjc_commands.specs.private.AtUsage.{BeginWithFile, Name, stands}
 use Rattle.mjc_commands.specs.declared.options.OptionName.{OptionName}
 use Rattle.mjc_commands.specs.declared.options.OptionName.TheVariants.{Block, Variable, Comment, LineStatement, LineComment, TrimBlocks, LstripBlocks, KeepNewline}
 
@@ -41,18 +42,29 @@ name_word LstripBlocks = codes "--lstrip-blocks"
 name_word KeepNewline = codes "--keep-newline"
 
 -- a test that fails where a text has another beginning
-bytes_eq-other : (word name : Text) → starts_with nat_eq name (codes "--") ≡ true → IsFile word → bytes_eq word name ≡ false
+bytes_eq-other : (word name : Text) → starts_with nat_eq name (codes "--") ≡ true → IsFile bare word → bytes_eq word name ≡ false
 bytes_eq-other word name begins is_file = decided (bytes_eq word name) ((bytes_eq-Decides word name).0)
   where
     decided : (b : Bool) → (b ≡ true → word ≡ name) → b ≡ false
     decided false same = refl
     decided true same = let begun = ap (λ w. starts_with nat_eq w (codes "--")) (same refl) in cc
 
+-- the word `--` names no file
+mark_no_file : (paths qs : List Text) → paths ≡ codes "--" ∷ qs → All (IsFile bare) paths → ⊥
+mark_no_file paths qs e files =
+    let all : All (IsFile bare) (codes "--" ∷ qs) = subst (All (IsFile bare)) e files in
+    let first : IsFile bare (codes "--") = all 0 (codes "--") (omega arith) in cc
+
 -- a file is no option
-first_setting-file : (file : Text) (rest : List Text) → IsFile file → first_setting (file ∷ rest) ≡ None
+first_setting-file : (file : Text) (rest : List Text) → IsFile bare file → first_setting (file ∷ rest) ≡ None
 unfolding option_named
 first_setting-file file rest is_file =
     rw (bytes_eq-other file (name_word Block) refl is_file, bytes_eq-other file (name_word Variable) refl is_file, bytes_eq-other file (name_word Comment) refl is_file, bytes_eq-other file (name_word LineStatement) refl is_file, bytes_eq-other file (name_word LineComment) refl is_file, bytes_eq-other file (name_word TrimBlocks) refl is_file, bytes_eq-other file (name_word LstripBlocks) refl is_file, bytes_eq-other file (name_word KeepNewline) refl is_file)
+
+-- nor is the word `--`
+first_setting-mark : (rest : List Text) → first_setting (codes "--" ∷ rest) ≡ None
+unfolding option_named
+first_setting-mark rest = refl
 
 abbrev IsNamed : Text → Option OptionName → Type 0
 IsNamed word name = IfSome name (λ n. word ≡ name_word n)
@@ -91,7 +103,8 @@ first_setting-is (word ∷ words) q e = setting_of-words word (option_named word
 -- paths are no option
 first_setting-paths : (paths : List Text) → BeginWithFile paths → first_setting paths ≡ None
 first_setting-paths [] begin = absurd begin
-first_setting-paths (file ∷ rest) begin = first_setting-file file rest begin
+first_setting-paths (file ∷ rest) (inl is_file) = first_setting-file file rest is_file
+first_setting-paths (word ∷ rest) (inr is) = rw is (first_setting-mark rest)
 
 -- from a syntax, words read as options make another, and end in paths
 pub data Reads : Syntax → List Text → Syntax → List Text → Type 0 where
@@ -163,32 +176,95 @@ goes_over words here last start initial old new e f takes onward settings paths 
     let over = read_over first (onward (fold with_setting initial settings) paths all) in
     (ap texts f ∙ over.0, none.1 ∙ sym over.1)
 
--- the paths of a task begin with a file
-pub paths_begin : (task : Task) (file : Text) → AreFiles task file → BeginWithFile (paths_of task file)
-paths_begin tokens file are = are
-paths_begin code file are = are
-paths_begin names file are = are
-paths_begin lint file are = are
-paths_begin (replay answers) file are = are.0
+-- words that name paths begin with no option
+names_begin : (mark : Mark) (path : Text) (rest : List Text) → All (IsFile mark) (path ∷ rest) → BeginWithFile (path_words mark (path ∷ rest))
+names_begin bare path rest files = inl (files 0 path (omega arith))
+names_begin marked path rest files = inr refl
+
+-- the words for the paths of a task do
+pub paths_begin : (mark : Mark) (task : Task) (file : Text) → All (IsFile mark) (paths_of task file) → BeginWithFile (path_words mark (paths_of task file))
+paths_begin mark tokens file files = names_begin mark file [] files
+paths_begin mark code file files = names_begin mark file [] files
+paths_begin mark names file files = names_begin mark file [] files
+paths_begin mark lint file files = names_begin mark file [] files
+paths_begin mark (replay answers) file files = names_begin mark file (answers ∷ []) files
+
+-- where words name the paths of a task, they begin with no option
+pub name_begin : (words : List Text) (task : Task) (file : Text) → Name words (paths_of task file) → BeginWithFile words
+name_begin words task file (stands mark is files) = rw is (paths_begin mark task file files)
+
+-- words name one list of paths
+pub name_once : (mark : Mark) (words ps qs : List Text) → Name words ps → words ≡ path_words mark qs → All (IsFile mark) qs → ps ≡ qs
+name_once bare words ps qs (stands bare is files) same all = sym is ∙ same
+name_once marked words ps qs (stands bare is files) same all = absurd (mark_no_file ps qs (sym is ∙ same) files)
+name_once bare words ps qs (stands marked is files) same all = absurd (mark_no_file qs ps (sym same ∙ is) all)
+name_once marked words ps qs (stands marked is files) same all = let one = sym is ∙ same in cc
+
+-- words after `--` name paths
+pub name_marked : (words paths : List (Bor Text)) (word : Bor Text) → words ≡ word ∷ paths → word.now ≡ codes "--" → Name (texts words) (texts paths)
+name_marked words paths word e is = stands marked (ap texts e ∙ ap (λ w. w ∷ texts paths) is) (λ k d below. tt)
+
+-- words of which none begins with `--` name paths
+pub name_bare : (words : List (Bor Text)) → All (λ word. IsFile bare word.now) words → Name (texts words) (texts words)
+name_bare words files = stands bare refl (All-map (IsFile bare) (λ (word : Bor Text). word.now) words files)
+
+-- words that do not compare equal differ
+words_differ : (word other : Text) → bytes_eq word other ≡ false → word ≢ other
+words_differ word other apart same = let compared = (bytes_eq-Decides word other).1 same in absurd cc
+
+-- a word that compares as `--` is it
+pub is_mark : (word : Text) → bytes_eq word (codes "--") ≡ true → word ≡ codes "--"
+is_mark word same = (bytes_eq-Decides word (codes "--")).0 same
+
+-- words of which the first is another do not begin with `--`
+pub no_mark : (words : List (Bor Text)) (word : Bor Text) (rest : List (Bor Text)) → words ≡ word ∷ rest → bytes_eq word.now (codes "--") ≡ false → (paths : List Text) → texts words ≡ codes "--" ∷ paths → ⊥
+no_mark words word rest e apart paths same =
+    let all = sym (ap texts e) ∙ same in
+    let first : word.now ≡ codes "--" = cc in
+    words_differ word.now (codes "--") apart first
+
+-- nor do no words
+pub none_marked : (words : List (Bor Text)) → length words ≡ 0 → (paths : List Text) → texts words ≡ codes "--" ∷ paths → ⊥
+none_marked [] none paths same = cc
+none_marked (w ∷ ws) none paths same = absurd (omega arith)
+
+files_of : (words : List (Bor Text)) → All (IsFile bare) (texts words) → All (λ word. IsFile bare word.now) words
+files_of [] all k d below = absurd (omega arith)
+files_of (w ∷ ws) all zero d below = all zero d.now (omega arith)
+files_of (w ∷ ws) all (suc k) d below = files_of ws (λ j e less. all (suc j) e (omega arith)) k d (omega arith)
+
+-- words that neither begin with `--` nor are all files name no paths
+pub names_nothing : (words : List (Bor Text)) → ((paths : List Text) → texts words ≡ codes "--" ∷ paths → ⊥) → (All (λ word. IsFile bare word.now) words → ⊥) → (paths : List Text) → Name (texts words) paths → ⊥
+names_nothing words unmarked none paths (stands bare is files) = none (files_of words (subst (All (IsFile bare)) (sym is) files))
+names_nothing words unmarked none paths (stands marked is files) = unmarked paths is
 
 -- the words of a command, of options and of paths are asked for
-pub asks : (args : List (Bor Text)) (word : Bor Text) (rest : List (Bor Text)) (paths : List Text) (task : Task) (settings : List Setting) (file : Text) → args ≡ word ∷ rest → IsActionOn word.now paths task file → texts rest ≡ option_words settings paths → Asks args (record { task = task; settings = settings; file = file })
-asks args word rest paths task settings file e is said = record {
-  words = ap texts e ∙ (ap (λ w. w ∷ texts rest) is.named ∙ ap (λ ws. command_word task ∷ ws) (said ∙ ap (option_words settings) is.listed));
-  files = is.files;
-}
+pub asks : (args : List (Bor Text)) (word : Bor Text) (rest : List (Bor Text)) (behind : List Text) (task : Task) (settings : List Setting) (file : Text) → args ≡ word ∷ rest → word.now ≡ command_word task → Name behind (paths_of task file) → AreApart task file → texts rest ≡ option_words settings behind → (request : Request) × Asks args request × (request.task ≡ task)
+asks args word rest behind task settings file e is (stands mark same files) apart said = (
+  record { task = task; settings = settings; mark = mark; file = file },
+  record {
+    words = ap texts e ∙ (ap (λ w. w ∷ texts rest) is ∙ ap (λ ws. command_word task ∷ ws) (said ∙ ap (option_words settings) same));
+    files = files;
+    apart = apart;
+  },
+  refl,
+)
 
 -- the first word is that of the command that is asked for
 pub word_asked : (args : List (Bor Text)) (word : Bor Text) (rest : List (Bor Text)) (request : Request) → args ≡ word ∷ rest → Asks args request → word.now ≡ command_word request.task
 word_asked args word rest request e asked = let same = sym (ap texts e) ∙ asked.words in cc
 
--- the words after it are its options and its paths
-pub rest_asked : (args : List (Bor Text)) (word : Bor Text) (rest : List (Bor Text)) (request : Request) → args ≡ word ∷ rest → Asks args request → texts rest ≡ option_words request.settings (paths_of request.task request.file)
+-- the words after it are its options and those for its paths
+pub rest_asked : (args : List (Bor Text)) (word : Bor Text) (rest : List (Bor Text)) (request : Request) → args ≡ word ∷ rest → Asks args request → texts rest ≡ option_words request.settings (path_words request.mark (paths_of request.task request.file))
 rest_asked args word rest request e asked = let same = sym (ap texts e) ∙ asked.words in cc
 
--- words that do not compare equal differ
-words_differ : (word other : Text) → bytes_eq word other ≡ false → word ≢ other
-words_differ word other apart same = let compared = (bytes_eq-Decides word other).1 same in absurd cc
+-- the words left by its options name the paths that are asked for
+pub name_asked : {Made : List Setting → Type 0} (args : List (Bor Text)) (word : Bor Text) (rest left : List (Bor Text)) → args ≡ word ∷ rest → ((settings : List Setting) (behind : List Text) → BeginWithFile behind → texts rest ≡ option_words settings behind → (texts left ≡ behind) × Made settings) → (request : Request) → Asks args request → Name (texts left) (paths_of request.task request.file)
+name_asked args word rest left e heeded request asked =
+    let behind = path_words request.mark (paths_of request.task request.file) in
+    let begin = paths_begin request.mark request.task request.file asked.files in
+    let read = heeded request.settings behind begin (rest_asked args word rest request e asked) in
+    stands request.mark read.0 asked.files
 
 -- a command is one task, on one file
 pub same_asked : (t u : Task) (file other : Text) → command_word t ≡ command_word u → paths_of t file ≡ paths_of u other → (t ≡ u) × (file ≡ other)
@@ -217,6 +293,11 @@ same_asked (replay a) tokens file other w p = absurd cc
 same_asked (replay a) code file other w p = absurd cc
 same_asked (replay a) names file other w p = absurd cc
 same_asked (replay a) lint file other w p = absurd cc
+
+-- nothing is returned where nothing is asked for
+pub unasked : {A B : Type 0} (r : Option A) → r ≡ None → (B → ⊥) → (IsSome r → B) × (B → IsSome r)
+unasked None none never = (λ some. absurd cc, λ asked. absurd (never asked))
+unasked (Some x) none never = absurd cc
 
 -- two words, of which the first is `expr`
 pub asks_expr : (args : List (Bor Text)) (d e : Bor Text) → 2 ≤ length args → length args < 3 → bytes_eq (slice_index_or args 0 d).now (codes "expr") ≡ true → AsksExpr args (slice_index_or args 1 e).now

@@ -1,14 +1,24 @@
 -- The command lines of `mjc`.
 use Rattle.std.specs.Prelude.{◌≡◌, ◌⊎◌, List, [], ◌∷◌, ◌++◌, false, nat_eq, codes}
-use Rattle.std.specs.List.{starts_with, flat_map}
+use Rattle.std.specs.List.{All, starts_with, flat_map}
 use Rattle.std.specs.Borrow.{Bor}
 use Rattle.minijinja_syntax.specs.Texts.{Text}
 use Rattle.minijinja_syntax.specs.Syntax.{IsBuildable}
 use Rattle.mjc_commands.specs.Settings.{Setting, texts, words_of, syntax_with}
 
--- a word that may name a file: one that begins with `--` is an option
-abbrev pub IsFile : Text → Type 0
-IsFile word = starts_with nat_eq word (codes "--") ≡ false
+-- how paths stand after options: bare, or marked by the word `--`, after which no word is an option
+pub data Mark : Type 0 where
+  bare marked : Mark
+
+-- the words for paths
+abbrev pub path_words : Mark → (paths : List Text) → List Text
+path_words bare paths = paths
+path_words marked paths = codes "--" ∷ paths
+
+-- a word that may name a file: a bare one that begins with `--` is an option
+abbrev pub IsFile : Mark → Text → Type 0
+IsFile bare word = starts_with nat_eq word (codes "--") ≡ false
+IsFile marked word = Unit {0}
 
 -- what is shown of a file: its tokens, its code, the names that it needs from outside, what a linter
 -- finds in it, or a run of its code on the answers that the file of another path has
@@ -34,25 +44,27 @@ abbrev pub paths_of : Task → (file : Text) → List Text
 paths_of (replay answers) file = file ∷ answers ∷ []
 paths_of _ file = file ∷ []
 
--- the words that may name the files of a command; of two, one at most is standard input
-abbrev pub AreFiles : Task → (file : Text) → Type 0
-AreFiles (replay answers) file = IsFile file × IsFile answers × ¬ ((file ≡ codes "-") × (answers ≡ codes "-"))
-AreFiles _ file = IsFile file
+-- of the two files of a command, one at most is standard input
+abbrev pub AreApart : Task → (file : Text) → Type 0
+AreApart (replay answers) file = ¬ ((file ≡ codes "-") × (answers ≡ codes "-"))
+AreApart _ file = Unit {0}
 
--- options and, after them, paths
-abbrev pub option_words : List Setting → (paths : List Text) → List Text
-option_words settings paths = flat_map words_of settings ++ paths
+-- options and, after them, the words for paths
+abbrev pub option_words : List Setting → (behind : List Text) → List Text
+option_words settings behind = flat_map words_of settings ++ behind
 
 -- what the program may be asked for
 pub record Request : Type 0 where
   pub task : Task
   pub settings : List Setting
+  pub mark : Mark
   pub file : Text
 
 -- the words after the program's name are the command, its options and its paths
 pub record Asks (args : List (Bor Text)) (request : Request) : Type 0 where
-  pub words : texts args ≡ command_word request.task ∷ option_words request.settings (paths_of request.task request.file)
-  pub files : AreFiles request.task request.file
+  pub words : texts args ≡ command_word request.task ∷ option_words request.settings (path_words request.mark (paths_of request.task request.file))
+  pub files : All (IsFile request.mark) (paths_of request.task request.file)
+  pub apart : AreApart request.task request.file
 
 -- the words ask for something of a file
 pub record IsFileUsage (args : List (Bor Text)) : Type 0 where

@@ -1,11 +1,11 @@
 //! The command line of `mjc`: commands, options and files.
 ghost use Rattle.std.specs.Prelude.{◌≡◌, ◌≤◌, ◌↔◌, length, drop, List, [], ◌∷◌, IsSome, IfSome, IsSomeAnd, IsNone, IsTrue};
-ghost use Rattle.std.specs.List.{fold};
+ghost use Rattle.std.specs.List.{All, fold};
 ghost use Rattle.minijinja_syntax.specs.Texts.{Text};
 ghost use Rattle.mjc_commands.specs.Settings.{Setting, texts, with_setting};
-ghost use Rattle.mjc_commands.specs.Usage.{IsUsage, IsFileUsage, IsExprUsage, IsReplayUsage, Request, Asks, AsksExpr, AreFiles, IsFile, Task, option_words, replay};
+ghost use Rattle.mjc_commands.specs.Usage.{IsUsage, IsFileUsage, IsExprUsage, IsReplayUsage, Request, Asks, AsksExpr, AreApart, IsFile, Task, bare, option_words, replay};
 ghost use Rattle.mjc_commands.specs.private.AtOptions.{syntax_of};
-ghost use Rattle.mjc_commands.specs.private.AtUsage.{BeginWithFile, IsActionOn, IsCommandFor, IsFileCommandFor, IsExprCommandFor, task_of};
+ghost use Rattle.mjc_commands.specs.private.AtUsage.{BeginWithFile, IsActionOn, IsCommandFor, IsFileCommandFor, IsExprCommandFor, Name, task_of};
 
 use crate::options::Options;
 
@@ -54,8 +54,8 @@ fn words_from<'w, 'a>(words: &'w [&'a str], start: usize) -> &'w [&'a str]
 
 /// Applies the options that the words begin with, and returns the words after them.
 fn read_options<'w, 'a>(options: &mut Options<'a>, words: &'w [&'a str]) -> &'w [&'a str]
-    ensures heeded { (settings : List Setting) → (paths : List Text) → BeginWithFile paths →
-        texts words.now ≡ option_words settings paths → (texts result.now ≡ paths) ×
+    ensures heeded { (settings : List Setting) → (behind : List Text) → BeginWithFile behind →
+        texts words.now ≡ option_words settings behind → (texts result.now ≡ behind) ×
         (syntax_of options.new ≡ fold with_setting (syntax_of options.old) settings) }
     ensures behind { BeginWithFile (texts result.now) → (settings : List Setting) ×
         (texts words.now ≡ option_words settings (texts result.now)) }
@@ -67,35 +67,55 @@ fn read_options<'w, 'a>(options: &mut Options<'a>, words: &'w [&'a str]) -> &'w 
     words_from(words, start)
 }
 
-/// Whether a word may name a file.
+/// Whether a word may name a file where `--` does not stand before it.
 fn is_file(word: &str) -> bool
-    ensures { IsTrue result ↔ IsFile word.now }
+    ensures { IsTrue result ↔ IsFile bare word.now }
 {
     !word.starts_with("--")
 }
 
-/// The file, if it is the only word.
-fn lone_file<'a>(words: &[&'a str]) -> Option<&'a str>
-    ensures some { IfSome result (λ file. IsFile file.now × (texts words.now ≡ file.now ∷ [])) }
-    ensures none { IsNone result → (file : Text) → IsFile file → ¬ (texts words.now ≡ file ∷ []) }
+/// Whether each of the words may.
+fn are_files(words: &[&str]) -> bool
+    ensures { IsTrue result ↔ All (λ word. IsFile bare word.now) words.now }
 {
-    match words {
-        [file] if is_file(file) => Some(*file),
+    words.iter().all(|word| is_file(*word))
+}
+
+/// The paths that words name: those after `--` where that is the first, otherwise all of them, if
+/// none begins with `--`.
+fn paths_in<'w, 'a>(words: &'w [&'a str]) -> Option<&'w [&'a str]>
+    ensures some { IfSome result (λ paths. Name (texts words.now) (texts paths.now)) }
+    ensures none { IsNone result → (paths : List Text) → ¬ Name (texts words.now) paths }
+{
+    match words.split_first() {
+        Some((word, paths)) if *word == "--" => Some(paths),
+        _ if are_files(words) => Some(words),
         _ => None,
     }
 }
 
-/// The file and that of the answers, if they are the only words. One of the two at most is standard
-/// input.
-fn two_files<'a>(words: &[&'a str]) -> Option<(&'a str, &'a str)>
-    ensures some { IfSome result (λ files. AreFiles (replay files.1.now) files.0.now ×
-        (texts words.now ≡ files.0.now ∷ files.1.now ∷ [])) }
-    ensures none { IsNone result → (file answers : Text) → AreFiles (replay answers) file →
-        ¬ (texts words.now ≡ file ∷ answers ∷ []) }
+/// The file, if it is the only path.
+fn lone_file<'a>(paths: &[&'a str]) -> Option<&'a str>
+    ensures some { IfSome result (λ file. texts paths.now ≡ file.now ∷ []) }
+    ensures none { IsNone result → (file : Text) → ¬ (texts paths.now ≡ file ∷ []) }
 {
-    match words {
+    match paths {
+        [file] => Some(*file),
+        _ => None,
+    }
+}
+
+/// The file and that of the answers, if they are the only paths. One of the two at most is standard
+/// input.
+fn two_files<'a>(paths: &[&'a str]) -> Option<(&'a str, &'a str)>
+    ensures some { IfSome result (λ files. AreApart (replay files.1.now) files.0.now ×
+        (texts paths.now ≡ files.0.now ∷ files.1.now ∷ [])) }
+    ensures none { IsNone result → (file answers : Text) → AreApart (replay answers) file →
+        ¬ (texts paths.now ≡ file ∷ answers ∷ []) }
+{
+    match paths {
         ["-", "-"] => None,
-        [file, answers] if is_file(file) && is_file(answers) => Some((*file, *answers)),
+        [file, answers] => Some((*file, *answers)),
         _ => None,
     }
 }
@@ -122,7 +142,7 @@ fn action_on<'a>(word: &str, paths: &[&'a str]) -> Option<(Action<'a>, &'a str)>
 
 /// Parses a command on a file: the word of the command, options, and the file, after which `replay`
 /// has that of the answers. Options take their words as they are, and of a repeated option the last
-/// one counts.
+/// one counts. Files that begin with `--` stand after the word `--`.
 fn parse_file_command<'a>(args: &[&'a str]) -> Option<FileCommand<'a>>
     ensures usage { IsSome result ↔ IsFileUsage args.now }
     ensures asked { (request : Request) → Asks args.now request → IsSomeAnd result
@@ -130,7 +150,8 @@ fn parse_file_command<'a>(args: &[&'a str]) -> Option<FileCommand<'a>>
 {
     let (word, rest) = args.split_first()?;
     let mut options = Options::none();
-    let (action, file) = action_on(*word, read_options(&mut options, rest))?;
+    let paths = paths_in(read_options(&mut options, rest))?;
+    let (action, file) = action_on(*word, paths)?;
     Some(FileCommand {
         action,
         options,

@@ -48,13 +48,21 @@ code
 tokens
 code, --help
 code, --
+code, --trim-blocks, --
 code, a, b
+code, --, a, b
+code, --, --trim-blocks, a
+code, a, --
+code, --, --, a
 names
 names, a, b
 replay
 replay, a
 replay, -, -
 replay, a, b, c
+replay, --, a
+replay, --, -, -
+replay, a, --, b
 replay, --unknown, a, b
 replay, a, --trim-blocks, b
 replay, a, --b
@@ -62,6 +70,7 @@ replay, --a, b
 expr
 expr, a, b
 expr, --trim-blocks, a
+expr, --, a
 Code, a
 ␀, a
 --trim-blocks, code, a
@@ -84,6 +93,21 @@ fn heeds_options_of_code(rt: HostRuntime) -> Result<(), Fail> {
     let rows = r#"
 code, --trim-blocks, --variable, [[, ]], - < [[ x ]] => template␊0 Lookup("x")␊1 Emit␊hint 1␊
 names, --trim-blocks, --variable, [[, ]], - < [[ x.y ]] => plain x␊nested x.y␊
+"#;
+    hold::<Commands>(&rt, rt.alloc(), rows)
+}
+
+/// Options before it keep the words that they take.
+#[test]
+fn takes_any_file_after_two_dashes(rt: HostRuntime) -> Result<(), Fail> {
+    let rows = r#"
+code, --, a < x => template␊0 EmitRaw("x")␊hint 2␊
+names, --trim-blocks, --, --trim-blocks < {{ x }} => plain x␊nested x␊
+tokens, --, -- < x => 1:0-1:1 TemplateData("x")␊
+lint, --, - < x => ␀
+replay, --, --a, --b < x => starved, 1 steps␊
+code, --line-statement, --, a < -- if a␊x␊-- endif => template␊0 Lookup("a")␊1 JumpIfFalse(3)␊2 EmitRaw("x\n")␊hint 4␊
+code, --line-statement, --, --, --a < -- if a␊x␊-- endif => template␊0 Lookup("a")␊1 JumpIfFalse(3)␊2 EmitRaw("x\n")␊hint 4␊
 "#;
     hold::<Commands>(&rt, rt.alloc(), rows)
 }
@@ -113,6 +137,7 @@ fn says_which_file_cannot_be_read(rt: HostRuntime) -> Result<(), Fail> {
 tokens, a/b => ! 2 mjc: cannot read a/b␊
 code, a/b => ! 2 mjc: cannot read a/b␊
 names, a/b => ! 2 mjc: cannot read a/b␊
+lint, --, --a => ! 2 mjc: cannot read --a␊
 replay, a/b, answers => ! 2 mjc: cannot read a/b␊
 "#;
     hold::<Unread>(&rt, rt.alloc(), rows)

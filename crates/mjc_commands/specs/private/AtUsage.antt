@@ -1,8 +1,9 @@
 -- The commands that are read from words, and what they are asked to do.
-use Rattle.std.specs.Prelude.{◌≡◌, List, [], ◌∷◌}
+use Rattle.std.specs.Prelude.{◌≡◌, ◌⊎◌, List, [], ◌∷◌, codes}
+use Rattle.std.specs.List.{All}
 use Rattle.minijinja_syntax.specs.Texts.{Text}
 use Rattle.mjc_commands.specs.Settings.{syntax_with}
-use Rattle.mjc_commands.specs.Usage.{Task, tokens, code, names, lint, replay, Request, AreFiles, IsFile, command_word, paths_of}
+use Rattle.mjc_commands.specs.Usage.{Task, tokens, code, names, lint, replay, Request, Mark, bare, AreApart, IsFile, command_word, path_words, paths_of}
 use Rattle.mjc_commands.specs.private.AtOptions.{syntax_of}
 use Rattle.mjc_commands.specs.declared.usage.Action.{Action}
 use Rattle.mjc_commands.specs.declared.usage.Action.TheVariants.{Tokens, Code, Names, Lint, Replay}
@@ -18,16 +19,20 @@ task_of Names = names
 task_of Lint = lint
 task_of (Replay answers) = replay answers.now
 
--- the first of these words may name a file
+-- the first of these words may name a file, or it is `--`: they begin with no option
 abbrev pub BeginWithFile : List Text → Type 0
 BeginWithFile [] = ⊥
-BeginWithFile (word ∷ rest) = IsFile word
+BeginWithFile (word ∷ rest) = IsFile bare word ⊎ (word ≡ codes "--")
+
+-- the words name these paths
+pub data Name (words paths : List Text) : Type 0 where
+  stands : (mark : Mark) → words ≡ path_words mark paths → All (IsFile mark) paths → Name words paths
 
 -- a word and paths ask for a task on a file
 pub record IsActionOn (word : Text) (paths : List Text) (task : Task) (file : Text) : Type 0 where
   pub named : word ≡ command_word task
   pub listed : paths ≡ paths_of task file
-  pub files : AreFiles task file
+  pub apart : AreApart task file
 
 -- the command does what is asked for
 pub record IsCommandFor (request : Request) (command : FileCommand) : Type 0 where
