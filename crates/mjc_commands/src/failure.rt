@@ -17,6 +17,8 @@ pub enum Failure<'p> {
     Usage,
     /// The file of this path cannot be read, or is not UTF-8.
     CannotRead(&'p str),
+    /// What this path names is a folder.
+    IsFolder(&'p str),
     /// The syntax or the text is refused, at a line, counted from 1, and a column, counted from 0.
     /// A refusal without a place has 0:0.
     Refused {
@@ -68,13 +70,20 @@ impl<'p> Failure<'p> {
         Failure::memory_or(error, Failure::Usage)
     }
 
-    /// The failure where the file of this path cannot be read.
+    /// The failure where the file of this path cannot be read, which tells a folder from a file.
     pub fn of_read(error: &io::Error, path: &'p str) -> Self
         ensures memory { error_kind error.now ≡ kind.OutOfMemory → IsRefusedAs OutOfMemory result }
+        ensures folder { error_kind error.now ≡ kind.IsADirectory →
+            result ≡ Failure.IsFolder path.entry }
         ensures other { error_kind error.now ≢ kind.OutOfMemory →
-            result ≡ Failure.CannotRead path.entry }
+            error_kind error.now ≢ kind.IsADirectory → result ≡ Failure.CannotRead path.entry }
+        ensures status { error_kind error.now ≢ kind.OutOfMemory → status_of result ≡ 2 }
     {
-        Failure::memory_or(error, Failure::CannotRead(path))
+        if error.kind() == io::ErrorKind::IsADirectory {
+            Failure::IsFolder(path)
+        } else {
+            Failure::memory_or(error, Failure::CannotRead(path))
+        }
     }
 
     /// The failure where the output cannot be written.
@@ -142,6 +151,13 @@ impl fmt::Display for Failure<'_> {
                 "usage: mjc tokens|code|names|lint|replay [OPTION..] FILE [ANSWERS], mjc expr TEXT"
             ),
             Failure::CannotRead(path) => write!(f, "mjc: cannot read {path}"),
+            Failure::IsFolder(path) => {
+                write!(
+                    f,
+                    "mjc: cannot read {path}: {}",
+                    io::ErrorKind::IsADirectory
+                )
+            }
             Failure::Refused { kind, line, column } => write!(
                 f,
                 "mjc: {kind:?} at {line}:{column}"

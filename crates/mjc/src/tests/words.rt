@@ -143,6 +143,25 @@ replay, a/b, answers => ! 2 mjc: cannot read a/b␊
     hold::<Unread>(&rt, rt.alloc(), rows)
 }
 
+/// What a command prints of a file of which each read fails.
+fn unread(alloc: Global, kind: io::ErrorKind) -> Result<String, Fail> {
+    let mut file = Trickle {
+        rest: b"",
+        end: Err(io::Error::from(kind)),
+    };
+    output(alloc, &["code", "a"], &mut file)
+}
+
+/// By the words that Rust has for that error.
+#[test]
+fn tells_a_folder_from_an_absent_file(rt: HostRuntime) -> Result<(), Fail> {
+    let folder = unread(rt.alloc(), io::ErrorKind::IsADirectory)?;
+    assert!(rt; folder.as_str() == "! 2 mjc: cannot read a: is a directory\n");
+    let absent = unread(rt.alloc(), io::ErrorKind::NotFound)?;
+    assert!(rt; absent.as_str() == "! 2 mjc: cannot read a\n");
+    Ok(())
+}
+
 /// Also where the file cannot be read.
 #[test]
 fn refuses_a_syntax_first(rt: HostRuntime) -> Result<(), Fail> {
