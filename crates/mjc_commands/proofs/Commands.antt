@@ -1,11 +1,12 @@
 -- What a command does is what is asked for.
-use Rattle.std.proofs.Common.{◌≡◌, subst, sym}
-use Rattle.std.specs.Prelude.{ℕ, IfErr, IfOk, IsErrAnd, Result, Ok, Err}
+use Rattle.std.proofs.Common.{inl, inr, ◌≡◌, subst, sym}
+use Rattle.std.specs.Borrow.{Bor}
+use Rattle.std.specs.Prelude.{ℕ, List, IfErr, IfOk, IsErrAnd, Result, Ok, Err}
 use Rattle.minijinja_syntax.specs.Texts.{Text}
 use Rattle.mjc_commands.specs.Failure.{exit_status}
 use Rattle.mjc_commands.specs.Settings.{syntax_with}
 use Rattle.mjc_commands.specs.Showing.{IsShowable}
-use Rattle.mjc_commands.specs.Usage.{Request}
+use Rattle.mjc_commands.specs.Usage.{Asks, AsksExpr, IsReplay, IsReplayUsage, IsUsage, Request}
 use Rattle.mjc_commands.specs.private.AtOptions.{syntax_of}
 use Rattle.mjc_commands.specs.private.AtUsage.{IsCommandFor, task_of}
 use Rattle.mjc_commands.specs.declared.failure.Failure.{Failure}
@@ -32,6 +33,13 @@ passed_on P (Err e) x same has = subst P (sym same) has
 pub shown_as : (request : Request) (command : FileCommand) (source : Text) → IsCommandFor request command → IsShowable (task_of command.action) (syntax_of command.options) source → IsShowable request.task (syntax_with request.settings) source
 shown_as request command source is shown =
     subst (λ t. IsShowable t (syntax_with request.settings) source) is.task (subst (λ s. IsShowable (task_of command.action) s source) is.syntax shown)
+
+-- a command that runs code on answers is asked to
+pub replay_asked : (args : List (Bor Text)) (command : FileCommand) → IsUsage args → ((request : Request) → Asks args request → IsCommandFor request command) → ((text : Text) → AsksExpr args text → ⊥) → IsReplay (task_of command.action) → IsReplayUsage args
+replay_asked args command (inl usage) file expr replays =
+    let is = file usage.request usage.asks in
+    record { request = usage.request; asks = usage.asks; replays = subst IsReplay is.task replays }
+replay_asked args command (inr usage) file expr replays = absurd (expr usage.text usage.asks)
 
 -- a run that ends with success ends as its status says
 pub ends_as : (ending : Result Ending Failure) (status : ℕ) (P : Ending → Type 0) → status ≡ exit_status ending → IfOk ending P → (status ≡ 0 → P Done) × (status ≡ 3 → P Found)

@@ -9,9 +9,9 @@ use Rattle.std.proofs.lemmas.Slice.Eq.{bytes_eq-Decides}
 use Rattle.minijinja_syntax.specs.Texts.{Text}
 use Rattle.minijinja_syntax.specs.Syntax.{Syntax}
 use Rattle.mjc_commands.specs.Settings.{Setting, block, variable, comment, line_statement, line_comment, trim_blocks, lstrip_blocks, keep_newline, words_of, with_setting, texts}
-use Rattle.mjc_commands.specs.Usage.{AreApart, IsFile, Mark, bare, marked, Request, Task, tokens, code, names, lint, replay, option_words, path_words, paths_of, command_word, Asks, AsksExpr}
+use Rattle.mjc_commands.specs.Usage.{AreApart, IsFile, Mark, bare, marked, IsPlain, Request, Task, tokens, code, names, lint, expression, replay, option_words, path_words, paths_of, command_word, Asks}
 use Rattle.mjc_commands.specs.private.AtOptions.{option_named, setting_of, first_setting, Takes}
-use Rattle.mjc_commands.specs.private.AtUsage.{BeginWithFile, Name, stands}
+use Rattle.mjc_commands.specs.private.AtUsage.{AsksInput, BeginWithFile, IsOnTemplate, Name, input_request, stands}
 use Rattle.mjc_commands.specs.declared.options.OptionName.{OptionName}
 use Rattle.mjc_commands.specs.declared.options.OptionName.TheVariants.{Block, Variable, Comment, LineStatement, LineComment, TrimBlocks, LstripBlocks, KeepNewline}
 
@@ -187,6 +187,7 @@ paths_begin mark tokens file files = names_begin mark file [] files
 paths_begin mark code file files = names_begin mark file [] files
 paths_begin mark names file files = names_begin mark file [] files
 paths_begin mark lint file files = names_begin mark file [] files
+paths_begin mark expression file files = names_begin mark file [] files
 paths_begin mark (replay answers) file files = names_begin mark file (answers ∷ []) files
 
 -- where words name the paths of a task, they begin with no option
@@ -238,14 +239,24 @@ pub names_nothing : (words : List (Bor Text)) → ((paths : List Text) → texts
 names_nothing words unmarked none paths (stands bare is files) = none (files_of words (subst (All (IsFile bare)) (sym is) files))
 names_nothing words unmarked none paths (stands marked is files) = unmarked paths is
 
+-- on a template every request is allowed
+plain_on_template : (task : Task) → IsOnTemplate task → (settings : List Setting) (mark : Mark) (file : Text) → IsPlain task settings mark file
+plain_on_template tokens template settings mark file = tt
+plain_on_template code template settings mark file = tt
+plain_on_template names template settings mark file = tt
+plain_on_template lint template settings mark file = tt
+plain_on_template expression template settings mark file = absurd template
+plain_on_template (replay answers) template settings mark file = tt
+
 -- the words of a command, of options and of paths are asked for
-pub asks : (args : List (Bor Text)) (word : Bor Text) (rest : List (Bor Text)) (behind : List Text) (task : Task) (settings : List Setting) (file : Text) → args ≡ word ∷ rest → word.now ≡ command_word task → Name behind (paths_of task file) → AreApart task file → texts rest ≡ option_words settings behind → (request : Request) × Asks args request × (request.task ≡ task)
-asks args word rest behind task settings file e is (stands mark same files) apart said = (
+pub asks : (args : List (Bor Text)) (word : Bor Text) (rest : List (Bor Text)) (behind : List Text) (task : Task) (settings : List Setting) (file : Text) → args ≡ word ∷ rest → IsOnTemplate task → word.now ≡ command_word task → Name behind (paths_of task file) → AreApart task file → texts rest ≡ option_words settings behind → (request : Request) × Asks args request × (request.task ≡ task)
+asks args word rest behind task settings file e template is (stands mark same files) apart said = (
   record { task = task; settings = settings; mark = mark; file = file },
   record {
     words = ap texts e ∙ (ap (λ w. w ∷ texts rest) is ∙ ap (λ ws. command_word task ∷ ws) (said ∙ ap (option_words settings) same));
     files = files;
     apart = apart;
+    plain = plain_on_template task template settings mark file;
   },
   refl,
 )
@@ -266,33 +277,47 @@ name_asked args word rest left e heeded request asked =
     let read = heeded request.settings behind begin (rest_asked args word rest request e asked) in
     stands request.mark read.0 asked.files
 
--- a command is one task, on one file
-pub same_asked : (t u : Task) (file other : Text) → command_word t ≡ command_word u → paths_of t file ≡ paths_of u other → (t ≡ u) × (file ≡ other)
-same_asked tokens tokens file other w p = (refl, cc)
-same_asked code code file other w p = (refl, cc)
-same_asked names names file other w p = (refl, cc)
-same_asked lint lint file other w p = (refl, cc)
-same_asked (replay a) (replay b) file other w p = (cc, cc)
-same_asked tokens code file other w p = absurd cc
-same_asked tokens names file other w p = absurd cc
-same_asked tokens lint file other w p = absurd cc
-same_asked tokens (replay b) file other w p = absurd cc
-same_asked code tokens file other w p = absurd cc
-same_asked code names file other w p = absurd cc
-same_asked code lint file other w p = absurd (words_differ (codes "code") (codes "lint") refl w)
-same_asked code (replay b) file other w p = absurd cc
-same_asked names tokens file other w p = absurd cc
-same_asked names code file other w p = absurd cc
-same_asked names lint file other w p = absurd cc
-same_asked names (replay b) file other w p = absurd cc
-same_asked lint tokens file other w p = absurd cc
-same_asked lint code file other w p = absurd (words_differ (codes "lint") (codes "code") refl w)
-same_asked lint names file other w p = absurd cc
-same_asked lint (replay b) file other w p = absurd cc
-same_asked (replay a) tokens file other w p = absurd cc
-same_asked (replay a) code file other w p = absurd cc
-same_asked (replay a) names file other w p = absurd cc
-same_asked (replay a) lint file other w p = absurd cc
+-- a command on a template is one task, on one file
+pub same_asked : (t u : Task) (file other : Text) → IsOnTemplate t → IsOnTemplate u → command_word t ≡ command_word u → paths_of t file ≡ paths_of u other → (t ≡ u) × (file ≡ other)
+same_asked expression u file other on too w p = absurd on
+same_asked tokens tokens file other on too w p = (refl, cc)
+same_asked tokens code file other on too w p = absurd cc
+same_asked tokens names file other on too w p = absurd cc
+same_asked tokens lint file other on too w p = absurd cc
+same_asked tokens expression file other on too w p = absurd too
+same_asked tokens (replay b) file other on too w p = absurd cc
+same_asked code tokens file other on too w p = absurd cc
+same_asked code code file other on too w p = (refl, cc)
+same_asked code names file other on too w p = absurd cc
+same_asked code lint file other on too w p = absurd (words_differ (codes "code") (codes "lint") refl w)
+same_asked code expression file other on too w p = absurd too
+same_asked code (replay b) file other on too w p = absurd cc
+same_asked names tokens file other on too w p = absurd cc
+same_asked names code file other on too w p = absurd cc
+same_asked names names file other on too w p = (refl, cc)
+same_asked names lint file other on too w p = absurd cc
+same_asked names expression file other on too w p = absurd too
+same_asked names (replay b) file other on too w p = absurd cc
+same_asked lint tokens file other on too w p = absurd cc
+same_asked lint code file other on too w p = absurd (words_differ (codes "lint") (codes "code") refl w)
+same_asked lint names file other on too w p = absurd cc
+same_asked lint lint file other on too w p = (refl, cc)
+same_asked lint expression file other on too w p = absurd too
+same_asked lint (replay b) file other on too w p = absurd cc
+same_asked (replay a) tokens file other on too w p = absurd cc
+same_asked (replay a) code file other on too w p = absurd cc
+same_asked (replay a) names file other on too w p = absurd cc
+same_asked (replay a) lint file other on too w p = absurd cc
+same_asked (replay a) expression file other on too w p = absurd too
+same_asked (replay a) (replay b) file other on too w p = (cc, cc)
+
+dash_is_file : All (IsFile bare) (codes "-" ∷ [])
+dash_is_file zero d below = refl
+dash_is_file (suc k) d below = absurd (omega arith)
+
+-- `expr -` asks for what standard input holds
+pub asks_input : (args : List (Bor Text)) → AsksInput args → Asks args input_request
+asks_input args is = record { words = is; files = dash_is_file; apart = tt; plain = (refl, refl, refl) }
 
 -- nothing is returned where nothing is asked for
 pub unasked : {A B : Type 0} (r : Option A) → r ≡ None → (B → ⊥) → (IsSome r → B) × (B → IsSome r)
@@ -300,8 +325,8 @@ unasked None none never = (λ some. absurd cc, λ asked. absurd (never asked))
 unasked (Some x) none never = absurd cc
 
 -- two words, of which the first is `expr`
-pub asks_expr : (args : List (Bor Text)) (d e : Bor Text) → 2 ≤ length args → length args < 3 → bytes_eq (slice_index_or args 0 d).now (codes "expr") ≡ true → AsksExpr args (slice_index_or args 1 e).now
-asks_expr [] d e least below same = absurd (omega arith)
-asks_expr (a ∷ []) d e least below same = absurd (omega arith)
-asks_expr (a ∷ b ∷ []) d e least below same = ap (λ (w : Text). w ∷ b.now ∷ []) ((bytes_eq-Decides a.now (codes "expr")).0 same)
-asks_expr (a ∷ b ∷ c ∷ rest) d e least below same = absurd (omega arith)
+pub expr_words : (args : List (Bor Text)) (d e : Bor Text) → 2 ≤ length args → length args < 3 → bytes_eq (slice_index_or args 0 d).now (codes "expr") ≡ true → texts args ≡ codes "expr" ∷ (slice_index_or args 1 e).now ∷ []
+expr_words [] d e least below same = absurd (omega arith)
+expr_words (a ∷ []) d e least below same = absurd (omega arith)
+expr_words (a ∷ b ∷ []) d e least below same = ap (λ (w : Text). w ∷ b.now ∷ []) ((bytes_eq-Decides a.now (codes "expr")).0 same)
+expr_words (a ∷ b ∷ c ∷ rest) d e least below same = absurd (omega arith)

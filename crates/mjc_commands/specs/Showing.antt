@@ -12,22 +12,27 @@ use Rattle.minijinja_lexer.specs.TextTokens.{tokens_of_template}
 use Rattle.minijinja_parser.specs.Derived.{IsDerived, IsExprDerived}
 use Rattle.minijinja_compiler.specs.Headline.{HasTooLongCode, HasTooLongExprCode}
 use Rattle.mjc_commands.specs.Settings.{syntax_with}
-use Rattle.mjc_commands.specs.Usage.{Task, tokens, code, names, lint, replay, Request, Asks}
+use Rattle.mjc_commands.specs.Usage.{Task, tokens, code, names, lint, expression, replay, Request, Asks}
 use Rattle.mjc_commands.specs.AnswerFile.{IsAnswerFile, IsBadLine}
 use Rattle.mjc_commands.specs.Failure.{IsBadAnswer, IsRefused, IsRefusedAs}
 use Rattle.mjc_commands.specs.declared.failure.Failure.{Failure}
 
--- the text's tokens end without a refusal, or the text has a tree
+-- the text is an expression that has a tree
+abbrev pub IsShowableExpr : Text → Type 0
+IsShowableExpr source = (tree : _) × IsExprDerived value_functions default_syntax source tree
+
+-- the text's tokens end without a refusal, or the text has a tree, as a template or as an expression
 abbrev pub IsShowable : Task → Syntax → Text → Type 0
 IsShowable tokens syntax source = (tokens_of_template syntax source).ending ≡ finished
 IsShowable code syntax source = (tree : _) × IsDerived value_functions syntax source tree
 IsShowable names syntax source = (tree : _) × IsDerived value_functions syntax source tree
 IsShowable lint syntax source = (tree : _) × IsDerived value_functions syntax source tree
+IsShowable expression syntax source = IsShowableExpr source
 IsShowable (replay answers) syntax source = (tree : _) × IsDerived value_functions syntax source tree
 
--- the text is an expression that has a tree
-abbrev pub IsShowableExpr : Text → Type 0
-IsShowableExpr source = (tree : _) × IsExprDerived value_functions default_syntax source tree
+-- the expression has 2^32 bytes or more, or its code 2^32 instructions or more
+abbrev pub IsTooLargeExpr : Text → Type 0
+IsTooLargeExpr source = (2 ^ 32 ≤ length source) ⊎ HasTooLongExprCode value_functions source
 
 -- the text has 2^32 bytes or more, or the code that is made of it 2^32 instructions or more
 abbrev pub IsTooLarge : Task → Syntax → Text → Type 0
@@ -35,11 +40,8 @@ IsTooLarge tokens syntax source = 2 ^ 32 ≤ length source
 IsTooLarge code syntax source = (2 ^ 32 ≤ length source) ⊎ HasTooLongCode value_functions syntax source
 IsTooLarge names syntax source = 2 ^ 32 ≤ length source
 IsTooLarge lint syntax source = 2 ^ 32 ≤ length source
+IsTooLarge expression syntax source = IsTooLargeExpr source
 IsTooLarge (replay answers) syntax source = (2 ^ 32 ≤ length source) ⊎ HasTooLongCode value_functions syntax source
-
--- the expression has 2^32 bytes or more, or its code 2^32 instructions or more
-abbrev pub IsTooLargeExpr : Text → Type 0
-IsTooLargeExpr source = (2 ^ 32 ≤ length source) ⊎ HasTooLongExprCode value_functions source
 
 -- memory ran out
 abbrev pub IsMemory : Failure → Type 0

@@ -1,5 +1,5 @@
 -- The command lines of `mjc`.
-use Rattle.std.specs.Prelude.{◌≡◌, ◌⊎◌, List, [], ◌∷◌, ◌++◌, false, nat_eq, codes}
+use Rattle.std.specs.Prelude.{◌≡◌, ◌≢◌, ◌⊎◌, List, [], ◌∷◌, ◌++◌, false, nat_eq, codes}
 use Rattle.std.specs.List.{All, starts_with, flat_map}
 use Rattle.std.specs.Borrow.{Bor}
 use Rattle.minijinja_syntax.specs.Texts.{Text}
@@ -21,9 +21,10 @@ IsFile bare word = starts_with nat_eq word (codes "--") ≡ false
 IsFile marked word = Unit {0}
 
 -- what is shown of a file: its tokens, its code, the names that it needs from outside, what a linter
--- finds in it, or a run of its code on the answers that the file of another path has
+-- finds in it, the code of the expression that it is, or a run of its code on the answers that the
+-- file of another path has
 pub data Task : Type 0 where
-  tokens code names lint : Task
+  tokens code names lint expression : Task
   replay : (answers : Text) → Task
 
 -- the task runs code on answers
@@ -37,6 +38,7 @@ command_word tokens = codes "tokens"
 command_word code = codes "code"
 command_word names = codes "names"
 command_word lint = codes "lint"
+command_word expression = codes "expr"
 command_word (replay answers) = codes "replay"
 
 -- the paths that a command ends with
@@ -48,6 +50,11 @@ paths_of _ file = file ∷ []
 abbrev pub AreApart : Task → (file : Text) → Type 0
 AreApart (replay answers) file = ¬ ((file ≡ codes "-") × (answers ≡ codes "-"))
 AreApart _ file = Unit {0}
+
+-- an expression is read from standard input, and the words for it are `expr -` alone
+abbrev pub IsPlain : Task → List Setting → Mark → (file : Text) → Type 0
+IsPlain expression settings mark file = (settings ≡ []) × (mark ≡ bare) × (file ≡ codes "-")
+IsPlain _ settings mark file = Unit {0}
 
 -- options and, after them, the words for paths
 abbrev pub option_words : List Setting → (behind : List Text) → List Text
@@ -65,6 +72,7 @@ pub record Asks (args : List (Bor Text)) (request : Request) : Type 0 where
   pub words : texts args ≡ command_word request.task ∷ option_words request.settings (path_words request.mark (paths_of request.task request.file))
   pub files : All (IsFile request.mark) (paths_of request.task request.file)
   pub apart : AreApart request.task request.file
+  pub plain : IsPlain request.task request.settings request.mark request.file
 
 -- the words ask for something of a file
 pub record IsFileUsage (args : List (Bor Text)) : Type 0 where
@@ -83,11 +91,13 @@ pub record IsReplayUsage (args : List (Bor Text)) : Type 0 where
   pub asks : Asks args request
   pub replays : IsReplay request.task
 
--- the words ask for the code of the expression that this text is
-abbrev pub AsksExpr : List (Bor Text) → Text → Type 0
-AsksExpr args text = texts args ≡ codes "expr" ∷ text ∷ []
+-- the words ask for the code of the expression that this text is; `-` is none, but stands for
+-- standard input
+pub record AsksExpr (args : List (Bor Text)) (text : Text) : Type 0 where
+  pub words : texts args ≡ codes "expr" ∷ text ∷ []
+  pub stands : text ≢ codes "-"
 
--- the words ask for the code of an expression
+-- the words ask for the code of an expression that stands in them
 pub record IsExprUsage (args : List (Bor Text)) : Type 0 where
   pub text : Text
   pub asks : AsksExpr args text

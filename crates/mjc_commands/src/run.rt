@@ -328,7 +328,7 @@ fn run_on_file<'a, R: Read, Q: Read, W: Write>(
 }
 
 /// Reads the file of a command and writes its tokens, its code, its names, what a linter finds in it,
-/// or a run of its code.
+/// the code of the expression that it is, or a run of its code.
 fn show<'a, R: Read, Q: Read, W: Write>(
     alloc: Global,
     command: &FileCommand<'a>,
@@ -374,6 +374,7 @@ fn show<'a, R: Read, Q: Read, W: Write>(
         Action::Code => show_code(alloc, path, &text, syntax, out)?,
         Action::Names => show_names(alloc, path, &text, syntax, out)?,
         Action::Lint => return show_findings(alloc, path, &text, syntax, out),
+        Action::Expression => show_expression(alloc, &text, out)?,
         Action::Replay(answers_path) => {
             show_replay(alloc, path, &text, syntax, answers_path, answers, out)?;
         }

@@ -1,11 +1,11 @@
 //! The command line of `mjc`: commands, options and files.
-ghost use Rattle.std.specs.Prelude.{◌≡◌, ◌≤◌, ◌↔◌, length, drop, List, [], ◌∷◌, IsSome, IfSome, IsSomeAnd, IsNone, IsTrue};
+ghost use Rattle.std.specs.Prelude.{◌≡◌, ◌≤◌, ◌↔◌, length, drop, List, [], ◌∷◌, IsSome, IfSome, IsSomeAnd, IsNone, IsTrue, codes};
 ghost use Rattle.std.specs.List.{All, fold};
 ghost use Rattle.minijinja_syntax.specs.Texts.{Text};
 ghost use Rattle.mjc_commands.specs.Settings.{Setting, texts, with_setting};
 ghost use Rattle.mjc_commands.specs.Usage.{IsUsage, IsFileUsage, IsExprUsage, IsReplayUsage, Request, Asks, AsksExpr, AreApart, IsFile, Task, bare, option_words, replay};
 ghost use Rattle.mjc_commands.specs.private.AtOptions.{syntax_of};
-ghost use Rattle.mjc_commands.specs.private.AtUsage.{BeginWithFile, IsActionOn, IsCommandFor, IsFileCommandFor, IsExprCommandFor, Name, task_of};
+ghost use Rattle.mjc_commands.specs.private.AtUsage.{AsksInput, BeginWithFile, IsActionOn, IsCommandFor, IsFileCommandFor, IsExprCommandFor, IsOnTemplate, IsTemplateUsage, Name, input_request, task_of};
 
 use crate::options::Options;
 
@@ -20,6 +20,8 @@ pub enum Action<'a> {
     Names,
     /// Prints what a linter finds in the text.
     Lint,
+    /// Prints the code of the expression that the text is.
+    Expression,
     /// Compiles, runs the code on the answers that the file of this path has, and prints the run.
     /// `-` is standard input.
     Replay(&'a str),
@@ -28,7 +30,8 @@ pub enum Action<'a> {
 /// What the command line asks for.
 #[derive(Drop)]
 pub enum Command<'a> {
-    /// Print the tokens, the code, the names, the findings or a run of a file.
+    /// Print the tokens, the code, the names, the findings or a run of a file, or the code of the
+    /// expression that it is.
     File(FileCommand<'a>),
     /// Print the code of this expression.
     Expr(&'a str),
@@ -120,7 +123,7 @@ fn two_files<'a>(paths: &[&'a str]) -> Option<(&'a str, &'a str)>
     }
 }
 
-/// What the word of a command asks for, and of which file.
+/// What the word of a command asks for, and of which template.
 fn action_on<'a>(word: &str, paths: &[&'a str]) -> Option<(Action<'a>, &'a str)>
     ensures found { IfSome result (λ asked. IsActionOn word.now (texts paths.now) (task_of asked.0)
         asked.1.now) }
@@ -140,13 +143,13 @@ fn action_on<'a>(word: &str, paths: &[&'a str]) -> Option<(Action<'a>, &'a str)>
     }
 }
 
-/// Parses a command on a file: the word of the command, options, and the file, after which `replay`
-/// has that of the answers. Options take their words as they are, and of a repeated option the last
-/// one counts. Files that begin with `--` stand after the word `--`.
-fn parse_file_command<'a>(args: &[&'a str]) -> Option<FileCommand<'a>>
-    ensures usage { IsSome result ↔ IsFileUsage args.now }
-    ensures asked { (request : Request) → Asks args.now request → IsSomeAnd result
-        (IsCommandFor request) }
+/// Parses a command on a template: the word of the command, options, and the file, after which
+/// `replay` has that of the answers. Options take their words as they are, and of a repeated option
+/// the last one counts. Files that begin with `--` stand after the word `--`.
+fn parse_template_command<'a>(args: &[&'a str]) -> Option<FileCommand<'a>>
+    ensures usage { IsSome result ↔ IsTemplateUsage args.now }
+    ensures asked { (request : Request) → Asks args.now request → IsOnTemplate request.task →
+        IsSomeAnd result (IsCommandFor request) }
 {
     let (word, rest) = args.split_first()?;
     let mut options = Options::none();
@@ -159,14 +162,52 @@ fn parse_file_command<'a>(args: &[&'a str]) -> Option<FileCommand<'a>>
     })
 }
 
-/// The text of the expression, if the words ask for the code of one.
-fn parse_expr_command<'a>(args: &[&'a str]) -> Option<&'a str>
-    ensures usage { IsSome result ↔ IsExprUsage args.now }
-    ensures asked { IfSome result (λ text. AsksExpr args.now text.now) }
+/// What stands after the word `expr`, if the words are that and one more.
+fn expr_word<'a>(args: &[&'a str]) -> Option<&'a str>
+    ensures some { IfSome result (λ text. texts args.now ≡ codes "expr" ∷ text.now ∷ []) }
+    ensures none { IsNone result → (text : Text) → ¬ (texts args.now ≡ codes "expr" ∷ text ∷ []) }
 {
     match args {
         [word, text] if *word == "expr" => Some(*text),
         _ => None,
+    }
+}
+
+/// Parses the words for the code of the expression that standard input holds.
+fn parse_input_command<'a>(args: &[&'a str]) -> Option<FileCommand<'a>>
+    ensures usage { IsSome result ↔ AsksInput args.now }
+    ensures asked { IfSome result (IsCommandFor input_request) }
+{
+    match expr_word(args)? {
+        "-" => Some(FileCommand {
+            action: Action::Expression,
+            options: Options::none(),
+            file: "-",
+        }),
+        _ => None,
+    }
+}
+
+/// Parses a command on a file, which is a template, or standard input that holds an expression.
+fn parse_file_command<'a>(args: &[&'a str]) -> Option<FileCommand<'a>>
+    ensures usage { IsSome result ↔ IsFileUsage args.now }
+    ensures asked { (request : Request) → Asks args.now request → IsSomeAnd result
+        (IsCommandFor request) }
+{
+    match parse_input_command(args) {
+        Some(command) => Some(command),
+        None => parse_template_command(args),
+    }
+}
+
+/// The text of the expression, if the words ask for the code of one that stands in them.
+fn parse_expr_command<'a>(args: &[&'a str]) -> Option<&'a str>
+    ensures usage { IsSome result ↔ IsExprUsage args.now }
+    ensures asked { IfSome result (λ text. AsksExpr args.now text.now) }
+{
+    match expr_word(args)? {
+        "-" => None,
+        text => Some(text),
     }
 }
 
@@ -203,6 +244,6 @@ pub fn answers_named<'a>(args: &[&'a str]) -> Option<&'a str>
     let command = parse_file_command(args)?;
     match command.action {
         Action::Replay(answers) => Some(answers),
-        Action::Tokens | Action::Code | Action::Names | Action::Lint => None,
+        Action::Tokens | Action::Code | Action::Names | Action::Lint | Action::Expression => None,
     }
 }

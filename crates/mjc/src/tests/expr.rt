@@ -217,7 +217,7 @@ f( => SyntaxError at 1:1␊
 f(a= => SyntaxError at 1:3␊
 f(* => SyntaxError at 1:2␊
 not => SyntaxError at 1:0␊
-- => SyntaxError at 1:0␊
+-␠ => SyntaxError at 1:0␊
 a + => SyntaxError at 1:2␊
 a if => SyntaxError at 1:2␊
 a if b else => SyntaxError at 1:7␊
@@ -233,4 +233,28 @@ a is 3 => SyntaxError at 1:5␊
 a|3 => SyntaxError at 1:2␊
 "#;
     hold::<Refused>(&rt, rt.alloc(), rows)
+}
+
+/// Expressions on standard input: what `expr -` prints, and the status.
+enum Input {}
+
+impl Subject for Input {
+    fn words(alloc: Global, text: &str) -> Result<String, Fail> {
+        output(alloc, &["expr", "-"], &mut text.as_bytes())
+    }
+}
+
+/// The line that ends there is whitespace, as any other is.
+#[test]
+fn a_dash_is_standard_input(rt: HostRuntime) -> Result<(), Fail> {
+    let rows = r#"
+a.b => expression␊0 Lookup("a")␊1 GetAttr("b")␊
+a.b␊ => expression␊0 Lookup("a")␊1 GetAttr("b")␊
+␊a␊+␉b␍␊␊ => expression␊0 Lookup("a")␊1 Lookup("b")␊2 Add␊
+- => ! 1 mjc: SyntaxError at 1:0␊
+␊a +␊ => ! 1 mjc: SyntaxError at 2:2␊
+'\q'␊ => ! 1 mjc: BadEscape at 1:0␊
+␀ => ! 1 mjc: SyntaxError at 0:0␊
+"#;
+    hold::<Input>(&rt, rt.alloc(), rows)
 }

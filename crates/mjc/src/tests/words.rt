@@ -71,6 +71,9 @@ expr
 expr, a, b
 expr, --trim-blocks, a
 expr, --, a
+expr, --, -
+expr, --trim-blocks, -
+expr, -, -
 Code, a
 ␀, a
 --trim-blocks, code, a
@@ -138,6 +141,7 @@ tokens, a/b => ! 2 mjc: cannot read a/b␊
 code, a/b => ! 2 mjc: cannot read a/b␊
 names, a/b => ! 2 mjc: cannot read a/b␊
 lint, --, --a => ! 2 mjc: cannot read --a␊
+expr, - => ! 2 mjc: cannot read -␊
 replay, a/b, answers => ! 2 mjc: cannot read a/b␊
 "#;
     hold::<Unread>(&rt, rt.alloc(), rows)

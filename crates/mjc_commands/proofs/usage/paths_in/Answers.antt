@@ -1,6 +1,5 @@
 -- Words name the paths after `--`, or themselves, and nothing else.
 use Rattle.std.proofs.Common.{◌∙◌, sym}
-use Rattle.std.specs.Str.{bytes_eq}
 use Rattle.mjc_commands.proofs.Requests.{is_mark, name_bare, name_marked, names_nothing, no_mark, none_marked}
 use Rattle.mjc_commands.proofs.usage.paths_in.Goals as goal
 use Rattle.mjc_commands.proofs.usage.paths_in.Goals.{in_default-via-in-Some+else-eq, in_default-via-in_default}
