@@ -6,10 +6,11 @@ mod source;
 #[cfg(test)]
 mod tests;
 
+use mjc_commands::each::run_each;
 use mjc_commands::failure::Failure;
 use mjc_commands::run::{refuse, run};
 use mjc_commands::{answers_named, file_named};
-use source::Source;
+use source::{Opener, Source};
 use std::env;
 use std::io::{self, BufWriter};
 use std::process::ExitCode;
@@ -19,17 +20,23 @@ fn start(rt: &HostRuntime) -> io::Result<u8> {
     let alloc = rt.alloc();
     let words: Vec<String> = env::args(rt)?.skip(1).collect(alloc)?;
     let args: Vec<&str> = words.iter().map(|word| word.as_str()).collect(alloc)?;
-    let mut file = Source::open(rt, file_named(&args));
-    let mut answers = Source::open(rt, answers_named(&args));
     let mut out = BufWriter::new(alloc, rt.stdout())?;
-    let status = run(
-        alloc,
-        &args,
-        &mut file,
-        &mut answers,
-        &mut out,
-        &mut rt.stderr(),
-    );
+    let several = run_each(alloc, &args, &Opener(rt), &mut out, &mut rt.stderr());
+    let status = match several {
+        Some(status) => status,
+        None => {
+            let mut file = Source::open(rt, file_named(&args));
+            let mut answers = Source::open(rt, answers_named(&args));
+            run(
+                alloc,
+                &args,
+                &mut file,
+                &mut answers,
+                &mut out,
+                &mut rt.stderr(),
+            )
+        }
+    };
     // What could not be written is not tried again.
     let _ = out.into_parts();
     Ok(status)

@@ -1,4 +1,5 @@
 //! The file or the standard input that a template is read from.
+use mjc_commands::each::Files;
 use std::fs::File;
 use std::io::{self, Read, Stdin};
 
@@ -31,5 +32,17 @@ impl Read for Source {
             Source::StandardInput(input) => input.read(buf),
             Source::Unopened(error) => Err(*error),
         }
+    }
+}
+
+/// Opens each file when it is asked for.
+#[derive(Drop)]
+pub struct Opener<'r>(pub &'r HostRuntime);
+
+impl Files for Opener<'_> {
+    type File = Source;
+
+    fn open(&self, path: &str) -> Source {
+        Source::open(self.0, Some(path))
     }
 }

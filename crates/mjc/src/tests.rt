@@ -13,6 +13,7 @@ mod memory;
 mod names;
 mod print;
 mod replay;
+mod several;
 mod shipped;
 mod statements;
 mod tokens;

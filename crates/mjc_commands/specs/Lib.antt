@@ -1,6 +1,7 @@
 -- The definitions of this crate.
 pub mod Settings
 pub mod Usage
+pub mod Each
 pub mod Failure
 pub mod Linting
 pub mod Reading

@@ -2,7 +2,9 @@
 #![tactic(auto)]
 
 pub mod answers;
+pub mod each;
 pub mod failure;
+mod labelled;
 mod options;
 mod print;
 pub mod run;

@@ -204,7 +204,7 @@ pub fn refuse<X: Write>(err: &mut X, failure: Failure<'_>) -> u8
     failure.status()
 }
 
-fn say<X: Write>(err: &mut X, failure: &Failure<'_>) {
+pub(crate) fn say<X: Write>(err: &mut X, failure: &Failure<'_>) {
     let _ = writeln!(err, "{failure}");
 }
 
@@ -266,7 +266,10 @@ fn run_command<'a, R: Read, Q: Read, W: Write>(
 }
 
 /// The syntax that the options of a command specify.
-fn syntax_of<'a>(alloc: Global, command: &FileCommand<'a>) -> Result<SyntaxConfig, Failure<'a>>
+pub(crate) fn syntax_of<'a>(
+    alloc: Global,
+    command: &FileCommand<'a>,
+) -> Result<SyntaxConfig, Failure<'a>>
     ensures value { IfOk result (λ syntax. syntax ≡ syntax_of command.now.options) }
     ensures unbuilt { ¬ IsBuildable (syntax_of command.now.options) → IsErr result }
     ensures built { IsBuildable (syntax_of command.now.options) → IfErr result IsMemory }
@@ -329,7 +332,7 @@ fn run_on_file<'a, R: Read, Q: Read, W: Write>(
 
 /// Reads the file of a command and writes its tokens, its code, its names, what a linter finds in it,
 /// the code of the expression that it is, or a run of its code.
-fn show<'a, R: Read, Q: Read, W: Write>(
+pub(crate) fn show<'a, R: Read, Q: Read, W: Write>(
     alloc: Global,
     command: &FileCommand<'a>,
     syntax: &SyntaxConfig,

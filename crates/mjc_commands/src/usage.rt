@@ -225,6 +225,29 @@ pub fn parse<'a>(args: &[&'a str]) -> Option<Command<'a>>
     }
 }
 
+/// Parses the words of a command on several files: `names` or `lint`, options, and the files. One of
+/// them at most is standard input.
+pub fn parse_several<'w, 'a>(args: &'w [&'a str]) -> Option<(FileCommand<'a>, &'w [&'a str])> {
+    let (word, rest) = args.split_first()?;
+    let action = match *word {
+        "names" => Action::Names,
+        "lint" => Action::Lint,
+        _ => return None,
+    };
+    let mut options = Options::none();
+    let paths = paths_in(read_options(&mut options, rest))?;
+    let (file, others) = paths.split_first()?;
+    if others.is_empty() || paths.iter().filter(|path| **path == "-").count() > 1 {
+        return None;
+    }
+    let command = FileCommand {
+        action,
+        options,
+        file: *file,
+    };
+    Some((command, paths))
+}
+
 /// The file that the words name.
 pub fn file_named<'a>(args: &[&'a str]) -> Option<&'a str>
     ensures usage { IsSome result ↔ IsFileUsage args.now }
