@@ -148,7 +148,7 @@ replay, a/b, answers => ! 2 mjc: cannot read a/b␊
 }
 
 /// What a command prints of a file of which each read fails.
-fn unread(alloc: Global, kind: io::ErrorKind) -> Result<String, Fail> {
+fn output_of_failed_read(alloc: Global, kind: io::ErrorKind) -> Result<String, Fail> {
     let mut file = Trickle {
         rest: b"",
         end: Err(io::Error::from(kind)),
@@ -159,9 +159,9 @@ fn unread(alloc: Global, kind: io::ErrorKind) -> Result<String, Fail> {
 /// By the words that Rust has for that error.
 #[test]
 fn tells_a_folder_from_an_absent_file(rt: HostRuntime) -> Result<(), Fail> {
-    let folder = unread(rt.alloc(), io::ErrorKind::IsADirectory)?;
+    let folder = output_of_failed_read(rt.alloc(), io::ErrorKind::IsADirectory)?;
     assert!(rt; folder.as_str() == "! 2 mjc: cannot read a: is a directory\n");
-    let absent = unread(rt.alloc(), io::ErrorKind::NotFound)?;
+    let absent = output_of_failed_read(rt.alloc(), io::ErrorKind::NotFound)?;
     assert!(rt; absent.as_str() == "! 2 mjc: cannot read a\n");
     Ok(())
 }
