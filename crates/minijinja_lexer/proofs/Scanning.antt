@@ -91,7 +91,7 @@ name_stop text len rest after c run e h =
     omega (arith, name_is, run.counted)
 
 -- an ASCII byte is a character of its own
-ascii_front : (text : Text) (len : ℕ) → len < length text → get_or text len 0 < 128 → drop len text ≡ encode_utf8 (get_or text len 0) ++ drop (len + 1) text
+pub ascii_front : (text : Text) (len : ℕ) → len < length text → get_or text len 0 < 128 → drop len text ≡ encode_utf8 (get_or text len 0) ++ drop (len + 1) text
 ascii_front text len h low =
     let e : suc len ≡ len + 1 = omega arith in
     drop-cons text len 0 h ∙ ap (λ n. get_or text len 0 ∷ drop n text) e ∙ ap (λ t. t ++ drop (len + 1) text) (sym (encode_ascii (get_or text len 0) low))

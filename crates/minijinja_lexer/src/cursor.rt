@@ -77,6 +77,7 @@ impl<'s> Cursor<'s> {
         ensures line { result.0 ≡ line_after (take self.now.at self.now.text) }
         ensures column { result.1 ≡ column_after (take self.now.at self.now.text) }
         ensures offset { result.2 ≡ self.now.at }
+        ensures boundary { IsCharBoundary self.now.text self.now.at }
     {
         (self.line, self.column, self.at as u32)
     }
@@ -110,6 +111,40 @@ impl<'s> Cursor<'s> {
         self.plain = plain_end(self.text, to);
     }
 
+    /// Moves on to a place that often is this one.
+    #[inline(always)]
+    pub(crate) fn skip_to(&mut self, to: usize)
+        requires onwards { self.old.at ≤ to }
+        requires boundary { IsCharBoundary self.old.text to }
+        ensures { self.new ≡ record { text = self.old.text; at = to } }
+    {
+        if to != self.at {
+            self.advance(to);
+        }
+    }
+
+    /// Moves to the end of a stretch that begins here and returns the stretch's span.
+    #[inline(always)]
+    pub(crate) fn span_to(&mut self, stop: usize) -> Span
+        requires onwards { self.old.at ≤ stop }
+        requires boundary { IsCharBoundary self.old.text stop }
+        ensures span { result ≡ span_at self.old.text self.old.at stop }
+        ensures between { IsBetweenChars self.old.text result }
+        ensures place { self.new ≡ record { text = self.old.text; at = stop } }
+    {
+        let (start_line, start_col, start_offset) = self.position();
+        self.advance(stop);
+        let (end_line, end_col, end_offset) = self.position();
+        Span {
+            start_line,
+            start_col,
+            start_offset,
+            end_line,
+            end_col,
+            end_offset,
+        }
+    }
+
     /// Moves to the end of a stretch and returns the stretch's span.
     #[inline(always)]
     pub(crate) fn span(&mut self, start: usize, stop: usize) -> Span
@@ -122,17 +157,7 @@ impl<'s> Cursor<'s> {
         ensures place { self.new ≡ record { text = self.old.text; at = stop } }
     {
         self.advance(start);
-        let (start_line, start_col, start_offset) = self.position();
-        self.advance(stop);
-        let (end_line, end_col, end_offset) = self.position();
-        Span {
-            start_line,
-            start_col,
-            start_offset,
-            end_line,
-            end_col,
-            end_offset,
-        }
+        self.span_to(stop)
     }
 
     /// Moves to where the text is refused and returns the refusal's span.

@@ -93,7 +93,7 @@ fn state_behind(cursor: &mut Cursor<'_>, whole: bool, after: usize) -> State
     ensures fits { StateFits cursor.new result }
 {
     if !whole {
-        cursor.advance(after);
+        cursor.skip_to(after);
         return State::Outside;
     }
     let at = cursor.at();

@@ -181,8 +181,8 @@ pub(crate) fn step_outside<'s>(syntax: &SyntaxConfig, cursor: &mut Cursor<'s>) -
         match found_at(syntax, text, at) {
             Found::Data(stop, kept) => {
                 if kept != at {
-                    let span = cursor.span(at, kept);
-                    cursor.advance(stop);
+                    let span = cursor.span_to(kept);
+                    cursor.skip_to(stop);
                     return Step::Token(Token::TemplateData(&text[at..kept]), span, State::Outside);
                 }
                 cursor.advance(stop);
@@ -190,7 +190,7 @@ pub(crate) fn step_outside<'s>(syntax: &SyntaxConfig, cursor: &mut Cursor<'s>) -
             Found::Skipped(stop) => cursor.advance(stop),
             Found::Raw(block) => return step_raw(cursor, text, block),
             Found::Tag(tag, body) => {
-                let span = cursor.span(at, body);
+                let span = cursor.span_to(body);
                 return Step::Token(
                     start_token(tag),
                     span,

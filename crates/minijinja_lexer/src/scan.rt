@@ -1,5 +1,5 @@
 //! One token at a place in a text.
-ghost use Rattle.std.specs.Prelude.{◌≡◌, ℕ, ◌+◌, ◌<◌, ◌≤◌, length, slice_index};
+ghost use Rattle.std.specs.Prelude.{◌≡◌, ℕ, ◌+◌, ◌<◌, ◌≤◌, drop, length, slice_index};
 ghost use Rattle.std.specs.Char.{is_ascii_whitespace};
 ghost use Rattle.std.specs.List.{prefix_len};
 ghost use Rattle.std.specs.Str.{IsCharBoundary, chars};
@@ -59,40 +59,51 @@ fn int_sort(value: u128) -> Sort
     }
 }
 
-fn word_front(behind_dot: bool, text: &str) -> Result<(Sort, usize), (LexFault, usize)>
-    requires { 0 < length text.now }
-    ensures value { scan_view result ≡ spec.word_front behind_dot text.now }
-    ensures places { ScanPlaces text.now 0 (scan_view result) }
+fn is_behind_dot(text: &[u8], at: usize) -> bool
+    ensures { result ≡ spec.is_behind_dot text.now at }
 {
-    let first = text.as_bytes()[0];
+    0 < at && byte_at(text, at - 1) == b'.'
+}
+
+/// The string, number or name at the place, and its length. Only a number asks what stands before.
+fn word_front(text: &str, at: usize) -> Result<(Sort, usize), (LexFault, usize)>
+    requires within { at < length text.now }
+    requires boundary { IsCharBoundary text.now at }
+    ensures value { scan_view result ≡ spec.word_front (spec.is_behind_dot text.now at)
+        (drop at text.now) }
+    ensures places { ScanPlaces (drop at text.now) 0 (scan_view result) }
+{
+    let rest = &text[at..];
+    let first = rest.as_bytes()[0];
     if first == b'"' || first == b'\'' {
-        quoted(text)
+        quoted(rest)
     } else if first.is_ascii_digit() {
-        let (value, len) = number(behind_dot, text)?;
+        let (value, len) = number(is_behind_dot(text.as_bytes(), at), rest)?;
         Ok((int_sort(value), len))
-    } else if begins_name(text) {
-        Ok((Sort::Ident, name_len(text)))
+    } else if begins_name(rest) {
+        Ok((Sort::Ident, name_len(rest)))
     } else {
         Err((LexFault::UnexpectedCharacter, 0))
     }
 }
 
 #[tactic(auto, unfolding(crate::specs::TokenAt::token_front))]
-fn token_front(behind_dot: bool, text: &str) -> Result<(Sort, usize), (LexFault, usize)>
-    requires { 0 < length text.now }
-    ensures value { scan_view result ≡ spec.token_front behind_dot text.now }
-    ensures places { ScanPlaces text.now 0 (scan_view result) }
+fn token_front(text: &str, at: usize) -> Result<(Sort, usize), (LexFault, usize)>
+    requires within { at < length text.now }
+    requires boundary { IsCharBoundary text.now at }
+    ensures value { scan_view result ≡ spec.token_front (spec.is_behind_dot text.now at)
+        (drop at text.now) }
+    ensures places { ScanPlaces (drop at text.now) 0 (scan_view result) }
 {
-    match symbol_front(text.as_bytes()) {
-        Some((symbol, len)) => Ok((Sort::Symbol(symbol), len)),
-        None => word_front(behind_dot, text),
+    let rest = &text[at..];
+    // Most tokens are names, and most names begin with a small letter.
+    if rest.as_bytes()[0].is_ascii_lowercase() {
+        return Ok((Sort::Ident, name_len(rest)));
     }
-}
-
-fn is_behind_dot(text: &[u8], at: usize) -> bool
-    ensures { result ≡ spec.is_behind_dot text.now at }
-{
-    0 < at && byte_at(text, at - 1) == b'.'
+    match symbol_front(rest.as_bytes()) {
+        Some((symbol, len)) => Ok((Sort::Symbol(symbol), len)),
+        None => word_front(text, at),
+    }
 }
 
 /// The token at the place and where it stops, or why and where it is refused.
@@ -103,7 +114,7 @@ pub(crate) fn token_at(text: &str, at: usize) -> Result<(Sort, usize), (LexFault
     ensures value { scan_view result ≡ spec.token_at text.now at }
     ensures places { ScanPlaces text.now at (scan_view result) }
 {
-    match token_front(is_behind_dot(text.as_bytes(), at), &text[at..]) {
+    match token_front(text, at) {
         Ok((sort, len)) => Ok((sort, at + len)),
         Err((fault, len)) => Err((fault, at + len)),
     }

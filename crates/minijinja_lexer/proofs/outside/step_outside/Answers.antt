@@ -25,6 +25,10 @@ inside c = let a = c.at.ensures.value in let b = c.at-at.ensures.value in let t 
 placed : (x y : Text) (at : ℕ) → x ≡ y → let p : Place = record { text = x; at = at } in p ≡ record { text = y; at = at }
 placed x y at e = ap (λ t. let p : Place = record { text = t; at = at } in p) e
 
+-- the span from the cursor on is that from the place that the code reads
+spanned : (c : After-found_at) (stop : ℕ) → span_at c.loop-text.cursor.text c.loop-text.cursor.at stop ≡ span_at c.text-text.result.now c.at-at.result stop
+spanned c stop = ap (λ x. span_at x c.loop-text.cursor.at stop) (same_text c) ∙ ap (λ n. span_at c.text-text.result.now n stop) (sym c.at-at.ensures.value)
+
 moved : (c : After-found_at) (p : Place) → p.text ≡ c.loop-text.cursor.text → stream_at c.args.syntax.now c.text-text.result.now c.at-at.result ≡ stream_at c.args.syntax.now p.text p.at
     → (p.text ≡ c.args.cursor.now.text) × (stream_at c.args.syntax.now c.args.cursor.now.text p.at ≡ stream_at c.args.syntax.now c.args.cursor.now.text c.args.cursor.now.at)
 moved c p e f =
@@ -34,19 +38,19 @@ moved c p e f =
 pub returns-then-kept-at-clause-steps : goal.returns-then-kept-at-clause-steps
 returns-then-kept-at-clause-steps c =
     let d = (goal.at-returns-then-kept-at-clause-steps c).After-found_at in (
-      from_here d ∙ outside_data c.args.syntax.now c.text-text.result.now c.range.result.now c.at-at.result c.in-Data.stop c.in-Data.kept c.span-span.result c.advance.new.self
+      from_here d ∙ outside_data c.args.syntax.now c.text-text.result.now c.range.result.now c.at-at.result c.in-Data.stop c.in-Data.kept c.span_to-span.result c.skip_to.new.self
           (inside d) c.in-Data.ensures c.if-kept-at.true c.range.ensures.value
-          (c.span-span.ensures.span ∙ ap (λ x. span_at x c.at-at.result c.in-Data.kept) (same_text d))
-          (c.advance.ensures ∙ placed _ _ c.in-Data.stop (ap (λ (p : Place). p.text) c.span-span.ensures.place ∙ same_text d)),
+          (c.span_to-span.ensures.span ∙ spanned d c.in-Data.kept)
+          (c.skip_to.ensures ∙ placed _ _ c.in-Data.stop (ap (λ (p : Place). p.text) c.span_to-span.ensures.place ∙ same_text d)),
       tt,
     )
 
 pub loop-text-preserved-in-Data : goal.loop-text-preserved-in-Data
 loop-text-preserved-in-Data c =
     let d = (goal.at-loop-text-preserved-in-Data c).After-found_at in
-    moved d c.advance-in-Data.new.self (ap (λ (p : Place). p.text) c.advance-in-Data.ensures)
-    (outside_none c.args.syntax.now c.text-text.result.now c.at-at.result c.in-Data.stop c.in-Data.kept c.advance-in-Data.new.self
-    (inside d) c.in-Data.ensures c.if-kept-at.false (c.advance-in-Data.ensures ∙ placed _ _ c.in-Data.stop (same_text d)))
+    moved d c.advance.new.self (ap (λ (p : Place). p.text) c.advance.ensures)
+    (outside_none c.args.syntax.now c.text-text.result.now c.at-at.result c.in-Data.stop c.in-Data.kept c.advance.new.self
+    (inside d) c.in-Data.ensures c.if-kept-at.false (c.advance.ensures ∙ placed _ _ c.in-Data.stop (same_text d)))
 
 pub loop-text-preserved : goal.loop-text-preserved
 loop-text-preserved c =
@@ -73,10 +77,10 @@ returns-in-Raw-clause-takes c =
 pub returns-in-Tag-clause-steps : goal.returns-in-Tag-clause-steps
 returns-in-Tag-clause-steps c =
     let d = (goal.at-returns-in-Tag-clause-steps c).After-found_at in (
-      from_here d ∙ outside_tag c.args.syntax.now c.text-text.result.now (tag_view c.in-Tag.tag) c.at-at.result c.in-Tag.body _ c.span-span-in-Tag.result c.span-span-in-Tag.new.self
+      from_here d ∙ outside_tag c.args.syntax.now c.text-text.result.now (tag_view c.in-Tag.tag) c.at-at.result c.in-Tag.body _ c.span_to-span-in-Tag.result c.span_to-span-in-Tag.new.self
           (inside d) c.in-Tag.ensures c.start_token.ensures
-          (c.span-span-in-Tag.ensures.span ∙ ap (λ x. span_at x c.at-at.result c.in-Tag.body) (same_text d))
-          (c.span-span-in-Tag.ensures.place ∙ placed _ _ c.in-Tag.body (same_text d)),
+          (c.span_to-span-in-Tag.ensures.span ∙ spanned d c.in-Tag.body)
+          (c.span_to-span-in-Tag.ensures.place ∙ placed _ _ c.in-Tag.body (same_text d)),
       (omega arith, omega arith),
     )
 
