@@ -1,5 +1,5 @@
 -- The main theorem: the code of a text is that of its one tree, and does what the tree means.
-use Rattle.std.specs.Prelude.{◌≡◌, ◌≢◌, ◌<◌, ◌≤◌, ◌^◌, ◌⊎◌, ⊤, false, List, length, None, All, Any, Contains, codes, MatchResult, Result}
+use Rattle.std.specs.Prelude.{◌≡◌, ◌≢◌, ℕ, ◌<◌, ◌≤◌, ◌^◌, ◌⊎◌, ⊤, false, List, length, None, All, Any, Contains, codes, MatchResult, Result}
 use Rattle.std.specs.Borrow.{Bor}
 use Rattle.std.specs.BTreeMap.{BTreeMap, keys}
 use Rattle.minijinja_syntax.specs.Texts.{Text}
@@ -9,13 +9,15 @@ use Rattle.minijinja_syntax.specs.Errors.{IsOutOfMemory, kind_of, span_of}
 use Rattle.minijinja_syntax.specs.declared.error.Error.{Error}
 use Rattle.minijinja_syntax.specs.declared.error.ErrorKind.TheVariants.{OutOfMemory, SourceTooLong, TooManyInstructions}
 use Rattle.minijinja_lexer.specs.Stream.{IsNamed}
+use Rattle.minijinja_grammar.specs.Derived.{IsExprTree}
+use Rattle.minijinja_grammar.specs.Places.{Place}
 use Rattle.minijinja_grammar.specs.TokenSpans.{IsOfTokens}
 use Rattle.minijinja_tree.specs.SpannedTrees as spanned
 use Rattle.minijinja_tree.specs.SpannedTrees.{bare_expr, bare_stmt}
 use Rattle.minijinja_tree.specs.Standing.{Stands, StmtStands}
 use Rattle.minijinja_tree.specs.Tree.{Block, Expr, Stmt, blocks}
 use Rattle.minijinja_parser.specs.Causes.{IsRefusal}
-use Rattle.minijinja_parser.specs.Derived.{IsDerived, IsExprDerived, expr_place, template_place}
+use Rattle.minijinja_parser.specs.Derived.{IsDerived, expr_place, expr_place_in, template_place}
 use Rattle.minijinja_instructions.specs.Instructions.{code_of}
 use Rattle.minijinja_semantics.specs.Pieces.{start}
 use Rattle.minijinja_semantics.specs.Layout.{expr_code, stmt_code}
@@ -75,16 +77,16 @@ pub record IsCompiled {V E C F : Type 0} (f : Functions C F) (contents : V → C
   pub name : name_of c.instructions ≡ filename
   pub text : source_of c.instructions ≡ source
 
--- The grammar derives one tree of the text, an expression in the default syntax. The code is the
--- layout of that tree. It does what the tree means, and leaves the value of the expression on top
--- of the operands; this holds of answers that number, with the values in them, under 2^64. It has
--- fewer than 2^32 instructions, where they lead lies within the list, and it is no block that has
--- to be overridden. The instructions have the lines and the spans of the tree's nodes, each of which
--- goes from token to token of the text.
-pub record IsCompiledExpr {V E C F : Type 0} (f : Functions C F) (contents : V → C) (source : Text) (c : Instructions V E) : Type 0 where
+-- The grammar derives one tree of the tokens from a place on, an expression. The code is the layout
+-- of that tree. It does what the tree means, and leaves the value of the expression on top of the
+-- operands; this holds of answers that number, with the values in them, under 2^64. It has fewer
+-- than 2^32 instructions, where they lead lies within the list, and it is no block that has to be
+-- overridden. The instructions have the lines and the spans of the tree's nodes, each of which goes
+-- from token to token.
+pub record IsCompiledExprAt {V E C F : Type 0} (f : Functions C F) (contents : V → C) (place : Place) (source filename : Text) (c : Instructions V E) : Type 0 where
   pub tree : Expr C
-  pub derived : IsExprDerived f default_syntax source tree
-  pub only : (t : Expr C) → IsExprDerived f default_syntax source t → t ≡ tree
+  pub derived : IsExprTree f place tree
+  pub only : (t : Expr C) → IsExprTree f place t → t ≡ tree
   pub code : code_of contents c ≡ expr_code f tree start
   pub does : DoesExpr f (code_of contents c) 0 (length (code_of contents c)) tree
   pub few : length (code_of contents c) < 2 ^ 32
@@ -92,10 +94,18 @@ pub record IsCompiledExpr {V E C F : Type 0} (f : Functions C F) (contents : V �
   pub required : is_required c ≡ false
   pub nodes : spanned.Expr C
   pub bare : bare_expr nodes ≡ tree
-  pub stands : Stands (Contains (expr_place default_syntax source).tokens) (IsOfTokens (expr_place default_syntax source).tokens (expr_place default_syntax source).last) nodes
+  pub stands : Stands (Contains place.tokens) (IsOfTokens place.tokens place.last) nodes
   pub marks : marks_of c ≡ expr_marks f nodes
-  pub name : name_of c ≡ codes "<expression>"
+  pub name : name_of c ≡ filename
   pub text : source_of c ≡ source
+
+-- such code of a text that is an expression by itself, in the default syntax
+abbrev pub IsCompiledExpr : {V E C F : Type 0} → Functions C F → (V → C) → (source : Text) → Instructions V E → Type 0
+IsCompiledExpr f contents source c = IsCompiledExprAt f contents (expr_place default_syntax source) source (codes "<expression>") c
+
+-- such code of the expression that takes the bytes from `start` to `stop` in a file
+abbrev pub IsCompiledExprIn : {V E C F : Type 0} → Functions C F → (V → C) → Syntax → (file : Text) → (start stop : ℕ) → (filename : Text) → Instructions V E → Type 0
+IsCompiledExprIn f contents syntax file start stop filename c = IsCompiledExprAt f contents (expr_place_in syntax file start stop) file filename c
 
 -- a tree of the text has too much code, in its own list or in that of a block
 pub record HasTooLongCode {C F : Type 0} (f : Functions C F) (syntax : Syntax) (source : Text) : Type 0 where
@@ -104,10 +114,14 @@ pub record HasTooLongCode {C F : Type 0} (f : Functions C F) (syntax : Syntax) (
   pub long : (2 ^ 32 ≤ length (stmt_code f tree start)) ⊎ HaveTooLong f (blocks tree)
 
 -- the tree of an expression has too much code
-pub record HasTooLongExprCode {C F : Type 0} (f : Functions C F) (source : Text) : Type 0 where
+pub record HasTooLongExprCodeAt {C F : Type 0} (f : Functions C F) (place : Place) : Type 0 where
   pub tree : Expr C
-  pub derived : IsExprDerived f default_syntax source tree
+  pub derived : IsExprTree f place tree
   pub long : 2 ^ 32 ≤ length (expr_code f tree start)
+
+-- that of an expression by itself, in the default syntax
+abbrev pub HasTooLongExprCode : {C F : Type 0} → Functions C F → (source : Text) → Type 0
+HasTooLongExprCode f source = HasTooLongExprCodeAt f (expr_place default_syntax source)
 
 -- a limit stands against the text: memory, the length of the source or the length of the code
 abbrev pub IsCompileLimit : Error → Type 0

@@ -1,18 +1,20 @@
-//! `compile` and `compile_expression`: from a source text to its instructions.
+//! `compile`, `compile_expression` and `compile_expression_in`: from a text to its instructions.
 ghost use Rattle.std.specs.Prelude.{◌<◌, ◌≤◌, ◌^◌, codes, length, IfErr, IfOk, IsErrAnd};
-ghost use Rattle.minijinja_parser.specs.Answers.{AnswersExprTokenizer, AnswersTokenizer, EscapesIn, IsNoExpr, IsNoTemplate, IsShort, IsTooLong};
+ghost use Rattle.std.specs.Str.{IsCharBoundary};
+ghost use Rattle.minijinja_parser.specs.Answers.{AnswersExprTokenizer, AnswersExprTokenizerAt, AnswersTokenizer, EscapesIn, IsNoExpr, IsNoExprAt, IsNoTemplate, IsShort, IsTooLong};
 ghost use Rattle.minijinja_syntax.specs.Syntax.{default_syntax};
-ghost use Rattle.minijinja_parser.specs.Derived.{IsDerived, IsExprDerived, expr_place, template_place};
-ghost use Rattle.minijinja_compiler.specs.Headline.{IsCompiled, IsCompiledExpr, HasTooLongCode, HasTooLongExprCode, IsCompileCause, IsCompileUnplaced, IsRefusedUnder, IsTooMany, Succeeds};
+ghost use Rattle.minijinja_parser.specs.Derived.{IsDerived, IsExprDerived, IsExprDerivedIn, expr_place, expr_place_in, template_place};
+ghost use Rattle.minijinja_compiler.specs.Headline.{IsCompiled, IsCompiledExpr, IsCompiledExprIn, HasTooLongCode, HasTooLongExprCode, HasTooLongExprCodeAt, IsCompileCause, IsCompileUnplaced, IsRefusedUnder, IsTooMany, Succeeds};
 
 use minijinja_code::codegen::CodeGenerator;
 use minijinja_code::instructions::Instructions;
-use minijinja_parser::parser::{EXPRESSION_NAME, parse, parse_expr};
+use minijinja_parser::parser::{EXPRESSION_NAME, parse, parse_expr, parse_expr_in};
 use minijinja_syntax::error::Error;
 use minijinja_syntax::syntax::SyntaxConfig;
 use minijinja_value::value::{TemplateValue, Value};
 use std::alloc::Global;
 use std::collections::BTreeMap;
+use std::ops::Range;
 
 /// A compiled template. It borrows from the source text and nothing else.
 #[derive(Drop)]
@@ -125,4 +127,73 @@ pub fn compile_expression<'s, V: TemplateValue>(
     generator.compile_expr(&expr)?;
     let (instructions, _) = generator.finish();
     Ok(instructions)
+}
+
+/// Compiles one expression that stands in a larger file, in a syntax of choice: it takes the bytes of
+/// `range`. Lines, columns and offsets, in errors and of the instructions, are those of the file,
+/// which `filename` names, and the `source()` of the instructions is the whole file.
+///
+/// It takes time for what stands before `range`, whose lines are counted. Nothing is stripped from
+/// the end of the expression, and a dot that stands right before it counts as one before a number.
+///
+/// ```
+/// let file = "name = 'x'\nport = base + 1\n";
+/// let port: Instructions<Value> =
+///     compile_expression_in(alloc, file, 18..26, "app.conf", &SyntaxConfig::default())?;
+/// // Lookup("base") on line 2, LoadConst(1), Add.
+/// ```
+///
+/// It fails as [`compile`] does, and if the file, and not the range, has 2^32 bytes or more.
+pub fn compile_expression_in<'s, V: TemplateValue>(
+    alloc: Global,
+    file: &'s str,
+    range: Range<usize>,
+    filename: &'s str,
+    syntax: &SyntaxConfig,
+) -> Result<Instructions<'s, V>, Error<'s>>
+    // The range is one by which the file can be sliced.
+    requires ordered { range.start ≤ range.end }
+    requires start { IsCharBoundary file.now range.start }
+    requires end { IsCharBoundary file.now range.end }
+
+    // The grammar derives one tree of what stands in the range, the code is that of this tree, with
+    // the lines and the spans that its nodes have in the file, and does what it means.
+    ensures compiled { IfOk result (IsCompiledExprIn V.functions V.contents
+        syntax.now file.now range.start range.end filename.now) }
+
+    // It fails with a syntax error or a bad escape only if the grammar derives no tree of what
+    // stands in the range. If there is a tree, it succeeds, or a limit stands against the text.
+    ensures refused { IfErr result (IsNoExprAt V.functions
+        (expr_place_in syntax.now file.now range.start range.end)) }
+    ensures accepted { (t : _) →
+        IsExprDerivedIn V.functions syntax.now file.now range.start range.end t → Succeeds result }
+
+    // A bad escape is the one with which the tokens of the expression end.
+    ensures bad_escape { IfErr result
+        (EscapesIn (expr_place_in syntax.now file.now range.start range.end)) }
+
+    // If the tokenizer fails and all tokens before that fit the grammar, its error is the one
+    // returned.
+    ensures first { IsShort file.now → AnswersExprTokenizerAt V.functions
+        (expr_place_in syntax.now file.now range.start range.end) result }
+
+    // The error has the file's name, unless memory was refused or the code is too long.
+    ensures named { IfErr result (IsRefusedUnder filename.now) }
+
+    // An error for memory has neither a place nor a name, and one for a length has no place.
+    ensures unplaced { IfErr result IsCompileUnplaced }
+
+    // A file is too long exactly if it has 2^32 bytes or more, and code only if that of the tree has
+    // 2^32 instructions or more.
+    ensures too_long { 2 ^ 32 ≤ length file.now → IsErrAnd result IsTooLong }
+    ensures too_long_only { IfErr result (λ e. IsTooLong e → 2 ^ 32 ≤ length file.now) }
+    ensures too_many_only { IfErr result (λ e. IsTooMany e → HasTooLongExprCodeAt V.functions
+        (expr_place_in syntax.now file.now range.start range.end)) }
+    ensures causes { IfErr result IsCompileCause }
+{
+    let expr = parse_expr_in(alloc, file, range, filename, syntax)?;
+    let mut generator = CodeGenerator::new(alloc, filename, file);
+    generator.compile_expr(&expr)?;
+    let (code, _) = generator.finish();
+    Ok(code)
 }

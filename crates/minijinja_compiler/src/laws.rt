@@ -27,8 +27,8 @@ pub use minijinja_grammar::laws::{
     trees_are_well_formed,
 };
 pub use minijinja_lexer::laws::{
-    are_in_order, are_slices, columns_count_chars, one_cut, one_expression, some_cut,
-    some_expression,
+    are_in_order, are_slices, columns_count_chars, expressions_stand_anywhere, one_cut,
+    one_expression, some_cut, some_expression,
 };
 pub use minijinja_semantics::laws::{
     closures_are_enough, folded_is_constant, layout_does_what_is_meant, layout_leads_well,

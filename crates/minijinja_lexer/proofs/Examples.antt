@@ -19,11 +19,11 @@ use Rattle.minijinja_lexer.specs.Escapes.{unescaped}
 use Rattle.minijinja_lexer.specs.Whitespace.{tail_len, ends_blank, line_kept_len, kept_len, kept_stop}
 use Rattle.minijinja_lexer.specs.Raw.{word_tag, next_endraw}
 use Rattle.minijinja_lexer.specs.Cut.{end_at, close_at, tag_part_at, inner_at, next_delimiter, next_line_end, segment_at, cut_at}
-use Rattle.minijinja_lexer.specs.TextTokens.{text_of, stream_at, stream_in, tokens_of_template, tokens_of_expression}
+use Rattle.minijinja_lexer.specs.TextTokens.{text_of, stream_at, stream_in, tokens_of_template, tokens_of_expression, tokens_of_expression_at}
 
 -- `unfolding reading` lets `refl` compute the tokens of a text
 reading : Unit {0}
-unfolding tokens_of_template tokens_of_expression text_of stream_at stream_in cut_at segment_at starts_line marker_at next_marker kept_stop kept_len ends_blank line_kept_len tail_len next_delimiter next_line_end word_tag next_endraw inner_at tag_part_at close_at end_at token_at token_front symbol_front number quoted unescaped unicode_ident chars trim_start trim_end encode_utf8
+unfolding tokens_of_template tokens_of_expression tokens_of_expression_at text_of stream_at stream_in cut_at segment_at starts_line marker_at next_marker kept_stop kept_len ends_blank line_kept_len tail_len next_delimiter next_line_end word_tag next_endraw inner_at tag_part_at close_at end_at token_at token_front symbol_front number quoted unescaped unicode_ident chars trim_start trim_end encode_utf8
 reading = tt
 
 -- from a line, a column and an offset to others
@@ -387,3 +387,11 @@ expression_goes_on : tokens_of_expression default_syntax (codes "a}} b") ≡ rec
 }
 unfolding reading
 expression_goes_on = refl
+
+-- in a larger file an expression is read from its place on, and has the places of that file
+expression_in_a_file : tokens_of_expression_at default_syntax (codes "x: a.b") 3 ≡ record {
+  tokens = (ident (codes "a"), on_first_line 3 4) ∷ (dot, on_first_line 4 5) ∷ (ident (codes "b"), on_first_line 5 6) ∷ [];
+  ending = finished;
+}
+unfolding reading
+expression_in_a_file = refl

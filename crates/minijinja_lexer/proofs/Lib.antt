@@ -1,5 +1,6 @@
 -- The lemmas about tokens.
 pub mod Scanning
+pub mod Letters
 pub mod Escaping
 pub mod Quoting
 pub mod Digits
@@ -27,3 +28,4 @@ mod Occurrences
 mod Stretches
 mod Plain
 mod RawTexts
+pub mod Elsewhere

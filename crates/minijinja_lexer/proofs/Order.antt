@@ -14,7 +14,7 @@ use Rattle.minijinja_syntax.specs.Streams.{SpannedTok}
 use Rattle.minijinja_lexer.specs.Brackets.{opened_by, shut_by}
 use Rattle.minijinja_lexer.specs.Whitespace.{control_behind, kept_stop, kept_before, kept_len, is_line_cut, line_kept_len, body_of}
 use Rattle.minijinja_lexer.specs.Cut.{Segment, plain, comment, line_comment, raw, tag, unclosed_comment, unclosed_raw, marker_of, stop_of, close_stop, cut_at, inner_at}
-use Rattle.minijinja_lexer.specs.TextTokens.{text_of, lexeme_token, close_tokens, close_stream, segment_tokens, data_tokens, stream_at, stream_in, behind_expression, tokens_of_template, tokens_of_expression}
+use Rattle.minijinja_lexer.specs.TextTokens.{text_of, lexeme_token, close_tokens, close_stream, segment_tokens, data_tokens, stream_at, stream_in, behind_expression, tokens_of_template, tokens_of_expression, tokens_of_expression_at}
 use Rattle.minijinja_lexer.specs.Relation.{NoEnd, IsDelimiterClose, IsClosedAt, IsOver, IsClose, IsInner, IsRaw, IsSegment, IsCut}
 use Rattle.minijinja_lexer.specs.Slices.{AreInOrder}
 use Rattle.minijinja_lexer.specs.Controls.{Control, Absent, Remove, Preserve}
@@ -204,9 +204,12 @@ expression_from s text k o c at [] close is = close_stream_in_order s text k o c
 expression_from s text k o c at (l ∷ ls) close is =
     let p = is.0.space in let m = is.0.some in (omega (arith, p), omega (arith, m), expression_from s text k (o + opened_by l.sort) (c + shut_by l.sort) l.stop ls close is.1)
 
+pub in_order_at : (s : Syntax) (text : Text) (at : ℕ) → AreInOrder at (tokens_of_expression_at s text at).tokens
+unfolding tokens_of_expression_at stream_in
+in_order_at s text at =
+    let i = inner_at s text Variable 0 0 at in
+    expression_from s text Variable 0 0 at i.lexemes i.close (inner_holds s text Variable 0 0 at)
+
 pub expression_in_order : (s : Syntax) (source : Text) → AreInOrder 0 (tokens_of_expression s source).tokens
-unfolding tokens_of_expression stream_in
-expression_in_order s source =
-    let text : Text = text_of s source in
-    let i = inner_at s text Variable 0 0 0 in
-    expression_from s text Variable 0 0 0 i.lexemes i.close (inner_holds s text Variable 0 0 0)
+unfolding tokens_of_expression
+expression_in_order s source = in_order_at s (text_of s source) 0

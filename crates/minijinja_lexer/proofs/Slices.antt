@@ -18,7 +18,7 @@ use Rattle.minijinja_lexer.specs.Whitespace.{body_of, control_at, tail_len, line
 use Rattle.minijinja_lexer.specs.Raw.{raw_at, endraw_at, endraw_from, next_endraw, or_later, raw_block, raw_kept_len}
 use Rattle.minijinja_lexer.specs.Cut.{Segment, comment, unclosed_comment, segment_at, segment_of, tag_at, block_to, raw_to, comment_at, next_delimiter, cut_at, cut_from, stop_of, inner_at}
 use Rattle.minijinja_lexer.specs.Relation.{IsInner}
-use Rattle.minijinja_lexer.specs.TextTokens.{text_of, lexeme_token, close_tokens, close_stream, segment_tokens, data_tokens, stream_at, stream_in, behind_expression, refusal, end_tok, start_tok, tokens_of_template, tokens_of_expression}
+use Rattle.minijinja_lexer.specs.TextTokens.{text_of, lexeme_token, close_tokens, close_stream, segment_tokens, data_tokens, stream_at, stream_in, behind_expression, refusal, end_tok, start_tok, tokens_of_template, tokens_of_expression, tokens_of_expression_at}
 use Rattle.minijinja_lexer.specs.Slices.{IsRawText, IsSliceAt, AreSlices, AreSegmentSlices, AreCutSlices}
 use Rattle.minijinja_lexer.specs.Controls.{Control, Absent, Remove, Preserve}
 use Rattle.minijinja_lexer.specs.Symbols.{Symbol}
@@ -234,9 +234,12 @@ close_stream_slices text k (Closed start stop after) = (end_slice text k start s
 close_stream_slices text k Broken = tt
 close_stream_slices text k (Refused f start place) = tt
 
+pub slices_at : (s : Syntax) (text : Text) (at : ℕ) → AreSlices text (tokens_of_expression_at s text at).tokens
+unfolding tokens_of_expression_at stream_in
+slices_at s text at =
+    let i = inner_at s text Variable 0 0 at in
+    slices_append text (map (lexeme_token text) i.lexemes) _ (lexemes_slices s text Variable 0 0 at i.lexemes i.close (inner_holds s text Variable 0 0 at)) (close_stream_slices text Variable i.close)
+
 pub expression_slices : (s : Syntax) (source : Text) → AreSlices (text_of s source) (tokens_of_expression s source).tokens
-unfolding tokens_of_expression stream_in
-expression_slices s source =
-    let text : Text = text_of s source in
-    let i = inner_at s text Variable 0 0 0 in
-    slices_append text (map (lexeme_token text) i.lexemes) _ (lexemes_slices s text Variable 0 0 0 i.lexemes i.close (inner_holds s text Variable 0 0 0)) (close_stream_slices text Variable i.close)
+unfolding tokens_of_expression
+expression_slices s source = slices_at s (text_of s source) 0

@@ -20,5 +20,6 @@ pub mod Cut
 pub mod TextTokens
 pub mod Relation
 pub mod Slices
+pub mod Standing
 pub mod Columns
 pub mod private

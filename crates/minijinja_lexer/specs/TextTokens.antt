@@ -146,6 +146,11 @@ behind_expression text stop after = if stop == length text then ended finished e
 unfoldable pub tokens_of_template : Syntax → Text → Stream
 tokens_of_template s source = stream_at s (text_of s source) 0
 
--- the tokens of an expression: the text is one variable tag without its marker
+-- the tokens of an expression that a text is from a place on: that is one variable tag without its
+-- marker
+unfoldable pub tokens_of_expression_at : Syntax → Text → ℕ → Stream
+tokens_of_expression_at s text at = stream_in s text Variable (behind_expression text) 0 0 at
+
+-- the tokens of an expression by itself
 unfoldable pub tokens_of_expression : Syntax → Text → Stream
-tokens_of_expression s source = let text = text_of s source in stream_in s text Variable (behind_expression text) 0 0 0
+tokens_of_expression s source = tokens_of_expression_at s (text_of s source) 0

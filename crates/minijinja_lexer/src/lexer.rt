@@ -1,12 +1,14 @@
 //! The public tokenizer. A clause sees the tokens to come.
-ghost use Rattle.std.specs.Prelude.{◌≡◌, ◌≢◌, ◌<◌, ◌^◌, length, IfErr, IfOk, IfSome, if◌then◌else◌};
+ghost use Rattle.std.specs.Prelude.{◌≡◌, ◌≢◌, ◌<◌, ◌≤◌, ◌^◌, length, take, IfErr, IfOk, IfSome, if◌then◌else◌};
+ghost use Rattle.std.specs.Str.{IsCharBoundary};
 ghost use Rattle.minijinja_syntax.specs.Errors.{IsOutOfMemory, kind_of};
+ghost use Rattle.minijinja_syntax.specs.Positions.{span_at};
 ghost use Rattle.minijinja_syntax.specs.Tokens.{tok_of};
 ghost use Rattle.minijinja_syntax.specs.declared.error.ErrorKind.TheVariants.{OutOfMemory};
 ghost use Rattle.minijinja_lexer.specs.Slices.{IsBetweenChars, IsTokenText};
 ghost use Rattle.minijinja_lexer.specs.Stream.{Answers, IsNamed, IsTokenizerKind};
 ghost use Rattle.minijinja_lexer.specs.private.States.{StateFits, Steps, Takes, stream_from};
-ghost use Rattle.minijinja_lexer.specs.TextTokens.{text_of, tokens_of_template, tokens_of_expression};
+ghost use Rattle.minijinja_lexer.specs.TextTokens.{text_of, tokens_of_template, tokens_of_expression, tokens_of_expression_at};
 
 use crate::cursor::Cursor;
 use crate::fault::{refuse, refuse_for_memory};
@@ -21,6 +23,7 @@ use minijinja_syntax::syntax::SyntaxConfig;
 use minijinja_syntax::tokens::{Span, Token};
 use std::alloc::Global;
 use std::marker::Model;
+use std::ops::Range;
 
 /// The next step from a state.
 fn next_step<'s>(
@@ -73,7 +76,7 @@ impl<'s, 'c> Model for Tokenizer<'s, 'c> {
 impl<'s, 'c> Tokenizer<'s, 'c> {
     /// A tokenizer of a template, or of one expression. It keeps the allocator for tokens that need
     /// memory.
-    #[tactic(auto, unfolding(crate::specs::TextTokens::tokens_of_template, crate::specs::TextTokens::tokens_of_expression))]
+    #[tactic(auto, unfolding(crate::specs::TextTokens::tokens_of_template, crate::specs::TextTokens::tokens_of_expression, crate::specs::TextTokens::tokens_of_expression_at))]
     pub fn new(
         alloc: Global,
         input: &'s str,
@@ -105,6 +108,50 @@ impl<'s, 'c> Tokenizer<'s, 'c> {
             syntax,
             alloc,
         }
+    }
+
+    /// A tokenizer of one expression, which takes the bytes of `range` in a larger file, and where
+    /// it begins, as an empty span. Spans are places in the file, and nothing is stripped from the
+    /// end of the expression. The lines before it are counted, which takes time in proportion to
+    /// what stands there.
+    ///
+    /// With the range `7..15` of `port = base + 1`, for instance, the tokens are those of
+    /// `base + 1`, and the first stands in columns 7 to 11. A dot that stands right before `range`
+    /// counts as one before a number.
+    #[tactic(auto, unfolding(crate::specs::TextTokens::tokens_of_expression_at))]
+    pub fn expression_in(
+        alloc: Global,
+        file: &'s str,
+        range: Range<usize>,
+        filename: &'s str,
+        syntax: &'c SyntaxConfig,
+    ) -> (Self, Span)
+        requires short { length file.now < 2 ^ 32 }
+        requires ordered { range.start ≤ range.end }
+        requires start { IsCharBoundary file.now range.start }
+        requires end { IsCharBoundary file.now range.end }
+        ensures syntax { result.0.syntax ≡ syntax.now }
+        ensures filename { result.0.filename ≡ filename.now }
+        ensures source { result.0.source ≡ take range.end file.now }
+        ensures stream { result.0.stream ≡
+            tokens_of_expression_at syntax.now (take range.end file.now) range.start }
+        ensures begin { result.1 ≡ span_at (take range.end file.now) range.start range.start }
+    {
+        let mut cursor = Cursor::new(&file[..range.end]);
+        let begin = cursor.span(range.start, range.start);
+        let tokenizer = Tokenizer {
+            filename,
+            cursor,
+            state: State::Inside {
+                tag: Tag::Variable,
+                opened: 0,
+                shut: 0,
+                whole: true,
+            },
+            syntax,
+            alloc,
+        };
+        (tokenizer, begin)
     }
 
     /// The name of the source.

@@ -4,40 +4,41 @@ use Rattle.std.proofs.Common.{◌≡◌, [], ◌⊎◌, inl, inr, None, Result, 
 use Rattle.minijinja_syntax.specs.Errors.{kind_of, span_of}
 use Rattle.minijinja_syntax.specs.Texts.{Text}
 use Rattle.minijinja_syntax.specs.Streams.{Stream}
+use Rattle.minijinja_syntax.specs.declared.tokens.Span.{Span}
 use Rattle.minijinja_syntax.specs.declared.error.Error.{Error}
 use Rattle.minijinja_syntax.specs.declared.error.ErrorKind.TheVariants.{OutOfMemory}
 use Rattle.minijinja_grammar.specs.Places.{Place}
 use Rattle.minijinja_parser.specs.Causes.{IsLimit, IsRefusal}
 use Rattle.minijinja_parser.specs.Parsing.{AnswersItsRefusal, HasRefused}
-use Rattle.minijinja_parser_tokens.specs.TokenStreams.{Comes, first_place, no_place, stream_at}
+use Rattle.minijinja_parser_tokens.specs.TokenStreams.{Comes, place_after, stream_at}
 
-module _ {A X : Type 0} (T : Place → A → Type 0) (view : X → A) (text : Text) (s : Stream) (p : Place) (r : Result X Error)
-    (source : p.source ≡ text) (last : p.last ≡ no_place) (names : p.names ≡ []) (comes : Comes s (stream_at p))
+module _ {A X : Type 0} (T : Place → A → Type 0) (view : X → A) (text : Text) {from : Span} (s : Stream) (p : Place) (r : Result X Error)
+    (source : p.source ≡ text) (last : p.last ≡ from) (names : p.names ≡ []) (comes : Comes s (stream_at p))
     (again : HasRefused p OutOfMemory None → IsErrAnd r (λ e. (kind_of e ≡ OutOfMemory) × (span_of e ≡ None))) where
   -- the place is before the first token, or the result is a refusal for memory
-  begun : (first_place text s ≡ p) ⊎ IsErrAnd r (λ e. (kind_of e ≡ OutOfMemory) × (span_of e ≡ None))
+  begun : (place_after text from s ≡ p) ⊎ IsErrAnd r (λ e. (kind_of e ≡ OutOfMemory) × (span_of e ≡ None))
   begun = go comes
     where
-      go : Comes s (stream_at p) → (first_place text s ≡ p) ⊎ IsErrAnd r (λ e. (kind_of e ≡ OutOfMemory) × (span_of e ≡ None))
+      go : Comes s (stream_at p) → (place_after text from s ≡ p) ⊎ IsErrAnd r (λ e. (kind_of e ≡ OutOfMemory) × (span_of e ≡ None))
       go (inl e) = let i = ap (λ (t : Stream). t.tokens) e in let j = ap (λ (t : Stream). t.ending) e in inl (rw (sym source, sym last, sym names, sym i, sym j) refl)
       go (inr h) = inr (again h.0)
 
   -- what is said of a result there is said of it before the first token
-  pub begun_ok : (P : Place → X → Type 0) → IfOk r (P p) → IfOk r (P (first_place text s))
+  pub begun_ok : (P : Place → X → Type 0) → IfOk r (P p) → IfOk r (P (place_after text from s))
   begun_ok P h = go begun
     where
-      none : (o : Result X Error) → IsErrAnd o (λ e. (kind_of e ≡ OutOfMemory) × (span_of e ≡ None)) → IfOk o (P (first_place text s))
+      none : (o : Result X Error) → IsErrAnd o (λ e. (kind_of e ≡ OutOfMemory) × (span_of e ≡ None)) → IfOk o (P (place_after text from s))
       none (Ok x) k = absurd k
       none (Err e) k = tt
 
-      go : (first_place text s ≡ p) ⊎ IsErrAnd r (λ e. (kind_of e ≡ OutOfMemory) × (span_of e ≡ None)) → IfOk r (P (first_place text s))
+      go : (place_after text from s ≡ p) ⊎ IsErrAnd r (λ e. (kind_of e ≡ OutOfMemory) × (span_of e ≡ None)) → IfOk r (P (place_after text from s))
       go (inl e) = subst (λ q. IfOk r (P q)) (sym e) h
       go (inr k) = none r k
 
-  pub begun_refused : IfErr r (λ e. IsRefusal e → (t : A) → T p t → ⊥) → IfErr r (λ e. IsRefusal e → (t : A) → T (first_place text s) t → ⊥)
+  pub begun_refused : IfErr r (λ e. IsRefusal e → (t : A) → T p t → ⊥) → IfErr r (λ e. IsRefusal e → (t : A) → T (place_after text from s) t → ⊥)
   begun_refused h = go begun
     where
-      none : (o : Result X Error) → IsErrAnd o (λ e. (kind_of e ≡ OutOfMemory) × (span_of e ≡ None)) → IfErr o (λ e. IsRefusal e → (t : A) → T (first_place text s) t → ⊥)
+      none : (o : Result X Error) → IsErrAnd o (λ e. (kind_of e ≡ OutOfMemory) × (span_of e ≡ None)) → IfErr o (λ e. IsRefusal e → (t : A) → T (place_after text from s) t → ⊥)
       none (Ok x) k = tt
       none (Err e) k = λ i t d. at_fault i k.0
         where
@@ -45,12 +46,12 @@ module _ {A X : Type 0} (T : Place → A → Type 0) (view : X → A) (text : Te
           at_fault (inl j) m = cc
           at_fault (inr j) m = cc
 
-      go : (first_place text s ≡ p) ⊎ IsErrAnd r (λ e. (kind_of e ≡ OutOfMemory) × (span_of e ≡ None)) → IfErr r (λ e. IsRefusal e → (t : A) → T (first_place text s) t → ⊥)
+      go : (place_after text from s ≡ p) ⊎ IsErrAnd r (λ e. (kind_of e ≡ OutOfMemory) × (span_of e ≡ None)) → IfErr r (λ e. IsRefusal e → (t : A) → T (place_after text from s) t → ⊥)
       go (inl e) = subst (λ q. IfErr r (λ e. IsRefusal e → (t : A) → T q t → ⊥)) (sym e) h
       go (inr k) = none r k
 
   pub begun_only : ((t : A) → T p t → MatchResult r (λ x. view x ≡ t) (λ e. kind_of e ≡ OutOfMemory)) →
-      (t : A) → T (first_place text s) t → MatchResult r (λ x. view x ≡ t) IsLimit
+      (t : A) → T (place_after text from s) t → MatchResult r (λ x. view x ≡ t) IsLimit
   begun_only h t d = go begun
     where
       memory : (o : Result X Error) → IsErrAnd o (λ e. (kind_of e ≡ OutOfMemory) × (span_of e ≡ None)) → MatchResult o (λ x. view x ≡ t) IsLimit
@@ -61,17 +62,17 @@ module _ {A X : Type 0} (T : Place → A → Type 0) (view : X → A) (text : Te
       wider (Ok x) k = k
       wider (Err e) k = inl k
 
-      go : (first_place text s ≡ p) ⊎ IsErrAnd r (λ e. (kind_of e ≡ OutOfMemory) × (span_of e ≡ None)) → MatchResult r (λ x. view x ≡ t) IsLimit
+      go : (place_after text from s ≡ p) ⊎ IsErrAnd r (λ e. (kind_of e ≡ OutOfMemory) × (span_of e ≡ None)) → MatchResult r (λ x. view x ≡ t) IsLimit
       go (inl e) = wider r (h t (subst (λ q. T q t) e d))
       go (inr k) = memory r k
 
-  pub begun_first : AnswersItsRefusal T p r → AnswersItsRefusal T (first_place text s) r
+  pub begun_first : AnswersItsRefusal T p r → AnswersItsRefusal T (place_after text from s) r
   begun_first h = go begun
     where
-      memory : (o : Result X Error) → IsErrAnd o (λ e. (kind_of e ≡ OutOfMemory) × (span_of e ≡ None)) → AnswersItsRefusal T (first_place text s) o
+      memory : (o : Result X Error) → IsErrAnd o (λ e. (kind_of e ≡ OutOfMemory) × (span_of e ≡ None)) → AnswersItsRefusal T (place_after text from s) o
       memory (Ok x) k = absurd k
       memory (Err e) k = λ kind span i j. inr k.0
 
-      go : (first_place text s ≡ p) ⊎ IsErrAnd r (λ e. (kind_of e ≡ OutOfMemory) × (span_of e ≡ None)) → AnswersItsRefusal T (first_place text s) r
+      go : (place_after text from s ≡ p) ⊎ IsErrAnd r (λ e. (kind_of e ≡ OutOfMemory) × (span_of e ≡ None)) → AnswersItsRefusal T (place_after text from s) r
       go (inl e) = subst (λ q. AnswersItsRefusal T q r) (sym e) h
       go (inr k) = memory r k

@@ -66,6 +66,12 @@ AnswersTokenizerAt f p r = AnswersItsRefusal (IsTemplateTree f) p r
 abbrev pub AnswersExprTokenizerAt : {A C F : Type 0} → Functions C F → Place → Result A Error → Type 0
 AnswersExprTokenizerAt f p r = AnswersItsRefusal (IsExprTree f) p r
 
+-- the expression that is derived from them is returned, unless memory ran out or the source is too
+-- long
+abbrev pub AnswersExprWithinLimits : {V E C F : Type 0} → Functions C F → (V → C) → Place → Result (Expr V E) Error → Type 0
+AnswersExprWithinLimits f contents p r =
+    (t : _) → IsExprTree f p t → MatchResult r (λ x. expr_tree contents x ≡ t) IsLimit
+
 -- ---- of a text
 
 -- the template's tree is derived
@@ -91,8 +97,7 @@ IsNoExpr f syntax source e = IsRefusal e → (t : _) → IsExprDerived f syntax 
 
 -- the expression that is derived is returned, unless memory ran out or the source is too long
 abbrev pub AnswersExpr : {V E C F : Type 0} → Functions C F → (V → C) → Syntax → Text → Result (Expr V E) Error → Type 0
-AnswersExpr f contents syntax source r =
-    (t : _) → IsExprDerived f syntax source t → MatchResult r (λ x. expr_tree contents x ≡ t) IsLimit
+AnswersExpr f contents syntax source r = AnswersExprWithinLimits f contents (expr_place syntax source) r
 
 -- the refusal of the tokenizer that stands after tokens which fit a template is returned
 abbrev pub AnswersTokenizer : {A C F : Type 0} → Functions C F → Syntax → Text → Result A Error → Type 0

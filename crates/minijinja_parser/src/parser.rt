@@ -1,11 +1,13 @@
 //! The parser: from the tokens of a source to its tree, or to an error.
-ghost use Rattle.std.specs.Prelude.{◌≡◌, ◌≢◌, ◌<◌, ◌≤◌, ◌^◌, [], codes, length, IfErr, IfOk, IsErrAnd, None};
+ghost use Rattle.std.specs.Prelude.{◌≡◌, ◌≢◌, ◌<◌, ◌≤◌, ◌^◌, [], codes, length, take, IfErr, IfOk, IsErrAnd, None};
+ghost use Rattle.std.specs.Str.{IsCharBoundary};
 ghost use Rattle.minijinja_syntax.specs.Errors.{IsOutOfMemory, kind_of, span_of};
+ghost use Rattle.minijinja_syntax.specs.Positions.{span_at};
 ghost use Rattle.minijinja_syntax.specs.Streams.{refused};
 ghost use Rattle.minijinja_syntax.specs.Syntax.{default_syntax};
 ghost use Rattle.minijinja_syntax.specs.declared.error.ErrorKind.TheVariants.{OutOfMemory, SourceTooLong, SyntaxError};
 ghost use Rattle.minijinja_lexer.specs.Stream.{IsNamed, IsTokenizerKind};
-ghost use Rattle.minijinja_lexer.specs.TextTokens.{text_of};
+ghost use Rattle.minijinja_lexer.specs.TextTokens.{text_of, tokens_of_expression_at};
 ghost use Rattle.minijinja_tree.specs.Erasure.{expr_tree, stmt_tree};
 ghost use Rattle.minijinja_tree.specs.SpannedErasure.{expr_node, stmt_node};
 ghost use Rattle.minijinja_tree.specs.Tree.{template};
@@ -14,9 +16,9 @@ ghost use Rattle.minijinja_grammar.specs.internal.Forms.{reads};
 ghost use Rattle.minijinja_grammar.specs.internal.ExprForms.{expr_at};
 ghost use Rattle.minijinja_grammar.specs.Derived.{max_depth};
 ghost use Rattle.minijinja_grammar.specs.internal.TemplateForms.{template_at};
-ghost use Rattle.minijinja_parser.specs.Answers.{AnswersExpr, AnswersExprAt, AnswersExprTokenizer, AnswersExprTokenizerAt, AnswersTemplate, AnswersTemplateAt, AnswersTokenizer, AnswersTokenizerAt, EscapesIn, ExprStandsAt, IsEmptyTemplate, IsExprAt, IsExprOf, IsNoExpr, IsNoExprAt, IsNoTemplate, IsNoTemplateAt, IsShort, IsTemplateAt, IsTemplateOf, IsTooLong, IsUnrefused, Repeats, StandsAt, WantsExpr};
+ghost use Rattle.minijinja_parser.specs.Answers.{AnswersExpr, AnswersExprAt, AnswersExprTokenizer, AnswersExprTokenizerAt, AnswersExprWithinLimits, AnswersTemplate, AnswersTemplateAt, AnswersTokenizer, AnswersTokenizerAt, EscapesIn, ExprStandsAt, IsEmptyTemplate, IsExprAt, IsExprOf, IsNoExpr, IsNoExprAt, IsNoTemplate, IsNoTemplateAt, IsShort, IsTemplateAt, IsTemplateOf, IsTooLong, IsUnrefused, Repeats, StandsAt, WantsExpr};
 ghost use Rattle.minijinja_parser.specs.Causes.{IsCause, IsUnplaced};
-ghost use Rattle.minijinja_parser.specs.Derived.{expr_place, template_place, tokens_of};
+ghost use Rattle.minijinja_parser.specs.Derived.{expr_place, expr_place_in, template_place, tokens_of};
 ghost use Rattle.minijinja_parser.specs.Parsing.{HasRefused, IsSpent};
 ghost use Rattle.minijinja_parser_tokens.specs.TokenStreams.{Comes, no_place, stream_at};
 ghost use Rattle.minijinja_parser.specs.private.Wholes.{Ends, IsErrorAt, ReadsWhole};
@@ -36,6 +38,7 @@ use minijinja_tree::ast::{Expr, Stmt};
 use minijinja_value::value::TemplateValue;
 use std::alloc::{AllocError, Global};
 use std::marker::Model;
+use std::ops::Range;
 
 /// How deep statements and expressions may nest.
 const MAX_DEPTH: usize = 300;
@@ -83,6 +86,36 @@ impl<'s, 'c> Parser<'s, 'c> {
     {
         Parser {
             tokens: TokenStream::new(alloc, source, filename, in_expr, syntax),
+            filename,
+            syntax,
+            alloc,
+        }
+    }
+
+    /// A parser at the first token of one expression, for `parse_standalone_expr`. The expression
+    /// takes the bytes of `range` in a larger file of fewer than 2^32 bytes.
+    pub fn expression_in(
+        alloc: Global,
+        file: &'s str,
+        range: Range<usize>,
+        filename: &'s str,
+        syntax: &'c SyntaxConfig,
+    ) -> Self
+        requires short { IsShort file.now }
+        requires ordered { range.start ≤ range.end }
+        requires start { IsCharBoundary file.now range.start }
+        requires end { IsCharBoundary file.now range.end }
+        ensures filename { result.filename ≡ filename.now }
+        ensures source { result.place.source ≡ take range.end file.now }
+        ensures last { result.place.last ≡
+            span_at (take range.end file.now) range.start range.start }
+        ensures names { result.place.names ≡ [] }
+        ensures stream { Comes
+            (tokens_of_expression_at syntax.now (take range.end file.now) range.start)
+            (stream_at result.place) }
+    {
+        Parser {
+            tokens: TokenStream::expression_in(alloc, file, range, filename, syntax),
             filename,
             syntax,
             alloc,
@@ -443,5 +476,75 @@ pub fn parse_expr<'s, V: TemplateValue>(
     }
     let syntax = SyntaxConfig::default();
     let mut parser = Parser::new(alloc, source, EXPRESSION_NAME, true, &syntax);
+    parser.parse_standalone_expr()
+}
+
+/// The tree of one expression that stands in a larger file: it takes the bytes of `range`. Lines,
+/// columns and offsets are those of the file, also in errors, which name it `filename`.
+///
+/// It takes time for what stands before `range`, whose lines are counted. Nothing is stripped from
+/// the end of the expression, and a dot that stands right before it counts as one before a number.
+///
+/// ```
+/// let file = "name = 'x'\nport = base + 1\n";
+/// let port: Expr<Value> = parse_expr_in(alloc, file, 18..26, "app.conf", &syntax)?;
+/// // `base` stands on line 2, in columns 7 to 11.
+/// ```
+///
+/// Errors: a syntax error or a bad escape, memory that was refused, and a file of 2^32 bytes or
+/// more.
+pub fn parse_expr_in<'s, V: TemplateValue>(
+    alloc: Global,
+    file: &'s str,
+    range: Range<usize>,
+    filename: &'s str,
+    syntax: &SyntaxConfig,
+) -> Result<Expr<'s, V>, Error<'s>>
+    // The range is one by which the file can be sliced.
+    requires ordered { range.start ≤ range.end }
+    requires start { IsCharBoundary file.now range.start }
+    requires end { IsCharBoundary file.now range.end }
+
+    // The result is derived from what stands in the range.
+    ensures found { IfOk result (IsExprAt V.functions V.contents
+        (expr_place_in syntax.now file.now range.start range.end)) }
+
+    // What is refused as a syntax error or for a bad escape is not derived, whatever the tree.
+    ensures refused { IfErr result (IsNoExprAt V.functions
+        (expr_place_in syntax.now file.now range.start range.end)) }
+
+    // If a tree is derived, it is the only one and the result, unless memory ran out or the file is
+    // too long.
+    ensures only { AnswersExprWithinLimits V.functions V.contents
+        (expr_place_in syntax.now file.now range.start range.end) result }
+
+    // A file is too long exactly from 2^32 bytes on.
+    ensures too_long { 2 ^ 32 ≤ length file.now → IsErrAnd result IsTooLong }
+    ensures too_long_only { IfErr result (λ e. IsTooLong e → 2 ^ 32 ≤ length file.now) }
+
+    // A bad escape is the one that the tokens end with.
+    ensures bad_escape { IfErr result
+        (EscapesIn (expr_place_in syntax.now file.now range.start range.end)) }
+    // The tokenizer's refusal is the result if all tokens before it fit.
+    ensures first { IsShort file.now → AnswersExprTokenizerAt V.functions
+        (expr_place_in syntax.now file.now range.start range.end) result }
+
+    ensures causes { IfErr result IsCause }
+
+    // A refusal names the file, unless memory ran out.
+    ensures named { IfErr result (λ e. kind_of e ≢ OutOfMemory → IsNamed filename.now e) }
+
+    // Where memory ran out, it has neither name nor place, and where the file is too long, no
+    // place.
+    ensures unplaced { IfErr result IsUnplaced }
+
+    ensures well_formed { IfOk result (λ x. IsWhole (expr_tree V.contents x)) }
+    ensures spans { IfOk result (ExprStandsAt V.contents
+        (expr_place_in syntax.now file.now range.start range.end)) }
+{
+    if file.len() >= SOURCE_LIMIT {
+        return Err(too_long(filename));
+    }
+    let mut parser = Parser::expression_in(alloc, file, range, filename, syntax);
     parser.parse_standalone_expr()
 }

@@ -20,9 +20,13 @@ no_place = record { start_line = 0; start_col = 0; start_offset = 0; end_line = 
 abbrev pub stream_at : Place → Stream
 stream_at p = record { tokens = p.tokens; ending = p.ending }
 
--- the place before the first of these tokens
+-- the place before the first of these tokens, after one that stands at `last`
+abbrev pub place_after : Text → (last : Span) → Stream → Place
+place_after text last s = record { source = text; tokens = s.tokens; ending = s.ending; last = last; names = [] }
+
+-- the place before the first of these tokens, after none
 abbrev pub first_place : Text → Stream → Place
-first_place text s = record { source = text; tokens = s.tokens; ending = s.ending; last = no_place; names = [] }
+first_place text s = place_after text no_place s
 
 -- the tokens to come after one is looked at: those, or a refusal for memory if the next of them
 -- needs some

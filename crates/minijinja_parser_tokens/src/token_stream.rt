@@ -1,8 +1,10 @@
 //! The tokens of a text, of which the next one can be looked at before it is taken.
-ghost use Rattle.std.specs.Prelude.{◌≡◌, ◌<◌, ◌^◌, [], length, IfErr, IfSome, if◌then◌else◌};
+ghost use Rattle.std.specs.Prelude.{◌≡◌, ◌<◌, ◌≤◌, ◌^◌, [], length, take, IfErr, IfSome, if◌then◌else◌};
+ghost use Rattle.std.specs.Str.{IsCharBoundary};
 ghost use Rattle.minijinja_syntax.specs.Errors.{IsOutOfMemory, kind_of, span_of};
 ghost use Rattle.minijinja_lexer.specs.Stream.{IsTokenizerKind};
-ghost use Rattle.minijinja_lexer.specs.TextTokens.{text_of, tokens_of_template, tokens_of_expression};
+ghost use Rattle.minijinja_lexer.specs.TextTokens.{text_of, tokens_of_template, tokens_of_expression, tokens_of_expression_at};
+ghost use Rattle.minijinja_syntax.specs.Positions.{span_at};
 ghost use Rattle.minijinja_syntax.specs.Streams.{refused};
 ghost use Rattle.minijinja_syntax.specs.declared.error.ErrorKind.TheVariants.{OutOfMemory};
 ghost use Rattle.minijinja_grammar.specs.internal.Forms.{start_at};
@@ -18,6 +20,7 @@ use std::alloc::Global;
 use std::collections::BTreeSet;
 use std::marker::Model;
 use std::mem;
+use std::ops::Range;
 
 /// The tokens of a text. The next one can be looked at before it is taken.
 #[derive(Drop)]
@@ -60,12 +63,48 @@ impl<'s, 'c> TokenStream<'s, 'c> {
         ensures last { result.last ≡ no_place }
         ensures names { result.names ≡ [] }
     {
-        let mut tokenizer = Tokenizer::new(alloc, source, filename, in_expr, syntax);
+        let tokenizer = Tokenizer::new(alloc, source, filename, in_expr, syntax);
+        TokenStream::of_tokenizer(alloc, tokenizer, Span::default())
+    }
+
+    /// The tokens of one expression, which takes the bytes of `range` in a larger file of fewer than
+    /// 2^32 bytes; they are those of [`Tokenizer::expression_in`]. Before the first is taken, the
+    /// last one taken is an empty one where the range begins. Errors name the file `filename`.
+    pub fn expression_in(
+        alloc: Global,
+        file: &'s str,
+        range: Range<usize>,
+        filename: &'s str,
+        syntax: &'c SyntaxConfig,
+    ) -> Self
+        requires short { length file.now < 2 ^ 32 }
+        requires ordered { range.start ≤ range.end }
+        requires start { IsCharBoundary file.now range.start }
+        requires end { IsCharBoundary file.now range.end }
+        ensures source { result.source ≡ take range.end file.now }
+        ensures stream { Comes
+            (tokens_of_expression_at syntax.now (take range.end file.now) range.start)
+            (stream_at result) }
+        ensures last { result.last ≡
+            span_at (take range.end file.now) range.start range.start }
+        ensures names { result.names ≡ [] }
+    {
+        let (tokenizer, begin) = Tokenizer::expression_in(alloc, file, range, filename, syntax);
+        TokenStream::of_tokenizer(alloc, tokenizer, begin)
+    }
+
+    /// The tokens that a tokenizer has yet to return, after one that stands at `last_span`.
+    fn of_tokenizer(alloc: Global, mut tokenizer: Tokenizer<'s, 'c>, last_span: Span) -> Self
+        ensures source { result.source ≡ tokenizer.entry.source }
+        ensures stream { Comes tokenizer.entry.stream (stream_at result) }
+        ensures last { result.last ≡ last_span }
+        ensures names { result.names ≡ [] }
+    {
         let current = tokenizer.next_token();
         TokenStream {
             tokenizer,
             current,
-            last_span: Span::default(),
+            last_span,
             names: BTreeSet::new(alloc),
             open: None,
         }
@@ -114,7 +153,8 @@ impl<'s, 'c> TokenStream<'s, 'c> {
         self.tokenizer.source()
     }
 
-    /// Where the last token taken stands: zeros before any.
+    /// Where the last token taken stands: zeros before any, and in a larger file where the range of
+    /// the expression begins.
     pub fn last_span(&self) -> Span
         ensures { result ≡ self.now.last }
     {

@@ -1,6 +1,6 @@
 //! Whole compiles: templates and expressions with ample memory, and what is refused.
-use super::{Subject, compile_page, hold, page_length};
-use crate::compile::{Compiled, compile_expression};
+use super::{Subject, compile_page, hold, marked, page_length, parted, syntax_of};
+use crate::compile::{Compiled, compile_expression, compile_expression_in};
 use crate::error::{Error, ErrorKind};
 use crate::instructions::Instructions;
 use crate::value::Value;
@@ -207,6 +207,51 @@ a +␊'b' '\x' => 2:4 BadEscape (in <expression>:2)
 a␊) => 2:0 SyntaxError (in <expression>:2)
 "#;
     hold::<Expressions>(&rt, rt.alloc(), rows)
+}
+
+/// The name, the span and the bytes of a refusal, after its kind.
+fn place_in_file(alloc: Global, error: Error<'_>) -> Result<String, AllocError> {
+    let span = error.span().unwrap_or_default();
+    let name = error.name().unwrap_or("");
+    let bytes = format!(in alloc; "{}-{}", span.start_offset, span.end_offset)?;
+    format!(in alloc; "{:?} in {name}{span:?}, bytes {bytes}", error.kind())
+}
+
+/// Files in which an expression stands between `«` and `»`, after a syntax: the name and the length
+/// of its code, or why and where it is refused.
+enum ExpressionsInFiles {}
+
+impl Subject for ExpressionsInFiles {
+    fn words(alloc: Global, text: &str) -> Result<String, Fail> {
+        let (options, file) = parted(text, " | ");
+        let syntax = syntax_of(alloc, options)?;
+        match compile_expression_in::<Value>(alloc, file, marked(file)?, "app.conf", &syntax) {
+            Ok(code) => Ok(length_of(alloc, &code, file)?),
+            Err(error) => Ok(place_in_file(alloc, error)?),
+        }
+    }
+}
+
+/// The first two lines have 18 characters and 20 bytes, and each has a line end; on the third the
+/// expression begins after 8 characters and 9 bytes.
+#[test]
+fn refusals_in_a_file_name_its_places(rt: HostRuntime) -> Result<(), Fail> {
+    let rows = r#"
+default | # délais␊host = "é"␊wait = «a» + b␊ => app.conf: 1
+default | # délais␊host = "é"␊wait = «a␊␊» => app.conf: 1
+default | # délais␊host = "é"␊wait = «base * )» => SyntaxError in app.conf @ 3:15-3:16, bytes 38-39
+default | # délais␊host = "é"␊wait = 2␊␊x, é = «a␊ ? b» => SyntaxError in app.conf @ 6:1-6:2, bytes 45-46
+default | # délais␊host = "é"␊wait = «» => SyntaxError in app.conf @ 3:8-3:8, bytes 31-31
+default | # délais␊host = "é"␊wait = «a +» => SyntaxError in app.conf @ 3:10-3:11, bytes 33-34
+default | # délais␊host = "é"␊wait = «a ~ '\x'» => BadEscape in app.conf @ 3:12-3:16, bytes 35-39
+default | # délais␊host = "é"␊wait = «'a\»n' ~ b␊ => SyntaxError in app.conf @ 3:11-3:12, bytes 34-35
+default | # délais␊host = "é"␊wait = «'a␊» ' => SyntaxError in app.conf @ 4:0-4:1, bytes 34-35
+default | # délais␊host = "é"␊wait = «a }}» => SyntaxError in app.conf @ 3:10-3:12, bytes 33-35
+variable [[ ]] | # délais␊host = "é"␊wait = «a }}» => SyntaxError in app.conf @ 3:10-3:11, bytes 33-34
+variable [[ ]] | # délais␊host = "é"␊wait = «a[b[0]]» => app.conf: 5
+variable [[ ]] | # délais␊host = "é"␊wait = «a ]]» => SyntaxError in app.conf @ 3:10-3:12, bytes 33-35
+"#;
+    hold::<ExpressionsInFiles>(&rt, rt.alloc(), rows)
 }
 
 /// Whether a refusal is want of memory, which names no place.

@@ -1,6 +1,6 @@
 //! The lines and the spans of compiled code.
-use super::{Subject, hold};
-use crate::compile::compile;
+use super::{Subject, hold, marked, parted, syntax_of};
+use crate::compile::{compile, compile_expression_in};
 use crate::instructions::Instructions;
 use crate::syntax::SyntaxConfig;
 use crate::value::Value;
@@ -29,15 +29,20 @@ enum Places {}
 impl Subject for Places {
     fn words(alloc: Global, text: &str) -> Result<String, Fail> {
         let compiled = compile::<Value>(alloc, text, "name", &SyntaxConfig::default())?;
-        let mut words = String::new(alloc);
-        for index in 0..100 {
-            if compiled.instructions.get(index).is_some() {
-                push_place(&mut words, &compiled.instructions, index)?;
-            }
-        }
-        words.push_str("end")?;
-        Ok(words)
+        Ok(places_of(alloc, &compiled.instructions)?)
     }
+}
+
+/// The place of each instruction.
+fn places_of(alloc: Global, code: &Instructions<'_, Value>) -> Result<String, AllocError> {
+    let mut words = String::new(alloc);
+    for index in 0..100 {
+        if code.get(index).is_some() {
+            push_place(&mut words, code, index)?;
+        }
+    }
+    words.push_str("end")?;
+    Ok(words)
 }
 
 /// The rows are what the upstream crate says of these texts.
@@ -49,4 +54,33 @@ fn instructions_have_places(rt: HostRuntime) -> Result<(), Fail> {
 {{ a.b }}{% set x = y %} => 1@1:3-1:6 1@1:3-1:6 1@1:3-1:6 1 1 end
 {{ 1 +␊2 }}{{ f(a,␊b) }} => 1@1:3-2:1 1@1:3-2:1 2@2:7-3:2 3 3 3 end";
     hold::<Places>(&rt, rt.alloc(), rows)
+}
+
+/// Files in which an expression stands between `«` and `»`, after a syntax: the lines and the spans of
+/// its instructions.
+enum PlacesInFiles {}
+
+impl Subject for PlacesInFiles {
+    fn words(alloc: Global, text: &str) -> Result<String, Fail> {
+        let (options, file) = parted(text, " | ");
+        let syntax = syntax_of(alloc, options)?;
+        let code = compile_expression_in::<Value>(alloc, file, marked(file)?, "app.conf", &syntax)?;
+        if code.source() != file || code.name() != "app.conf" {
+            return Err(Fail::from("another source"));
+        }
+        Ok(places_of(alloc, &code)?)
+    }
+}
+
+/// Lines count in the file, and columns in its characters: `é` is one, and has two bytes.
+#[test]
+fn instructions_have_places_of_the_file(rt: HostRuntime) -> Result<(), Fail> {
+    let rows = r#"
+default | # délais␊host = "é"␊wait = «base * 2» * 3␊retry = 3␊ => 3@3:8-3:16 3@3:8-3:16 3@3:8-3:16 end
+default | # délais␊host = "é"␊wait = 1␊retry = 3␊text = é «f(user)|g»; x = 1␊ => 5@5:10-5:17 5@5:10-5:17 5@5:18-5:19 end
+default | # délais␊host = "é"␊wait = « a < b␊» => 3@3:8-3:14 3@3:8-3:14 3@3:8-3:14 end
+default | # délais␊host = "é"␊wait = «a if␊ b» => 4 4 3 3 3 end
+variable [[ ]] | # délais␊host = "é"␊wait = «a[b[0]]» => 3@3:8-3:15 3@3:10-3:14 3@3:10-3:14 3@3:10-3:14 3@3:8-3:15 end
+"#;
+    hold::<PlacesInFiles>(&rt, rt.alloc(), rows)
 }
