@@ -18,9 +18,10 @@ ghost use Rattle.minijinja_emitter.specs.internal.Making.{followed, alone, betwe
 
 use crate::expr::expression;
 use minijinja_emitter::emit::{Emitter, Site};
-use minijinja_emitter::memory::{OutOfMemory, memory_alone};
+use minijinja_emitter::memory::OutOfMemory;
 use minijinja_instructions::instructions::{CompareOp as Operator, Instruction};
 use minijinja_tree::ast::{Compare, CompareOp, CompareOpKind};
+use minijinja_tree::fold::without_fault;
 use minijinja_value::value::TemplateValue;
 use std::alloc::Global;
 
@@ -120,7 +121,7 @@ fn compare_constants<V: TemplateValue>(
         let end = code.place();
         if let Some(left) = code.constant(last, last + 1) {
             if let Some(right) = code.constant(place, end) {
-                return memory_alone(op.holds(code.alloc(), left, right));
+                return Ok(without_fault(op.holds(code.alloc(), left, right))?);
             }
         }
     }

@@ -20,9 +20,10 @@ ghost use Rattle.minijinja_code_expr.specs.private.OperatorMarks.{EndsBinaryMark
 ghost use Rattle.minijinja_emitter.specs.internal.Margins.{replaced_if};
 
 use minijinja_emitter::emit::{Emitter, Site};
-use minijinja_emitter::memory::{OutOfMemory, memory_alone};
+use minijinja_emitter::memory::OutOfMemory;
 use minijinja_instructions::instructions::Instruction;
 use minijinja_tree::ast::{BinOp, BinOpKind, Expr, UnaryOpKind};
+use minijinja_tree::fold::without_fault;
 use minijinja_value::value::TemplateValue;
 
 /// Adds a unary operator after its operand, whose code is at `place`. With a constant operand it
@@ -40,7 +41,7 @@ pub(crate) fn end_unary<V: TemplateValue>(
         (made_of V.contents code.old) (margin_of code.old) (margin_of code.new)) }
 {
     if let Some(operand) = code.constant(place, code.place()) {
-        if let Some(value) = memory_alone(op.fold(code.alloc(), operand))? {
+        if let Some(value) = without_fault(op.fold(code.alloc(), operand))? {
             return code.replace(place, value, site);
         }
     }
@@ -189,7 +190,7 @@ fn fold_between<V: TemplateValue>(
 {
     if let Some(left) = code.constant(start, middle) {
         if let Some(right) = code.constant(middle, code.place()) {
-            return memory_alone(op.fold_of(code.alloc(), left, right));
+            return Ok(without_fault(op.fold_of(code.alloc(), left, right))?.flatten());
         }
     }
     Ok(None)

@@ -1,6 +1,6 @@
 -- Parts of macros while their code is being made.
 use Rattle.std.proofs.Common.{◌≡◌, ℕ, ◌+◌, ◌<◌, ◌≤◌, List, [], ◌∷◌, ◌++◌, length, map, drop, get_or, Option, Some, None, refl, sym, ap, ◌∙◌, subst, arith, append_assoc, length-append, slice_set}
-use Rattle.std.specs.Prelude.{Bool, true, false, cond, not, ◌||◌, if◌then◌else◌, MatchOption, filter, reverse, bytes_eq}
+use Rattle.std.specs.Prelude.{Bool, true, false, cond, not, ◌||◌, if◌then◌else◌, IfOk, MatchOption, Ok, Result, filter, reverse, bytes_eq}
 use Rattle.std.specs.Borrow.{Bor}
 use Rattle.std.specs.List.{IsLastAndRest, list_any}
 use Rattle.std.proofs.lemmas.List.{append-nil, at_drop_all, at_drop_more, map-append, reverse-append}
@@ -266,3 +266,7 @@ flags_end m xs n e w = subst (λ ys. n ≡ (if list_any (bytes_eq caller) ys the
 
 pub enclosed_end : {C D L : Type 0} {a b : Made D} (m : tree.Macro C L) (xs : List Text) → xs ≡ closure m → Adds a b (enclosing (kept xs)) → Adds a b (enclosing (enclosed m))
 enclosed_end {a = a} {b} m xs e s = subst (λ ys. Adds a b (enclosing (kept ys))) e s
+
+-- what is known of the value of a call that succeeded
+pub ok_value : {A E : Type 0} (P : A → Type 0) {r : Result A E} {x : A} → r ≡ Ok x → IfOk r P → P x
+ok_value P is p = subst (λ o. IfOk o P) is p

@@ -6,6 +6,7 @@ pub mod Descriptions
 pub mod ConstantItems
 pub mod Chains
 pub mod FoldingSteps
+pub mod FoldedOutcomes
 pub mod KeywordItems
 pub mod WellFormedTesting
 pub mod WellFormedCounts

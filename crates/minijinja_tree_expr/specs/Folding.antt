@@ -4,7 +4,7 @@ use Rattle.minijinja_value.specs.Values.{Functions}
 use Rattle.minijinja_value.specs.declared.value.OpError.{OpError}
 use Rattle.minijinja_value.specs.declared.value.OpError.TheVariants.{OutOfMemory, Fault}
 use Rattle.minijinja_tree_expr.specs.Operators.{Working, Makes, Divides, IfTrue, IfFalse, working, compute}
-use Rattle.minijinja_tree_expr.specs.Comparisons.{compares}
+use Rattle.minijinja_tree_expr.specs.Comparisons.{compares, on_ok}
 use Rattle.minijinja_tree_expr.specs.Tree.{UnaryOp, logical_not, negation, Expr, constant, list, tuple, map, unary, binary, compare, Exprs, no_more, more, Comparisons, compared, against, Args, no_args, pos, pos_splat, kwarg, kwarg_splat}
 
 -- one value, if there is one, and then another
@@ -41,12 +41,24 @@ constants (more e es) = do
   cs ← constants es
   Some (c ∷ cs)
 
--- a unary operator on a constant
+-- what a unary operator gives on a constant
+abbrev pub unary_outcome : {C F : Type 0} → Functions C F → UnaryOp → C → Result C F
+unary_outcome f logical_not v = Ok (f.of_bool (not (f.is_true v)))
+unary_outcome f negation v = f.neg v
+
+-- what a binary operator gives on two constants; a quotient is not computed
+abbrev pub binary_outcome : {C F : Type 0} → Functions C F → Working → C → C → Result (Option C) F
+binary_outcome f (Makes o) a b = on_ok Some (compute f o a b)
+binary_outcome f Divides a b = Ok None
+binary_outcome f IfTrue a b = Ok (Some (if f.is_true a then b else a))
+binary_outcome f IfFalse a b = Ok (Some (if f.is_true a then a else b))
+
+-- a unary operator on a constant, unless it faults
 abbrev pub fold_unary : {C F : Type 0} → Functions C F → UnaryOp → C → Option C
 fold_unary f logical_not v = Some (f.of_bool (not (f.is_true v)))
 fold_unary f negation v = unless_fault (f.neg v)
 
--- a binary operator on two constants; a quotient is not folded
+-- a binary operator on two constants, unless it faults; a quotient is not folded
 abbrev pub fold_binary : {C F : Type 0} → Functions C F → Working → C → C → Option C
 fold_binary f (Makes o) a b = unless_fault (compute f o a b)
 fold_binary f Divides a b = None

@@ -9,6 +9,7 @@ ghost use Rattle.minijinja_tree_expr.specs.private.FoldingSteps.{operand_of, fol
 ghost use Rattle.minijinja_tree_expr.specs.Sizes.{size_of};
 
 use crate::ast::{BinOp, CallArg, CompareOp, Expr, List, Map, Tuple};
+use crate::fold::without_fault;
 use minijinja_syntax::error::Error;
 use minijinja_value::value::TemplateValue;
 use std::alloc::{AllocError, Global};
@@ -56,7 +57,7 @@ fn first_operand<'a, 's, V: TemplateValue>(expr: &'a Expr<'s, V>) -> Option<&'a 
 
 /// The value of a node, given the value of its first operand where it has one.
 #[cycle(as_const)]
-#[tactic(auto, unfolding(crate::specs::Folding::fold, crate::specs::Folding::if_some))]
+#[tactic(auto, using(crate::proofs::FoldedOutcomes::unary_without_fault), unfolding(crate::specs::Folding::fold, crate::specs::Folding::if_some))]
 fn node_constant<V: TemplateValue>(
     alloc: Global,
     node: &Expr<'_, V>,
@@ -69,7 +70,7 @@ fn node_constant<V: TemplateValue>(
     match node {
         Expr::Const(constant) => Ok(Some(constant.node().value.try_clone()?)),
         Expr::UnaryOp(operation) => match first {
-            Some(operand) => operation.node().op.fold(alloc, &operand),
+            Some(operand) => Ok(without_fault(operation.node().op.fold(alloc, &operand))?),
             None => Ok(None),
         },
         Expr::BinOp(operation) => match first {
@@ -89,7 +90,7 @@ fn node_constant<V: TemplateValue>(
 
 /// The value of a binary operator, given the value of its left operand.
 #[cycle(as_const)]
-#[tactic(auto, unfolding(crate::specs::Folding::if_some))]
+#[tactic(auto, using(crate::proofs::FoldedOutcomes::binary_without_fault), unfolding(crate::specs::Folding::if_some))]
 fn binary_constant<V: TemplateValue>(
     alloc: Global,
     operation: &BinOp<'_, V>,
@@ -100,7 +101,7 @@ fn binary_constant<V: TemplateValue>(
     ensures memory { IfErr result IsOutOfMemory }
 {
     match operation.right.as_const(alloc)? {
-        Some(right) => operation.op.fold(alloc, left, right),
+        Some(right) => Ok(without_fault(operation.op.fold(alloc, left, right))?.flatten()),
         None => Ok(None),
     }
 }
@@ -120,7 +121,7 @@ fn comparisons_constant<V: TemplateValue>(
     let mut left = first;
     for comparison in comparisons {
         match comparison.expr.as_const(alloc)? {
-            Some(right) => match comparison.op.holds(alloc, &left, &right)? {
+            Some(right) => match without_fault(comparison.op.holds(alloc, &left, &right))? {
                 Some(true) => left = right,
                 Some(false) => return Ok(Some(V::of_bool(false))),
                 None => return Ok(None),

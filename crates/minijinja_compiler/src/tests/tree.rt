@@ -1,9 +1,9 @@
 //! The trees of expressions: their values, what they are called, and whether they are well formed.
 use super::values::{Constants, printed};
 use super::{Subject, hold};
-use crate::ast::{CallType, Expr};
+use crate::ast::{BinOpKind, CallType, CompareOpKind, Expr, UnaryOpKind};
 use crate::parser::parse_expr;
-use crate::value::Value;
+use crate::value::{OpError, TemplateValue, Value, ValueFault};
 use minijinja_tree::constants::constant_kwargs;
 use std::alloc::{AllocError, Global};
 use std::test::Fail;
@@ -53,6 +53,34 @@ not x => unknown
 'd' not in 'abc' => true
 "#;
     hold::<Constants>(&rt, rt.alloc(), rows)
+}
+
+/// An operator on constants gives a value or says which fault it met.
+#[test]
+fn operators_on_constants_say_their_faults(rt: HostRuntime) -> Result<(), Fail> {
+    let alloc = rt.alloc();
+    let (six, zero) = (Value::of_u64(6), Value::of_u64(0));
+    let negated = UnaryOpKind::Neg.fold(alloc, &Value::of_bool(true));
+    assert!(rt; matches!(&negated, Err(OpError::Fault(ValueFault::WrongType))));
+    let contained = CompareOpKind::In.holds(alloc, &six, &zero);
+    assert!(rt; matches!(&contained, Err(OpError::Fault(ValueFault::WrongType))));
+    let divided = BinOpKind::FloorDiv.fold(alloc, six, zero);
+    assert!(rt; matches!(&divided, Err(OpError::Fault(ValueFault::DivisionByZero))));
+    Ok(())
+}
+
+/// A product is computed, and a quotient is not.
+#[test]
+fn quotients_of_constants_are_not_computed(rt: HostRuntime) -> Result<(), Fail> {
+    let alloc = rt.alloc();
+    let (six, zero) = (Value::of_u64(6), Value::of_u64(0));
+    let product = BinOpKind::Mul.fold_of(alloc, &six, &zero);
+    assert!(rt; matches!(&product, Ok(Some(value)) if *value == zero));
+    let quotient = BinOpKind::Div.fold_of(alloc, &six, &zero);
+    assert!(rt; matches!(&quotient, Ok(None)));
+    let greater = CompareOpKind::Gt.holds(alloc, &six, &zero);
+    assert!(rt; matches!(&greater, Ok(true)));
+    Ok(())
 }
 
 /// What a call calls.

@@ -1,12 +1,14 @@
 use Rattle.std.proofs.Common.{◌≡◌, ◌+◌, ◌<◌, length, drop, arith, rules, sym, ap, subst, ◌∙◌}
 use Rattle.std.specs.Prelude.{IfOk, Some, None}
 use Rattle.std.specs.Option.{option_map}
+use Rattle.minijinja_tree_expr.specs.Comparisons.{compares}
 use Rattle.minijinja_tree_expr.specs.Erasure.{compare_op, expr_tree, exprs_of, compare_tree, comparisons_of}
 use Rattle.minijinja_tree_expr.specs.Folding.{fold, fold_chain}
 use Rattle.minijinja_tree_expr.specs.Tree.{list, tuple, map}
 use Rattle.minijinja_tree_expr.specs.private.FoldingSteps.{fold_node}
 use Rattle.minijinja_tree_expr.proofs.SpannedNodes.{list_is, tuple_is, map_is}
 use Rattle.minijinja_tree_expr.proofs.Chains.{chain-holds, chain-fails, chain-faults, chain-unknown, chain-ends, next-comparison, compare-known, compare-unknown}
+use Rattle.minijinja_tree_expr.proofs.FoldedOutcomes.{comparison_without_fault}
 use Rattle.minijinja_tree_expr.proofs.FoldingSteps.{goes-down, goes-up, next-node}
 use Rattle.minijinja_tree_expr.proofs.+as_const.Goals as goal
 
@@ -89,7 +91,8 @@ constants::comparisons_constant-returns-in-Some-false-clause-folds g t c =
     let within : i < length xs = omega arith in
     let here = next-comparison f v l xs i x within c.comparison-item.is in
     let right = ap (option_map v) (sym c.in-Some.is) ∙ c.in_ok-right.ensures.folds in
-    let fails = ap Some (sym c.in-Some-false.field-0-test) ∙ sym c.in-Some-false.is ∙ c.in_ok-holds-in-Some.ensures.value in
+    let known = comparison_without_fault g.V.TemplateValue.fault_contents (compares f (compare_op x.op) l (v c.in-Some.right)) c.holds.result _ c.holds.ensures.outcome c.in_ok-without_fault-in-Some.ensures.value in
+    let fails = ap Some (sym c.in-Some-false.field-0-test) ∙ sym c.in-Some-false.is ∙ known in
     ap Some c.of_bool.ensures ∙ sym (sym c.loop-comparison.invariant ∙ here ∙ chain-fails f l (compare_op x.op) (expr_tree v x.expr) rest (v c.in-Some.right) right fails)
 
 pub constants::comparisons_constant-returns-in-None-2-clause-folds : goal.constants::comparisons_constant-returns-in-None-2-clause-folds
@@ -104,7 +107,8 @@ constants::comparisons_constant-returns-in-None-2-clause-folds g t c =
     let within : i < length xs = omega arith in
     let here = next-comparison f v l xs i x within c.comparison-item.is in
     let right = ap (option_map v) (sym c.in-Some.is) ∙ c.in_ok-right.ensures.folds in
-    let faults = sym c.in-None-2.is ∙ c.in_ok-holds-in-Some.ensures.value in
+    let known = comparison_without_fault g.V.TemplateValue.fault_contents (compares f (compare_op x.op) l (v c.in-Some.right)) c.holds.result _ c.holds.ensures.outcome c.in_ok-without_fault-in-Some.ensures.value in
+    let faults = sym c.in-None-2.is ∙ known in
     sym (sym c.loop-comparison.invariant ∙ here ∙ chain-faults f l (compare_op x.op) (expr_tree v x.expr) rest (v c.in-Some.right) right faults)
 
 pub constants::comparisons_constant-returns-in-None-clause-folds : goal.constants::comparisons_constant-returns-in-None-clause-folds
@@ -133,7 +137,8 @@ constants::comparisons_constant-loop-comparison-preserved g t c =
     let within : i < length xs = omega arith in
     let here = next-comparison f v l xs i x within c.comparison-item.is in
     let right = ap (option_map v) (sym c.in-Some.is) ∙ c.in_ok-right.ensures.folds in
-    let holds = ap Some (sym c.in-Some-true.field-0-test) ∙ sym c.in-Some-true.is ∙ c.in_ok-holds-in-Some.ensures.value in
+    let known = comparison_without_fault g.V.TemplateValue.fault_contents (compares f (compare_op x.op) l (v c.in-Some.right)) c.holds.result _ c.holds.ensures.outcome c.in_ok-without_fault-in-Some.ensures.value in
+    let holds = ap Some (sym c.in-Some-true.field-0-test) ∙ sym c.in-Some-true.is ∙ known in
     sym (here ∙ chain-holds f l (compare_op x.op) (expr_tree v x.expr) rest (v c.in-Some.right) right holds) ∙ c.loop-comparison.invariant
 
 pub constants::comparisons_constant-returns-clause-folds : goal.constants::comparisons_constant-returns-clause-folds

@@ -1,20 +1,22 @@
 use Rattle.std.proofs.Common.{Some, None, length}
+use Rattle.minijinja_tree.specs.Comparisons.{compares}
 use Rattle.minijinja_tree.specs.Erasure.{compare_op}
+use Rattle.minijinja_tree_expr.proofs.FoldedOutcomes.{comparison_without_fault}
 use Rattle.minijinja_emitter.specs.internal.AtEmitter.{made_of}
 use Rattle.minijinja_emitter.specs.internal.Making.{alone, between}
 use Rattle.minijinja_code_expr.proofs.ChainFolds.{up_to_end, known_both, known_left, known_right, known_nothing}
-use Rattle.minijinja_code_expr.proofs.Results.{ok_value, ok_value_gives}
 use Rattle.minijinja_code_expr.proofs.chain.compare_constants.Goals as goal
 
 pub returns-in-Some-constant-2 : goal.returns-in-Some-constant-2
-returns-in-Some-constant-2 g c =
+returns-in-Some-constant-2 g c value held =
+    let f = g.V.TemplateValue.functions in
     let v = g.V.TemplateValue.contents in
     let code = (made_of v c.args.code.now).code in
     let a = v c.in-Some-constant.left.now in
     let b = v c.in-Some-constant-2.right.now in
-    ok_value_gives c.memory_alone.result (λ holds is value held.
-    known_both g.V.TemplateValue.functions (compare_op c.args.op) code value (alone (between c.args.place (length code) code)) a b c.in-Some.is c.in-Some-constant.ensures
-    (up_to_end code (Some b) c.args.place c.place-end.result c.place-end.ensures c.in-Some-constant-2.ensures) (ok_value _ is c.holds.ensures.value) held) c.memory_alone.ensures
+    known_both f (compare_op c.args.op) code value (alone (between c.args.place (length code) code)) a b c.in-Some.is c.in-Some-constant.ensures
+    (up_to_end code (Some b) c.args.place c.place-end.result c.place-end.ensures c.in-Some-constant-2.ensures)
+    (comparison_without_fault g.V.TemplateValue.fault_contents (compares f (compare_op c.args.op) a b) c.holds.result _ c.holds.ensures.outcome c.in_ok-without_fault.ensures.value) held
 
 pub returns-in_default-constant-2 : goal.returns-in_default-constant-2
 returns-in_default-constant-2 g c value held =

@@ -5,8 +5,7 @@ use Rattle.std.proofs.lemmas.Map.Iter.{iter_end}
 use Rattle.minijinja_syntax.specs.Texts.{Text}
 use Rattle.minijinja_tree.specs.Erasure.{macro_tree}
 use Rattle.minijinja_emitter.specs.internal.AtEmitter.{margin_of}
-use Rattle.minijinja_code_expr.proofs.Results.{ok_value}
-use Rattle.minijinja_code_parts.proofs.MacroParts.{added_other, enclosed_end, flags_end, flags_other, inner_names}
+use Rattle.minijinja_code_parts.proofs.MacroParts.{added_other, enclosed_end, flags_end, flags_other, inner_names, ok_value}
 use Rattle.minijinja_code_parts.proofs.Marking.{marked_enclosed, marked_other}
 use Rattle.minijinja_code_parts.proofs.macro_parts.enclose.Goals as goal
 
