@@ -1,0 +1,5 @@
+pub mod Adding
+pub mod Listing
+pub mod Items
+pub mod StatementNodes
+pub mod ExpressionNodes
