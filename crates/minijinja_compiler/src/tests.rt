@@ -3,12 +3,16 @@
 //!
 //! The rows of a subject stand in one text, since a test is proved too, with each text that it
 //! names spelled out.
+ghost use Rattle.std.specs.Prelude.{◌≤◌, IfOk};
+ghost use Rattle.std.specs.Str.{IsCharBoundary};
+
 mod building;
 mod codegen;
 mod compile;
 mod errors;
 mod flags;
 mod hostile;
+mod instructions;
 mod lexer;
 mod marks;
 mod memory;
@@ -29,6 +33,7 @@ use crate::parser::parse;
 use crate::syntax::{SyntaxConfig, SyntaxConfigBuilder};
 use crate::value::Value;
 use std::alloc::{AllocError, Global};
+use std::ops::Range;
 use std::process::Abort;
 use std::test::Fail;
 
@@ -78,6 +83,23 @@ fn character(symbol: char) -> Option<char> {
         '␍' => Some('\r'),
         '␠' => Some(' '),
         _ => Some(symbol),
+    }
+}
+
+/// The bytes of a file between its first `«` and the `»` after that.
+fn marked(file: &str) -> Result<Range<usize>, Fail>
+    ensures ordered { IfOk result (λ r. r.start ≤ r.end) }
+    ensures start { IfOk result (λ r. IsCharBoundary file.now r.start) }
+    ensures end { IfOk result (λ r. IsCharBoundary file.now r.end) }
+{
+    let (before, rest) = parted(file, "«");
+    let (own, _) = parted(rest, "»");
+    let start = before.len().saturating_add("«".len());
+    let end = start.saturating_add(own.len());
+    if file.is_char_boundary(start) && file.is_char_boundary(end) {
+        Ok(start..end)
+    } else {
+        Err(Fail::from("nothing is marked"))
     }
 }
 

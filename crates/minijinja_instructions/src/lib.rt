@@ -7,5 +7,3 @@ pub mod lists;
 pub mod marks;
 mod references;
 mod runs;
-#[cfg(test)]
-mod tests;

@@ -94,12 +94,6 @@ impl MarkList {
     {
         placed(self.spans.at(index))
     }
-
-    /// How often the line, and how often the span changes.
-    #[cfg(test)]
-    pub fn changes(&self) -> (usize, usize) {
-        (self.lines.changes(), self.spans.changes())
-    }
 }
 
 /// One place more, on this line.

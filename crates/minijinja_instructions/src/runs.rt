@@ -82,12 +82,6 @@ impl<T: Copy> Runs<T> {
         self.len = self.len.min(place);
     }
 
-    /// How often the value changes.
-    #[cfg(test)]
-    pub fn changes(&self) -> usize {
-        self.runs.len()
-    }
-
     /// The value in force at the last place.
     pub fn last(&self) -> Option<T>
         ensures { result ≡ last_or None (values_of self.now) }

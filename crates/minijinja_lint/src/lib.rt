@@ -2,5 +2,3 @@
 #![tactic(auto)]
 
 pub mod lint;
-#[cfg(test)]
-mod tests;

@@ -8,6 +8,7 @@ mod calls;
 mod expr;
 mod imports;
 mod lint;
+mod lint_trees;
 mod macros;
 mod memory;
 mod names;
@@ -17,6 +18,7 @@ mod several;
 mod shipped;
 mod statements;
 mod tokens;
+mod walk;
 mod words;
 
 use mjc_commands::run::run;

@@ -1,5 +1,5 @@
 //! Trees that are made by hand, where several parts start in one place.
-use crate::lint::{Finding, lint};
+use minijinja_lint::lint::{Finding, lint};
 use minijinja_syntax::error::Error;
 use minijinja_syntax::tokens::Span;
 use minijinja_tree::ast::Stmt;

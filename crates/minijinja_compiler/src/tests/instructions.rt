@@ -1,8 +1,8 @@
 //! Which lines and spans a list keeps and which it returns, and which names it refers to.
+use crate::error::Error;
 use crate::instructions::{Instruction, InstructionList, Instructions, LOOP_FLAG_WITH_LOOP_VAR};
-use minijinja_syntax::error::Error;
-use minijinja_syntax::tokens::Span;
-use minijinja_value::value::Value;
+use crate::tokens::Span;
+use crate::value::Value;
 use std::alloc::Global;
 use std::test::Fail;
 
@@ -21,18 +21,6 @@ fn span_on(line: u16) -> Span {
         end_offset: 4,
         ..Span::default()
     }
-}
-
-#[test]
-fn a_line_is_kept_once(rt: HostRuntime) -> Result<(), Fail> {
-    let mut list = InstructionList::new(rt.alloc(), "name", "source");
-    for _ in 0..100_000 {
-        list.add_with_line(0u8, 7)?;
-    }
-    assert!(rt; list.len() == 100_000);
-    assert!(rt; list.marks.changes() == (1, 0));
-    assert!(rt; list.get_line(0) == Some(7) && list.get_line(99_999) == Some(7));
-    Ok(())
 }
 
 #[test]
