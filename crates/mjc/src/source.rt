@@ -40,7 +40,12 @@ impl Read for Source {
 pub struct Opener<'r>(pub &'r HostRuntime);
 
 impl Files for Opener<'_> {
+    ghost use Rattle.std.specs.Prelude.{None};
+
     type File = Source;
+
+    // Of the files of the process nothing is known.
+    ghost held = { λ _ _. None };
 
     fn open(&self, path: &str) -> Source {
         Source::open(self.0, Some(path))

@@ -3,3 +3,4 @@ pub mod AnswerLines
 pub mod Commands
 pub mod Limits
 pub mod Requests
+pub mod Statuses

@@ -8,7 +8,8 @@ use Rattle.std.proofs.lemmas.List.Elements.{All-map}
 use Rattle.std.proofs.lemmas.Slice.Eq.{bytes_eq-Decides}
 use Rattle.minijinja_syntax.specs.Texts.{Text}
 use Rattle.minijinja_syntax.specs.Syntax.{Syntax}
-use Rattle.mjc_commands.specs.Settings.{Setting, block, variable, comment, line_statement, line_comment, trim_blocks, lstrip_blocks, keep_newline, words_of, with_setting, texts}
+use Rattle.mjc_commands.specs.Each.{AskForEach, IsOnEach}
+use Rattle.mjc_commands.specs.Settings.{Setting, block, variable, comment, line_statement, line_comment, trim_blocks, lstrip_blocks, keep_newline, words_of, with_setting, syntax_with, texts}
 use Rattle.mjc_commands.specs.Usage.{AreApart, IsFile, Mark, bare, marked, IsPlain, Request, Task, tokens, code, names, lint, expression, replay, option_words, path_words, paths_of, command_word, Asks}
 use Rattle.mjc_commands.specs.private.AtOptions.{option_named, setting_of, first_setting, Takes}
 use Rattle.mjc_commands.specs.private.AtUsage.{AsksInput, BeginWithFile, IsOnTemplate, Name, input_request, stands}
@@ -260,6 +261,23 @@ asks args word rest behind task settings file e template is (stands mark same fi
   },
   refl,
 )
+
+-- words that name a path begin with no option
+pub some_begin : (words paths : List Text) (path : Text) (rest : List Text) → paths ≡ path ∷ rest → Name words paths → BeginWithFile words
+some_begin words paths path rest e (stands mark is files) =
+    let begin : BeginWithFile (path_words mark paths) = rw e (names_begin mark path rest (subst (All (IsFile mark)) e files)) in
+    rw is begin
+
+-- the words of a command, of options and of paths ask for a task on each of these
+pub ask_for_each : (args : List (Bor Text)) (word : Bor Text) (rest : List (Bor Text)) (behind : List Text) (task : Task) (settings : List Setting) (syntax : Syntax) (paths : List Text) → args ≡ word ∷ rest → IsOnEach task → word.now ≡ command_word task → Name behind paths → texts rest ≡ option_words settings behind → syntax ≡ syntax_with settings → AskForEach args task syntax paths
+ask_for_each args word rest behind task settings syntax paths e on is (stands mark same files) said specified = record {
+  each = on;
+  settings = settings;
+  mark = mark;
+  words = ap texts e ∙ (ap (λ w. w ∷ texts rest) is ∙ ap (λ ws. command_word task ∷ ws) (said ∙ ap (option_words settings) same));
+  files = files;
+  specified = specified;
+}
 
 -- the first word is that of the command that is asked for
 pub word_asked : (args : List (Bor Text)) (word : Bor Text) (rest : List (Bor Text)) (request : Request) → args ≡ word ∷ rest → Asks args request → word.now ≡ command_word request.task

@@ -1,7 +1,9 @@
 //! Runs of a command on each of several files.
-ghost use Rattle.std.specs.Prelude.{◌≡◌, ◌≤◌, IfOk, IfSome, IsErr, IsNone, OnOk, Some};
+ghost use Rattle.std.specs.Prelude.{◌≡◌, ◌≤◌, ℕ, List, Option, IfOk, IfSome, IsErr, IsNone, OnOk, Some};
+ghost use Rattle.std.specs.List.{All};
 ghost use Rattle.minijinja_syntax.specs.Texts.{Text};
-ghost use Rattle.mjc_commands.specs.Each.{rank};
+ghost use Rattle.mjc_commands.specs.Each.{HasGoneThrough, MayEnd, rank};
+ghost use Rattle.mjc_commands.specs.Failure.{IsSuccess};
 ghost use Rattle.mjc_commands.specs.Linting.{IsLinted};
 ghost use Rattle.mjc_commands.specs.Reading.{IsNoText};
 ghost use Rattle.mjc_commands.specs.Showing.{IsShowable};
@@ -21,9 +23,13 @@ use std::io::{self, Read, Write};
 pub trait Files {
     type File: Read + Drop;
 
+    /// The bytes that the file of a path is known to hold, if that is known.
+    ghost held: { Self → Text → Option (List ℕ) };
+
     /// The file of this path, where `-` is standard input. One that does not open fails when it is
     /// read.
-    fn open(&self, path: &str) -> Self::File;
+    fn open(&self, path: &str) -> Self::File
+        ensures { Self.File.remaining result ≡ held self.now path.now };
 }
 
 /// Runs `names` or `lint` on each of several files, and returns the worst of the statuses: 2 is
@@ -39,6 +45,11 @@ pub fn run_each<F: Files, W: Write, X: Write>(
     err: &mut X,
 ) -> Option<u8>
     ensures within { IfSome result (λ status. status ≤ 3) }
+
+    // Where it ends with success, it has gone through all files that the words name, and 0 means
+    // that a linter found nothing in any of them.
+    ensures through { IfSome result (λ status. IsSuccess status →
+        HasGoneThrough args.now (F.held files.now) status) }
 
     // Words that `run` heeds are left to it.
     ensures one { IsUsage args.now → IsNone result }
@@ -67,6 +78,8 @@ fn run_on_each<'a, F: Files, W: Write, X: Write>(
     err: &mut X,
 ) -> u8
     ensures within { result ≤ 3 }
+    ensures through { IsSuccess result → All (λ path. MayEnd (task_of command.entry.action) syntax.now
+        (F.held files.now path.now) result) paths.entry.now }
 {
     let mut worst = 0;
     for path in paths {
@@ -74,7 +87,7 @@ fn run_on_each<'a, F: Files, W: Write, X: Write>(
         let ending = run_labelled(alloc, &command, syntax, files.open(*path), out, err);
         worst = worse(worst, status(&ending));
         if let Err(Failure::CannotWrite) = ending {
-            break;
+            return worst;
         }
     }
     worst

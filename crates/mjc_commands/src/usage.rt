@@ -3,7 +3,8 @@ ghost use Rattle.std.specs.Prelude.{◌≡◌, ◌≤◌, ◌↔◌, length, dro
 ghost use Rattle.std.specs.List.{All, fold};
 ghost use Rattle.minijinja_syntax.specs.Texts.{Text};
 ghost use Rattle.mjc_commands.specs.Settings.{Setting, texts, with_setting};
-ghost use Rattle.mjc_commands.specs.Usage.{IsUsage, IsFileUsage, IsExprUsage, IsReplayUsage, Request, Asks, AsksExpr, AreApart, IsFile, Task, bare, option_words, replay};
+ghost use Rattle.mjc_commands.specs.Each.{AskForEach, IsOnEach};
+ghost use Rattle.mjc_commands.specs.Usage.{IsUsage, IsFileUsage, IsExprUsage, IsReplayUsage, Request, Asks, AsksExpr, AreApart, IsFile, Task, bare, command_word, option_words, replay};
 ghost use Rattle.mjc_commands.specs.private.AtOptions.{syntax_of};
 ghost use Rattle.mjc_commands.specs.private.AtUsage.{AsksInput, BeginWithFile, IsActionOn, IsCommandFor, IsFileCommandFor, IsExprCommandFor, IsOnTemplate, IsTemplateUsage, Name, input_request, task_of};
 
@@ -77,7 +78,7 @@ fn is_file(word: &str) -> bool
     !word.starts_with("--")
 }
 
-/// Whether each of the words may.
+/// Whether each of the words may name a file where `--` does not stand before them.
 fn are_files(words: &[&str]) -> bool
     ensures { IsTrue result ↔ All (λ word. IsFile bare word.now) words.now }
 {
@@ -225,15 +226,26 @@ pub fn parse<'a>(args: &[&'a str]) -> Option<Command<'a>>
     }
 }
 
+/// What the word of a command on several files asks for.
+fn action_on_each<'a>(word: &str) -> Option<Action<'a>>
+    ensures { IfSome result (λ action. IsOnEach (task_of action) ×
+        (word.now ≡ command_word (task_of action))) }
+{
+    match word {
+        "names" => Some(Action::Names),
+        "lint" => Some(Action::Lint),
+        _ => None,
+    }
+}
+
 /// Parses the words of a command on several files: `names` or `lint`, options, and the files. One of
 /// them at most is standard input.
-pub fn parse_several<'w, 'a>(args: &'w [&'a str]) -> Option<(FileCommand<'a>, &'w [&'a str])> {
+pub fn parse_several<'w, 'a>(args: &'w [&'a str]) -> Option<(FileCommand<'a>, &'w [&'a str])>
+    ensures { IfSome result (λ asked. AskForEach args.now (task_of asked.0.action)
+        (syntax_of asked.0.options) (texts asked.1.now)) }
+{
     let (word, rest) = args.split_first()?;
-    let action = match *word {
-        "names" => Action::Names,
-        "lint" => Action::Lint,
-        _ => return None,
-    };
+    let action = action_on_each(*word)?;
     let mut options = Options::none();
     let paths = paths_in(read_options(&mut options, rest))?;
     let (file, others) = paths.split_first()?;

@@ -13,7 +13,11 @@ struct Two<'t> {
 }
 
 impl<'t> Files for Two<'t> {
+    ghost use Rattle.std.specs.Prelude.{None};
+
     type File = Trickle<'t>;
+
+    ghost held = { λ _ _. None };
 
     fn open(&self, path: &str) -> Trickle<'t> {
         let (rest, end) = match path {
