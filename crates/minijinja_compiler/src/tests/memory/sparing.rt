@@ -3,7 +3,7 @@ use super::{Ballast, Refusable, answered_without};
 use crate::ast::{CallType, Expr};
 use crate::codegen::CodeGenerator;
 use crate::error::{Detail, Error, ErrorKind};
-use crate::instructions::{Instruction, InstructionList, Instructions};
+use crate::instructions::{Instruction, Instructions};
 use crate::lexer::Tokenizer;
 use crate::parser::{Parser, TokenStream, parse, parse_expr};
 use crate::syntax::{StartMarkerMatcher, SyntaxConfig};
@@ -208,33 +208,6 @@ impl Refusable for Lists {
 fn what_a_list_has_needs_no_memory(rt: HostRuntime) -> Result<(), Fail> {
     let rows = "{{ a.b }} => page 9 3 false true Some(1)Some( @ 1:3-1:6) Emit";
     answered_without::<Lists>(&rt, rt.alloc(), rows)
-}
-
-/// A source: a list of instructions that take no room and all stand on one line.
-enum OneLine {}
-
-impl Refusable for OneLine {
-    fn attempt<'t>(
-        alloc: Global,
-        text: &'t str,
-        ballast: &mut Ballast,
-        words: &mut String,
-    ) -> Result<(), Error<'t>> {
-        let mut list = InstructionList::new(alloc, "page", text);
-        list.add_with_line((), 7)?;
-        ballast.narrow();
-        for _ in 0..100_000 {
-            list.add_with_line((), 7)?;
-        }
-        write!(words, "{} {:?}", list.len(), list.get_line(99_999))?;
-        Ok(())
-    }
-}
-
-/// A line is kept where it changes, and not for each instruction.
-#[test]
-fn instructions_on_one_line_need_no_memory(rt: HostRuntime) -> Result<(), Fail> {
-    answered_without::<OneLine>(&rt, rt.alloc(), "a => 100001 Some(7)")
 }
 
 /// Appends what a generator says is open.
