@@ -46,8 +46,8 @@ pub fn run_each<F: Files, W: Write, X: Write>(
 ) -> Option<u8>
     ensures within { IfSome result (λ status. status ≤ 3) }
 
-    // Where it ends with success, it has gone through all files that the words name, and 0 means
-    // that a linter found nothing in any of them.
+    // Where it ends with success, each file that the words name, if its bytes are known, holds a text
+    // that can be shown, and where that is with 0, a linter finds nothing in it.
     ensures through { IfSome result (λ status. IsSuccess status →
         HasGoneThrough args.now (F.held files.now) status) }
 
