@@ -1,6 +1,7 @@
 //! Where the next start marker of a text begins.
 ghost use Rattle.std.specs.Prelude.{◌≡◌, ◌+◌, ◌<◌, ◌≤◌, ◌||◌, ◌==◌, length, slice_index, IsTrue, IfSome};
 ghost use Rattle.std.specs.Str.{IsCharBoundary};
+ghost use Rattle.memchr.specs.Find.{IsFirstByte, is_byte};
 ghost use Rattle.minijinja_syntax.specs.Syntax.{Syntax, IsBuildable};
 ghost use Rattle.minijinja_syntax.specs.Markers.{stands, is_blank, is_line_end, starts_line, may_begin, marker_at, next_marker, found_marker};
 ghost use Rattle.minijinja_syntax.specs.private.DefaultStarts.{HasDefaultStarts, braced_marker};
@@ -153,6 +154,23 @@ fn default_marker_at(text: &[u8], at: usize) -> Option<StartMarker>
     }
 }
 
+/// The first brace. Of two braces that stand close together the second is found at once: to begin a
+/// search takes longer than to look at two bytes.
+#[inline(always)]
+fn brace_in(text: &[u8]) -> Option<usize>
+    ensures { IsFirstByte (is_byte 123) text.now result }
+{
+    if text.len() >= 2 {
+        if text[0] == b'{' {
+            return Some(0);
+        }
+        if text[1] == b'{' {
+            return Some(1);
+        }
+    }
+    memchr(b'{', text)
+}
+
 /// The first place at or after the byte `offset` where a marker begins, or the end of the text, for
 /// a syntax with the default start delimiters.
 #[inline(never)]
@@ -164,7 +182,7 @@ fn next_default_place(text: &[u8], offset: usize) -> usize
     ensures within { result ≤ length text.now }
 {
     let mut place = offset;
-    while let Some(ahead) = memchr(b'{', &text[place..]) {
+    while let Some(ahead) = brace_in(&text[place..]) {
         place += ahead;
         if default_marker_at(text, place).is_some() {
             return place;
