@@ -1,5 +1,5 @@
 -- What a step outside any tag says of the tokens to come, at the values that the code has.
-use Rattle.std.proofs.Common.{◌≡◌, ℕ, ◌+◌, ◌-◌, ◌<◌, ◌≤◌, true, false, cond, [], ◌∷◌, length, refl, ap, sym, ◌∙◌, arith, Option, Some, None, ⊎_elim}
+use Rattle.std.proofs.Common.{◌≡◌, ℕ, ◌+◌, ◌-◌, ◌<◌, ◌≤◌, true, false, cond, [], ◌∷◌, length, refl, ap, sym, ◌∙◌, subst, arith, Option, Some, None, ⊎_elim}
 use Rattle.std.specs.Prelude.{is_some}
 use Rattle.std.proofs.lemmas.Bool.{ne_eqb, eq-eqb}
 use Rattle.minijinja_syntax.specs.Texts.{Text}
@@ -12,20 +12,22 @@ use Rattle.minijinja_syntax.specs.declared.error.ErrorKind.TheVariants.{SyntaxEr
 use Rattle.minijinja_syntax.specs.declared.syntax.StartMarker.{StartMarker}
 use Rattle.minijinja_syntax.proofs.Finding.{none_past}
 use Rattle.minijinja_syntax.proofs.Walking.{next_marker-here, next_marker-within, next_marker-stops}
-use Rattle.minijinja_syntax.specs.Streams.{before, ended, refused}
+use Rattle.minijinja_syntax.specs.Streams.{Stream, before, ended, refused}
+use Rattle.minijinja_syntax.specs.declared.tokens.Token.{Token}
 use Rattle.minijinja_lexer.specs.Faults.{fault_kind, LexFault}
 use Rattle.minijinja_lexer.specs.private.Place.{Place}
 use Rattle.minijinja_lexer.specs.Whitespace.{kept_stop, kept_before, body_of, control_len, control_behind}
 use Rattle.minijinja_lexer.specs.Cut.{inner_at, plain, comment, line_comment, tag, unclosed_comment, unclosed_raw, segment_of, segment_at}
 use Rattle.minijinja_lexer.specs.private.Found.{Is, IsData, IsSkipped, IsRawAt, IsUnclosed}
 use Rattle.minijinja_lexer.specs.TextTokens.{start_tok, stream_at, stream_in, refusal_span, segment_tokens, data_tokens}
-use Rattle.minijinja_lexer.specs.private.States.{Steps, RawSteps, behind}
+use Rattle.minijinja_lexer.specs.private.States.{Steps, StateFits, RawSteps, behind, stream_from}
 use Rattle.minijinja_lexer.specs.private.Views.{raw_block_view}
 use Rattle.minijinja_lexer.specs.declared.raw.RawBlock.{RawBlock}
 use Rattle.minijinja_lexer.specs.Faults as fault
 use Rattle.minijinja_lexer.specs.Tags.{Tag}
 use Rattle.minijinja_lexer.specs.declared.step.Step.{Step}
 use Rattle.minijinja_lexer.specs.declared.step.Step.TheVariants as step
+use Rattle.minijinja_lexer.specs.declared.step.State.{State}
 use Rattle.minijinja_lexer.specs.declared.step.State.TheVariants as state
 use Rattle.minijinja_lexer.proofs.Steps.{stream_at-plain, stream_at-comment, stream_at-line_comment, stream_at-raw, stream_at-unclosed_comment, stream_at-unclosed_raw, stream_at-tag}
 use Rattle.minijinja_lexer.proofs.Stops.{inner_stop}
@@ -144,25 +146,25 @@ outside_unclosed s text at f span h is e = ⊎_elim
     stream_at-unclosed_raw s text at h c.1 ∙ ap (λ x. ended (refused SyntaxError (Some x))) (sym e) ∙ ap (λ f. ended (refused (fault_kind f) (Some span))) (sym c.0))
     is
 
+-- a token after which the state is as before
+pub still_outside : (s : Syntax) (old : Stream) (new : State) (t : Token) (span : Span) (p : Place) → new ≡ state.Outside → old ≡ before ((tok_of t, span) ∷ []) (stream_at s p.text p.at) → Steps s old new (step.Token t span) p
+still_outside s old new t span p same is =
+    (is ∙ ap (λ (x : State). before ((tok_of t, span) ∷ []) (stream_from s p x)) (sym same), subst (λ (x : State). StateFits p x) (sym same) tt)
+
 -- a raw block's step
-pub outside_raw : (s : Syntax) (text : Text) (at : ℕ) (block : RawBlock) (r : Step) (p : Place) → at < length text → IsRawAt s text at block → RawSteps text block r p → Steps s (stream_at s text at) r p
-outside_raw s text at block (step.Token t span state.Outside) p h is steps =
+pub outside_raw : (s : Syntax) (new : State) (text : Text) (at : ℕ) (block : RawBlock) (r : Step) (p : Place) → new ≡ state.Outside → at < length text → IsRawAt s text at block → RawSteps text block r p → Steps s (stream_at s text at) new r p
+outside_raw s new text at block (step.Token t span) p same h is steps =
     let a = is.moves in
     let b = is.places in
-    let m : at < block.after = omega (arith, a, b.begin_is, b.start_onwards, b.stop_onwards, b.end_onwards, b.after_onwards) in (
-      stream_at-raw s text at (raw_block_view block) h m is.segment
+    let m : at < block.after = omega (arith, a, b.begin_is, b.start_onwards, b.stop_onwards, b.end_onwards, b.after_onwards) in
+    still_outside s _ new t span p same
+    (stream_at-raw s text at (raw_block_view block) h m is.segment
           ∙ ap (λ x. before ((x, span_at text block.begin block.end) ∷ []) (stream_at s text block.after)) (sym steps.0)
           ∙ ap (λ x. before ((tok_of t, x) ∷ []) (stream_at s text block.after)) (sym steps.1)
-          ∙ ap (before ((tok_of t, span) ∷ [])) (at_place s text block.after p steps.2),
-      tt,
-    )
-outside_raw s text at block (step.Token t span (state.Inside k o c whole)) p h is steps = absurd steps
-outside_raw s text at block (step.Token t span state.Over) p h is steps = absurd steps
-outside_raw s text at block (step.Token t span (state.Failed f x)) p h is steps = absurd steps
-outside_raw s text at block (step.Token t span state.NoMemory) p h is steps = absurd steps
-outside_raw s text at block step.Over p h is steps = absurd steps
-outside_raw s text at block (step.Failed f x) p h is steps = absurd steps
-outside_raw s text at block step.NoMemory p h is steps = absurd steps
+    ∙ ap (before ((tok_of t, span) ∷ [])) (at_place s text block.after p steps.2))
+outside_raw s new text at block step.Over p same h is steps = absurd steps
+outside_raw s new text at block (step.Failed f x) p same h is steps = absurd steps
+outside_raw s new text at block step.NoMemory p same h is steps = absurd steps
 
 pub outside_tag : (s : Syntax) (text : Text) (k : Tag) (at body : ℕ) (v : Tok) (span : Span) (p : Place) →
     at < length text → Is s text at (tag k at body (inner_at s text k 0 0 body)) body → v ≡ start_tok k → span ≡ span_at text at body → p ≡ record { text = text; at = body }

@@ -15,7 +15,6 @@ use Rattle.minijinja_lexer.specs.private.Views.{raw_block_view}
 use Rattle.minijinja_lexer.specs.declared.raw.RawBlock.{RawBlock}
 use Rattle.minijinja_lexer.specs.declared.step.Step.{Step}
 use Rattle.minijinja_lexer.specs.declared.step.Step.TheVariants as step
-use Rattle.minijinja_lexer.specs.declared.step.State.TheVariants as state
 use Rattle.minijinja_lexer.proofs.Slices.{AreOwn, segment_slices}
 
 -- the text of a raw block's token
@@ -31,13 +30,9 @@ unfolding first_tok
 tok_is t u span e = ap first_tok e
 
 pub raw_takes : (s : Syntax) (text : Text) (at : ℕ) (block : RawBlock) (r : Step) (p : Place) → IsRawAt s text at block → RawSteps text block r p → TakesBetween text r → Takes s text r
-raw_takes s text at block (step.Token t span state.Outside) p is steps between =
+raw_takes s text at block (step.Token t span) p is steps between =
     let own : AreOwn s text (raw at (raw_block_view block)) = subst (λ g. AreOwn s text g) is.segment (segment_slices s text at) in
     (between, inr (own.0, steps.0 ∙ tok_is (slice text block.start block.stop) own.0 (span_at text block.begin block.end) own.1, subst (λ (x : Span). IsRawText s text x.start_offset x.end_offset own.0) (sym steps.1) own.2))
-raw_takes s text at block (step.Token t span (state.Inside k o c whole)) p is steps between = absurd steps
-raw_takes s text at block (step.Token t span state.Over) p is steps between = absurd steps
-raw_takes s text at block (step.Token t span (state.Failed f x)) p is steps between = absurd steps
-raw_takes s text at block (step.Token t span state.NoMemory) p is steps between = absurd steps
 raw_takes s text at block step.Over p is steps between = absurd steps
 raw_takes s text at block (step.Failed f x) p is steps between = absurd steps
 raw_takes s text at block step.NoMemory p is steps between = absurd steps

@@ -5,6 +5,7 @@ ghost use Rattle.minijinja_syntax.specs.Syntax.{Syntax};
 ghost use Rattle.minijinja_lexer.specs.private.Places.{ClosePlaces};
 ghost use Rattle.minijinja_lexer.specs.private.Views.{tag_view, close_view};
 ghost use Rattle.minijinja_lexer.specs.TextTokens.{stream_in, close_stream, behind_expression};
+ghost use Rattle.minijinja_lexer.specs.declared.step.State.TheVariants.{Inside};
 ghost use Rattle.minijinja_lexer.specs.private.States.{Steps, StateFits, Takes, behind, stream_from};
 
 use crate::cursor::Cursor;
@@ -22,55 +23,68 @@ pub(crate) fn step_inside<'s>(
     alloc: Global,
     syntax: &SyntaxConfig,
     cursor: &mut Cursor<'s>,
+    state: &mut State,
     tag: Tag,
     opened: usize,
     shut: usize,
     whole: bool,
 ) -> Step<'s>
+    requires state { state.old ≡ Inside tag opened shut whole }
     requires opened { opened ≤ cursor.old.at }
     requires shut { shut ≤ cursor.old.at }
     ensures text { cursor.new.text ≡ cursor.old.text }
     ensures steps { Steps syntax.now (stream_in syntax.now cursor.old.text (tag_view tag)
-        (behind syntax.now cursor.old.text whole) opened shut cursor.old.at) result cursor.new }
+        (behind syntax.now cursor.old.text whole) opened shut cursor.old.at) state.new result
+        cursor.new }
     ensures takes { Takes syntax.now cursor.old.text result }
 {
     let text = cursor.text();
     let at = cursor.at();
     if at == text.len() {
-        return step_end(cursor, tag, whole, close_over(at, at, tag));
+        return step_end(cursor, state, tag, whole, close_over(at, at, tag));
     }
     match tag_part_at(syntax, text, tag, opened, shut, at) {
         TagPart::Token(lexeme) => {
             let Ok(token) = token_of(alloc, text, at, lexeme) else {
                 return Step::NoMemory;
             };
-            let state = State::Inside {
-                tag,
-                opened: opened + opened_by(lexeme.sort),
-                shut: shut + shut_by(lexeme.sort),
-                whole,
-            };
+            let (opens, shuts) = (opened_by(lexeme.sort), shut_by(lexeme.sort));
+            // Only a bracket changes the state.
+            if opens + shuts != 0 {
+                *state = State::Inside {
+                    tag,
+                    opened: opened + opens,
+                    shut: shut + shuts,
+                    whole,
+                };
+            }
             let span = cursor.span(lexeme.start, lexeme.stop);
-            Step::Token(token, span, state)
+            Step::Token(token, span)
         }
-        TagPart::End(close) => step_end(cursor, tag, whole, close),
+        TagPart::End(close) => step_end(cursor, state, tag, whole, close),
     }
 }
 
 /// The end of a tag.
 #[inline(always)]
-fn step_end<'s>(cursor: &mut Cursor<'s>, tag: Tag, whole: bool, close: Close) -> Step<'s>
+fn step_end<'s>(
+    cursor: &mut Cursor<'s>,
+    state: &mut State,
+    tag: Tag,
+    whole: bool,
+    close: Close,
+) -> Step<'s>
     requires { ClosePlaces cursor.old.text cursor.old.at (close_view close) }
     ensures text { cursor.new.text ≡ cursor.old.text }
     ensures steps { (s : Syntax) → Steps s (close_stream cursor.old.text (tag_view tag)
-        (behind s cursor.old.text whole) (close_view close)) result cursor.new }
+        (behind s cursor.old.text whole) (close_view close)) state.new result cursor.new }
     ensures takes { (s : Syntax) → Takes s cursor.old.text result }
 {
     match close {
         Close::Closed { start, stop, after } => {
             let span = cursor.span(start, stop);
-            let state = state_behind(cursor, whole, after);
-            Step::Token(end_token(tag), span, state)
+            *state = state_behind(cursor, whole, after);
+            Step::Token(end_token(tag), span)
         }
         Close::Broken => Step::Over,
         Close::Refused {

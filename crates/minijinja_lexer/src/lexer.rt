@@ -30,21 +30,22 @@ fn next_step<'s>(
     alloc: Global,
     syntax: &SyntaxConfig,
     cursor: &mut Cursor<'s>,
-    state: State,
+    state: &mut State,
 ) -> Step<'s>
-    requires { StateFits cursor.old state }
+    requires { StateFits cursor.old state.old }
     ensures text { cursor.new.text ≡ cursor.old.text }
-    ensures steps { Steps syntax.now (stream_from syntax.now cursor.old state) result cursor.new }
+    ensures steps { Steps syntax.now (stream_from syntax.now cursor.old state.old) state.new result
+        cursor.new }
     ensures takes { Takes syntax.now cursor.old.text result }
 {
-    match state {
-        State::Outside => step_outside(syntax, cursor),
+    match *state {
+        State::Outside => step_outside(syntax, cursor, state),
         State::Inside {
             tag,
             opened,
             shut,
             whole,
-        } => step_inside(alloc, syntax, cursor, tag, opened, shut, whole),
+        } => step_inside(alloc, syntax, cursor, state, tag, opened, shut, whole),
         State::Over => Step::Over,
         State::Failed(fault, span) => Step::Failed(fault, span),
         State::NoMemory => Step::NoMemory,
@@ -207,11 +208,8 @@ impl<'s, 'c> Tokenizer<'s, 'c> {
         ensures filename { self.new.filename ≡ self.old.filename }
         ensures source { self.new.source ≡ self.old.source }
     {
-        match next_step(self.alloc, self.syntax, &mut self.cursor, self.state) {
-            Step::Token(token, span, state) => {
-                self.state = state;
-                *answer = Ok(Some((token, span)));
-            }
+        match next_step(self.alloc, self.syntax, &mut self.cursor, &mut self.state) {
+            Step::Token(token, span) => *answer = Ok(Some((token, span))),
             Step::Over => {
                 self.state = State::Over;
                 *answer = Ok(None);

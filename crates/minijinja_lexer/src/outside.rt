@@ -6,6 +6,7 @@ ghost use Rattle.minijinja_syntax.specs.Syntax.{start_of};
 ghost use Rattle.minijinja_lexer.specs.Cut as spec;
 ghost use Rattle.minijinja_lexer.specs.TextTokens.{stream_at};
 ghost use Rattle.minijinja_lexer.specs.private.RawPlaces.{RawBlockPlaces};
+ghost use Rattle.minijinja_lexer.specs.declared.step.State.TheVariants.{Outside};
 ghost use Rattle.minijinja_lexer.specs.private.States.{Steps, RawSteps, Takes, TakesBetween};
 ghost use Rattle.minijinja_lexer.specs.Raw.{raw_at};
 ghost use Rattle.minijinja_lexer.specs.private.Views.{control_view};
@@ -161,18 +162,19 @@ fn step_raw<'s>(cursor: &mut Cursor<'s>, text: &'s str, block: RawBlock) -> Step
     } = block;
     let span = cursor.span(begin, end);
     cursor.advance(after);
-    Step::Token(
-        Token::TemplateData(&text[start..stop]),
-        span,
-        State::Outside,
-    )
+    Step::Token(Token::TemplateData(&text[start..stop]), span)
 }
 
 /// The next token outside any tag.
-pub(crate) fn step_outside<'s>(syntax: &SyntaxConfig, cursor: &mut Cursor<'s>) -> Step<'s>
+pub(crate) fn step_outside<'s>(
+    syntax: &SyntaxConfig,
+    cursor: &mut Cursor<'s>,
+    state: &mut State,
+) -> Step<'s>
+    requires { state.old ≡ Outside }
     ensures text { cursor.new.text ≡ cursor.old.text }
-    ensures steps { Steps syntax.now (stream_at syntax.now cursor.old.text cursor.old.at) result
-        cursor.new }
+    ensures steps { Steps syntax.now (stream_at syntax.now cursor.old.text cursor.old.at) state.new
+        result cursor.new }
     ensures takes { Takes syntax.now cursor.old.text result }
 {
     let text = cursor.text();
@@ -183,7 +185,7 @@ pub(crate) fn step_outside<'s>(syntax: &SyntaxConfig, cursor: &mut Cursor<'s>) -
                 if kept != at {
                     let span = cursor.span_to(kept);
                     cursor.skip_to(stop);
-                    return Step::Token(Token::TemplateData(&text[at..kept]), span, State::Outside);
+                    return Step::Token(Token::TemplateData(&text[at..kept]), span);
                 }
                 cursor.advance(stop);
             }
@@ -191,16 +193,13 @@ pub(crate) fn step_outside<'s>(syntax: &SyntaxConfig, cursor: &mut Cursor<'s>) -
             Found::Raw(block) => return step_raw(cursor, text, block),
             Found::Tag(tag, body) => {
                 let span = cursor.span_to(body);
-                return Step::Token(
-                    start_token(tag),
-                    span,
-                    State::Inside {
-                        tag,
-                        opened: 0,
-                        shut: 0,
-                        whole: false,
-                    },
-                );
+                *state = State::Inside {
+                    tag,
+                    opened: 0,
+                    shut: 0,
+                    whole: false,
+                };
+                return Step::Token(start_token(tag), span);
             }
             Found::Unclosed(fault) => {
                 return Step::Failed(fault, cursor.refusal(text.len()));

@@ -21,10 +21,11 @@ pub(crate) enum State {
     NoMemory,
 }
 
-/// What a step yields: a token with its span and the state after it, the end, or a refusal.
+/// What a step yields: a token with its span, the end, or a refusal. Where a token changes the state,
+/// the step has changed it.
 #[derive(Drop)]
 pub(crate) enum Step<'s> {
-    Token(Token<'s>, Span, State),
+    Token(Token<'s>, Span),
     Over,
     Failed(LexFault, Span),
     NoMemory,

@@ -38,26 +38,26 @@ StateFits p state.Over = Unit {0}
 StateFits p (state.Failed f span) = Unit {0}
 StateFits p state.NoMemory = Unit {0}
 
--- a step takes the first token of what was to come, or says how it ends, or there is no memory for
--- that token
-abbrev pub Steps : Syntax → Stream → Step → Place → Type 0
-Steps s old (step.Token t span state) p = (old ≡ before ((tok_of t, span) ∷ []) (stream_from s p state)) × StateFits p state
-Steps s old step.Over p = old ≡ ended finished
-Steps s old (step.Failed f span) p = old ≡ ended (refused (fault_kind (fault_view f)) (Some span))
-Steps s old step.NoMemory p = (old ≡ out_of_memory) ⊎ NeedsMemory old.tokens
+-- a step takes the first token of what was to come, and the rest comes from the state that it leaves;
+-- or it says how what was to come ends, or there is no memory for that token
+abbrev pub Steps : Syntax → Stream → State → Step → Place → Type 0
+Steps s old new (step.Token t span) p = (old ≡ before ((tok_of t, span) ∷ []) (stream_from s p new)) × StateFits p new
+Steps s old new step.Over p = old ≡ ended finished
+Steps s old new (step.Failed f span) p = old ≡ ended (refused (fault_kind (fault_view f)) (Some span))
+Steps s old new step.NoMemory p = (old ≡ out_of_memory) ⊎ NeedsMemory old.tokens
 
 -- the token that a step takes stands between characters, and has the text that stands there
 abbrev pub Takes : Syntax → Text → Step → Type 0
-Takes s text (step.Token t span state) = IsBetweenChars text span × IsTokenText s text (tok_of t) span
+Takes s text (step.Token t span) = IsBetweenChars text span × IsTokenText s text (tok_of t) span
 Takes s text _ = Unit {0}
 
 -- the token that a step takes stands between characters
 abbrev pub TakesBetween : Text → Step → Type 0
-TakesBetween text (step.Token t span state) = IsBetweenChars text span
+TakesBetween text (step.Token t span) = IsBetweenChars text span
 TakesBetween text _ = Unit {0}
 
 -- a step that gives the token of a raw block, and goes on after it
 abbrev pub RawSteps : Text → RawBlock → Step → Place → Type 0
-RawSteps text block (step.Token t span state.Outside) p =
+RawSteps text block (step.Token t span) p =
     (tok_of t ≡ template_data (slice text block.start block.stop)) × (span ≡ span_at text block.begin block.end) × (p ≡ record { text = text; at = block.after })
 RawSteps text block _ p = ⊥

@@ -4,10 +4,12 @@ use Rattle.minijinja_syntax.specs.Positions.{span_at}
 use Rattle.minijinja_lexer.specs.private.Place.{Place}
 use Rattle.minijinja_lexer.specs.private.Views.{tag_view, fault_view}
 use Rattle.minijinja_syntax.specs.Streams.{Stream}
+use Rattle.minijinja_syntax.specs.declared.tokens.Token.TheVariants.{TemplateData}
+use Rattle.minijinja_lexer.specs.declared.step.State.TheVariants.{Outside}
 use Rattle.minijinja_lexer.specs.private.States.{Steps, RawSteps, Takes, TakesBetween}
 use Rattle.minijinja_lexer.specs.TextTokens.{stream_at, refusal_span}
 use Rattle.minijinja_lexer.proofs.Steps.{stream_at-over}
-use Rattle.minijinja_lexer.proofs.OutsideSteps.{here, outside_data, outside_none, outside_skipped, outside_unclosed, outside_raw, outside_tag}
+use Rattle.minijinja_lexer.proofs.OutsideSteps.{here, still_outside, outside_data, outside_none, outside_skipped, outside_unclosed, outside_raw, outside_tag}
 use Rattle.minijinja_lexer.proofs.RawTexts.{raw_takes}
 use Rattle.minijinja_lexer.proofs.outside.step_outside.Goals as goal
 use Rattle.minijinja_lexer.proofs.outside.step_outside.Goals.{After-found_at}
@@ -30,20 +32,20 @@ spanned : (c : After-found_at) (stop : ℕ) → span_at c.loop-text.cursor.text 
 spanned c stop = ap (λ x. span_at x c.loop-text.cursor.at stop) (same_text c) ∙ ap (λ n. span_at c.text-text.result.now n stop) (sym c.at-at.ensures.value)
 
 moved : (c : After-found_at) (p : Place) → p.text ≡ c.loop-text.cursor.text → stream_at c.args.syntax.now c.text-text.result.now c.at-at.result ≡ stream_at c.args.syntax.now p.text p.at
-    → (p.text ≡ c.args.cursor.now.text) × (stream_at c.args.syntax.now c.args.cursor.now.text p.at ≡ stream_at c.args.syntax.now c.args.cursor.now.text c.args.cursor.now.at)
+    → (p.text ≡ c.args.cursor.now.text) × (stream_at c.args.syntax.now c.args.cursor.now.text p.at ≡ stream_at c.args.syntax.now c.args.cursor.now.text c.args.cursor.now.at) × (c.loop-text.state ≡ Outside)
 moved c p e f =
     let g = e ∙ c.loop-text.invariant.0 in
-    (g, ap (λ x. stream_at c.args.syntax.now x p.at) (sym g) ∙ sym f ∙ sym (from_here c))
+    (g, ap (λ x. stream_at c.args.syntax.now x p.at) (sym g) ∙ sym f ∙ sym (from_here c), c.loop-text.invariant.2)
 
 pub returns-then-kept-at-clause-steps : goal.returns-then-kept-at-clause-steps
 returns-then-kept-at-clause-steps c =
-    let d = (goal.at-returns-then-kept-at-clause-steps c).After-found_at in (
-      from_here d ∙ outside_data c.args.syntax.now c.text-text.result.now c.range.result.now c.at-at.result c.in-Data.stop c.in-Data.kept c.span_to-span.result c.skip_to.new.self
-          (inside d) c.in-Data.ensures c.if-kept-at.true c.range.ensures.value
-          (c.span_to-span.ensures.span ∙ spanned d c.in-Data.kept)
-          (c.skip_to.ensures ∙ placed _ _ c.in-Data.stop (ap (λ (p : Place). p.text) c.span_to-span.ensures.place ∙ same_text d)),
-      tt,
-    )
+    let d = (goal.at-returns-then-kept-at-clause-steps c).After-found_at in
+    still_outside c.args.syntax.now _ c.loop-text.state (TemplateData c.range.result) c.span_to-span.result c.skip_to.new.self c.loop-text.invariant.2
+    (from_here d
+    ∙ outside_data c.args.syntax.now c.text-text.result.now c.range.result.now c.at-at.result c.in-Data.stop c.in-Data.kept c.span_to-span.result c.skip_to.new.self
+        (inside d) c.in-Data.ensures c.if-kept-at.true c.range.ensures.value
+        (c.span_to-span.ensures.span ∙ spanned d c.in-Data.kept)
+        (c.skip_to.ensures ∙ placed _ _ c.in-Data.stop (ap (λ (p : Place). p.text) c.span_to-span.ensures.place ∙ same_text d)))
 
 pub loop-text-preserved-in-Data : goal.loop-text-preserved-in-Data
 loop-text-preserved-in-Data c =
@@ -62,8 +64,8 @@ loop-text-preserved c =
 pub returns-in-Raw-clause-steps : goal.returns-in-Raw-clause-steps
 returns-in-Raw-clause-steps c =
     let d = (goal.at-returns-in-Raw-clause-steps c).After-found_at in
-    subst (λ (x : Stream). Steps c.args.syntax.now x c.step_raw.result c.step_raw.new.cursor) (sym (from_here d))
-    (outside_raw c.args.syntax.now c.text-text.result.now c.at-at.result c.in-Raw.block c.step_raw.result c.step_raw.new.cursor
+    subst (λ (x : Stream). Steps c.args.syntax.now x c.loop-text.state c.step_raw.result c.step_raw.new.cursor) (sym (from_here d))
+    (outside_raw c.args.syntax.now c.loop-text.state c.text-text.result.now c.at-at.result c.in-Raw.block c.step_raw.result c.step_raw.new.cursor c.loop-text.invariant.2
     (inside d) c.in-Raw.ensures (subst (λ x. RawSteps x c.in-Raw.block c.step_raw.result c.step_raw.new.cursor) (same_text d) c.step_raw.ensures.steps))
 
 pub returns-in-Raw-clause-takes : goal.returns-in-Raw-clause-takes
