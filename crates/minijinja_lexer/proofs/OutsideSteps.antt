@@ -159,8 +159,8 @@ outside_raw s new text at block (step.Token t span) p same h is steps =
     let m : at < block.after = omega (arith, a, b.begin_is, b.start_onwards, b.stop_onwards, b.end_onwards, b.after_onwards) in
     still_outside s _ new t span p same
     (stream_at-raw s text at (raw_block_view block) h m is.segment
-          ∙ ap (λ x. before ((x, span_at text block.begin block.end) ∷ []) (stream_at s text block.after)) (sym steps.0)
-          ∙ ap (λ x. before ((tok_of t, x) ∷ []) (stream_at s text block.after)) (sym steps.1)
+    ∙ ap (λ x. before ((x, span_at text block.begin block.end) ∷ []) (stream_at s text block.after)) (sym steps.0)
+    ∙ ap (λ x. before ((tok_of t, x) ∷ []) (stream_at s text block.after)) (sym steps.1)
     ∙ ap (before ((tok_of t, span) ∷ [])) (at_place s text block.after p steps.2))
 outside_raw s new text at block step.Over p same h is steps = absurd steps
 outside_raw s new text at block (step.Failed f x) p same h is steps = absurd steps

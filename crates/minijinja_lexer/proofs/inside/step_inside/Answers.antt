@@ -51,12 +51,12 @@ counted : (c : After-span-span) → c.if-opens-shuts-ne0.state ≡ Inside c.args
 counted c = elim c.if-opens-shuts-ne0.branch [
   | then-opens-shuts-ne0 w ↦ w.state-is
   | else-opens-shuts-ne0 w ↦
-    let none : c.opened_by-opens.result + c.shut_by-shuts.result ≡ 0 = w.if-opens-shuts-ne0.false in
-    let opened : c.args.opened ≡ c.args.opened + c.opened_by-opens.result = omega (arith, none) in
-    let shut : c.args.shut ≡ c.args.shut + c.shut_by-shuts.result = omega (arith, none) in
-    w.state-is ∙ c.requires.state
-    ∙ ap (λ n. Inside c.args.tag n c.args.shut c.args.whole) opened
-    ∙ ap (λ n. Inside c.args.tag (c.args.opened + c.opened_by-opens.result) n c.args.whole) shut
+      let none : c.opened_by-opens.result + c.shut_by-shuts.result ≡ 0 = w.if-opens-shuts-ne0.false in
+      let opened : c.args.opened ≡ c.args.opened + c.opened_by-opens.result = omega (arith, none) in
+      let shut : c.args.shut ≡ c.args.shut + c.shut_by-shuts.result = omega (arith, none) in
+      w.state-is ∙ c.requires.state
+      ∙ ap (λ n. Inside c.args.tag n c.args.shut c.args.whole) opened
+      ∙ ap (λ n. Inside c.args.tag (c.args.opened + c.opened_by-opens.result) n c.args.whole) shut
 ]
 
 pub returns-after-opens-shuts-ne0-clause-steps : goal.returns-after-opens-shuts-ne0-clause-steps

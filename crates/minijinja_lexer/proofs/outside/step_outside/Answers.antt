@@ -43,9 +43,9 @@ returns-then-kept-at-clause-steps c =
     still_outside c.args.syntax.now _ c.loop-text.state (TemplateData c.range.result) c.span_to-span.result c.skip_to.new.self c.loop-text.invariant.2
     (from_here d
     ∙ outside_data c.args.syntax.now c.text-text.result.now c.range.result.now c.at-at.result c.in-Data.stop c.in-Data.kept c.span_to-span.result c.skip_to.new.self
-        (inside d) c.in-Data.ensures c.if-kept-at.true c.range.ensures.value
-        (c.span_to-span.ensures.span ∙ spanned d c.in-Data.kept)
-        (c.skip_to.ensures ∙ placed _ _ c.in-Data.stop (ap (λ (p : Place). p.text) c.span_to-span.ensures.place ∙ same_text d)))
+    (inside d) c.in-Data.ensures c.if-kept-at.true c.range.ensures.value
+    (c.span_to-span.ensures.span ∙ spanned d c.in-Data.kept)
+    (c.skip_to.ensures ∙ placed _ _ c.in-Data.stop (ap (λ (p : Place). p.text) c.span_to-span.ensures.place ∙ same_text d)))
 
 pub loop-text-preserved-in-Data : goal.loop-text-preserved-in-Data
 loop-text-preserved-in-Data c =
