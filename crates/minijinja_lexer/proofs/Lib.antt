@@ -13,6 +13,7 @@ pub mod Searching
 pub mod Steps
 pub mod Stops
 pub mod Tokens
+pub mod Answering
 pub mod Within
 pub mod InsideSteps
 pub mod OutsideSteps

@@ -1,11 +1,11 @@
 //! Why a text is refused, and the errors for that.
-ghost use Rattle.std.specs.Prelude.{◌≡◌, Some};
+ghost use Rattle.std.specs.Prelude.{◌≡◌, IfErr, MatchResult, Some};
 ghost use Rattle.minijinja_syntax.specs.Errors.{IsOutOfMemory, kind_of, name_of, span_of};
 ghost use Rattle.minijinja_lexer.specs.Faults.{fault_kind};
 ghost use Rattle.minijinja_lexer.specs.private.Views.{fault_view};
 
 use minijinja_syntax::error::{Detail, Error, ErrorKind, Expected, Found};
-use minijinja_syntax::tokens::Span;
+use minijinja_syntax::tokens::{Span, Token};
 use std::alloc::AllocError;
 
 /// Why a text is refused.
@@ -54,20 +54,26 @@ fn kind(fault: LexFault) -> ErrorKind
     }
 }
 
-/// The refusal of a text. It is rare and large, so it is made out of line.
+/// Sets the result to the refusal. It is rare and large, so it is made out of line.
 #[cold]
-pub(crate) fn refusal<'s>(fault: LexFault, filename: &'s str, span: Span) -> Error<'s>
-    ensures kind { kind_of result ≡ fault_kind (fault_view fault) }
-    ensures name { name_of result ≡ Some filename.entry }
-    ensures span { span_of result ≡ Some span }
+pub(crate) fn refuse<'s>(
+    fault: LexFault,
+    filename: &'s str,
+    span: Span,
+    answer: &mut Result<Option<(Token<'s>, Span)>, Error<'s>>,
+)
+    ensures kind { MatchResult answer.new (λ _. ⊥)
+        (λ e. kind_of e ≡ fault_kind (fault_view fault)) }
+    ensures name { IfErr answer.new (λ e. name_of e ≡ Some filename.entry) }
+    ensures span { IfErr answer.new (λ e. span_of e ≡ Some span) }
 {
-    Error::new(kind(fault), detail(fault), Some(filename), Some(span))
+    *answer = Err(Error::new(kind(fault), detail(fault), Some(filename), Some(span)));
 }
 
-/// The refusal for memory, out of line.
+/// Sets the result to refused memory, out of line.
 #[cold]
-pub(crate) fn refusal_for_memory<'s>() -> Error<'s>
-    ensures { IsOutOfMemory result }
+pub(crate) fn refuse_for_memory<'s>(answer: &mut Result<Option<(Token<'s>, Span)>, Error<'s>>)
+    ensures { MatchResult answer.new (λ _. ⊥) IsOutOfMemory }
 {
-    Error::from(AllocError)
+    *answer = Err(Error::from(AllocError));
 }

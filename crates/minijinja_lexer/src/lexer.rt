@@ -7,11 +7,11 @@ ghost use Rattle.minijinja_syntax.specs.Tokens.{tok_of};
 ghost use Rattle.minijinja_syntax.specs.declared.error.ErrorKind.TheVariants.{OutOfMemory};
 ghost use Rattle.minijinja_lexer.specs.Slices.{IsBetweenChars, IsTokenText};
 ghost use Rattle.minijinja_lexer.specs.Stream.{Answers, IsNamed, IsTokenizerKind};
-ghost use Rattle.minijinja_lexer.specs.private.States.{Moves, StateFits, Steps, Takes, stream_from};
+ghost use Rattle.minijinja_lexer.specs.private.States.{StateFits, Steps, Takes, stream_from};
 ghost use Rattle.minijinja_lexer.specs.TextTokens.{text_of, tokens_of_template, tokens_of_expression, tokens_of_expression_at};
 
 use crate::cursor::Cursor;
-use crate::fault::{refusal, refusal_for_memory};
+use crate::fault::{refuse, refuse_for_memory};
 use crate::inside::step_inside;
 use crate::outside::step_outside;
 use crate::source::text_of;
@@ -155,25 +155,6 @@ impl<'s, 'c> Tokenizer<'s, 'c> {
         (tokenizer, begin)
     }
 
-    /// The next step, after which the end or a refusal stays.
-    #[inline(always)]
-    fn step(&mut self) -> Step<'s>
-        ensures moves { Moves self.old.stream result self.new.stream }
-        ensures takes { Takes self.old.syntax self.old.source result }
-        ensures syntax { self.new.syntax ≡ self.old.syntax }
-        ensures filename { self.new.filename ≡ self.old.filename }
-        ensures source { self.new.source ≡ self.old.source }
-    {
-        let step = next_step(self.alloc, self.syntax, &mut self.cursor, &mut self.state);
-        match &step {
-            Step::Token(_, _) => {}
-            Step::Over => self.state = State::Over,
-            Step::Failed(fault, span) => self.state = State::Failed(*fault, *span),
-            Step::NoMemory => self.state = State::NoMemory,
-        }
-        step
-    }
-
     /// The name of the source.
     pub fn filename(&self) -> &'s str
         ensures { result.now ≡ self.now.filename }
@@ -206,12 +187,9 @@ impl<'s, 'c> Tokenizer<'s, 'c> {
         ensures filename { self.new.filename ≡ self.old.filename }
         ensures source { self.new.source ≡ self.old.source }
     {
-        match self.step() {
-            Step::Token(token, span) => Ok(Some((token, span))),
-            Step::Over => Ok(None),
-            Step::Failed(fault, span) => Err(refusal(fault, self.filename, span)),
-            Step::NoMemory => Err(refusal_for_memory()),
-        }
+        let mut answer = Ok(None);
+        self.next_token_into(&mut answer);
+        answer
     }
 
     /// Like [`Tokenizer::next_token`], but the result is made in place of `answer`, whose old value
@@ -230,11 +208,20 @@ impl<'s, 'c> Tokenizer<'s, 'c> {
         ensures filename { self.new.filename ≡ self.old.filename }
         ensures source { self.new.source ≡ self.old.source }
     {
-        match self.step() {
+        match next_step(self.alloc, self.syntax, &mut self.cursor, &mut self.state) {
             Step::Token(token, span) => *answer = Ok(Some((token, span))),
-            Step::Over => *answer = Ok(None),
-            Step::Failed(fault, span) => *answer = Err(refusal(fault, self.filename, span)),
-            Step::NoMemory => *answer = Err(refusal_for_memory()),
+            Step::Over => {
+                self.state = State::Over;
+                *answer = Ok(None);
+            }
+            Step::Failed(fault, span) => {
+                self.state = State::Failed(fault, span);
+                refuse(fault, self.filename, span, answer);
+            }
+            Step::NoMemory => {
+                self.state = State::NoMemory;
+                refuse_for_memory(answer);
+            }
         }
     }
 }

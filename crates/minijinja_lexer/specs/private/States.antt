@@ -46,13 +46,6 @@ Steps s old new step.Over p = old ≡ ended finished
 Steps s old new (step.Failed f span) p = old ≡ ended (refused (fault_kind (fault_view f)) (Some span))
 Steps s old new step.NoMemory p = (old ≡ out_of_memory) ⊎ NeedsMemory old.tokens
 
--- a step of a tokenizer: what was to come, and what is to come then. The end and a refusal stay.
-abbrev pub Moves : Stream → Step → Stream → Type 0
-Moves old (step.Token t span) new = old ≡ before ((tok_of t, span) ∷ []) new
-Moves old step.Over new = (old ≡ ended finished) × (new ≡ old)
-Moves old (step.Failed f span) new = (old ≡ ended (refused (fault_kind (fault_view f)) (Some span))) × (new ≡ old)
-Moves old step.NoMemory new = ((old ≡ out_of_memory) ⊎ NeedsMemory old.tokens) × (new ≡ out_of_memory)
-
 -- the token that a step takes stands between characters, and has the text that stands there
 abbrev pub Takes : Syntax → Text → Step → Type 0
 Takes s text (step.Token t span) = IsBetweenChars text span × IsTokenText s text (tok_of t) span
