@@ -8,8 +8,6 @@
 pub mod compile;
 pub mod laws;
 pub mod owned_error;
-#[cfg(test)]
-mod tests;
 
 pub use minijinja_code::{codegen, instructions};
 pub use minijinja_lexer::lexer;

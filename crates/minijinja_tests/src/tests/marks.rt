@@ -1,9 +1,9 @@
 //! The lines and the spans of compiled code.
 use super::{Subject, hold, marked, parted, syntax_of};
-use crate::compile::{compile, compile_expression_in};
-use crate::instructions::Instructions;
-use crate::syntax::SyntaxConfig;
-use crate::value::Value;
+use minijinja_compiler::compile::{compile, compile_expression_in};
+use minijinja_compiler::instructions::Instructions;
+use minijinja_compiler::syntax::SyntaxConfig;
+use minijinja_compiler::value::Value;
 use std::alloc::{AllocError, Global};
 use std::test::Fail;
 

@@ -1,8 +1,8 @@
 //! How values are printed, and the results of their operators and calls.
 use super::{Subject, hold, parted};
-use crate::error::Error;
-use crate::parser::parse_expr;
-use crate::value::{OpError, Rendered, TemplateValue, Value, ValueFault, ValueMap};
+use minijinja_compiler::error::Error;
+use minijinja_compiler::parser::parse_expr;
+use minijinja_compiler::value::{OpError, Rendered, TemplateValue, Value, ValueFault, ValueMap};
 use std::alloc::{AllocError, Global};
 use std::process::Abort;
 use std::test::Fail;

@@ -1,9 +1,9 @@
 //! The names that macros need from outside.
 use super::{Subject, hold, parse_page};
-use crate::ast::{Macro, Stmt};
-use crate::error::Error;
-use crate::meta::find_macro_closure;
-use crate::value::Value;
+use minijinja_compiler::ast::{Macro, Stmt};
+use minijinja_compiler::error::Error;
+use minijinja_compiler::meta::find_macro_closure;
+use minijinja_compiler::value::Value;
 use std::alloc::Global;
 use std::collections::BTreeSet;
 use std::test::Fail;

@@ -1,10 +1,12 @@
 //! The words of refusals and of places.
-use crate::compile::compile;
-use crate::error::{BodyStatement, Detail, Error, ErrorKind, Expected, Found, OpenStatement};
-use crate::owned_error::OwnedError;
-use crate::syntax::SyntaxConfig;
-use crate::tokens::{Span, Token};
-use crate::value::Value;
+use minijinja_compiler::compile::compile;
+use minijinja_compiler::error::{
+    BodyStatement, Detail, Error, ErrorKind, Expected, Found, OpenStatement,
+};
+use minijinja_compiler::owned_error::OwnedError;
+use minijinja_compiler::syntax::SyntaxConfig;
+use minijinja_compiler::tokens::{Span, Token};
+use minijinja_compiler::value::Value;
 use std::alloc::{AllocError, Global};
 use std::process::Abort;
 use std::test::Fail;

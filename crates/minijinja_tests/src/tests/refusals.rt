@@ -1,9 +1,9 @@
 //! Texts that are wrong, and the words that say why: what was found, what was wanted, and which
 //! statement is open.
 use super::{Subject, hold, parse_page, parted, syntax_of};
-use crate::error::Error;
-use crate::parser::{parse, parse_expr};
-use crate::value::Value;
+use minijinja_compiler::error::Error;
+use minijinja_compiler::parser::{parse, parse_expr};
+use minijinja_compiler::value::Value;
 use std::alloc::{AllocError, Global};
 use std::process::Abort;
 use std::test::Fail;

@@ -1,14 +1,14 @@
 //! The generator and its lists of instructions. What they make of texts stands in the tests of the
 //! program.
 use super::{Subject, finished, hold};
-use crate::ast::{Expr, Spanned, Var};
-use crate::codegen::CodeGenerator;
-use crate::error::Error;
-use crate::instructions::{Instruction, Instructions};
-use crate::parser::{parse, parse_expr};
-use crate::syntax::SyntaxConfig;
-use crate::tokens::Span;
-use crate::value::Value;
+use minijinja_compiler::ast::{Expr, Spanned, Var};
+use minijinja_compiler::codegen::CodeGenerator;
+use minijinja_compiler::error::Error;
+use minijinja_compiler::instructions::{Instruction, Instructions};
+use minijinja_compiler::parser::{parse, parse_expr};
+use minijinja_compiler::syntax::SyntaxConfig;
+use minijinja_compiler::tokens::Span;
+use minijinja_compiler::value::Value;
 use std::alloc::{AllocError, Global};
 use std::process::Abort;
 use std::test::Fail;

@@ -8,9 +8,9 @@ mod reading;
 mod sparing;
 
 use super::{decoded, parted};
-use crate::error::{Error, ErrorKind};
-use crate::instructions::Instructions;
-use crate::value::Value;
+use minijinja_compiler::error::{Error, ErrorKind};
+use minijinja_compiler::instructions::Instructions;
+use minijinja_compiler::value::Value;
 use std::alloc::{AllocError, Global};
 use std::process::Abort;
 use std::test::Fail;

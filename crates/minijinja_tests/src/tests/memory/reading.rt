@@ -1,13 +1,13 @@
 //! Calls that read a text: to tokens, to a tree, to names and to code.
 use super::{Ballast, Refusable, is_refused_so, push_code, refused, refused_at_each};
-use crate::ast::Stmt;
-use crate::compile::{compile, compile_expression};
-use crate::error::Error;
-use crate::lexer::Tokenizer;
-use crate::meta::{find_macro_closure, find_undeclared};
-use crate::parser::{Parser, TokenStream, parse, parse_expr};
 use crate::tests::{parse_page, parted, syntax_of};
-use crate::value::Value;
+use minijinja_compiler::ast::Stmt;
+use minijinja_compiler::compile::{compile, compile_expression};
+use minijinja_compiler::error::Error;
+use minijinja_compiler::lexer::Tokenizer;
+use minijinja_compiler::meta::{find_macro_closure, find_undeclared};
+use minijinja_compiler::parser::{Parser, TokenStream, parse, parse_expr};
+use minijinja_compiler::value::Value;
 use std::alloc::{AllocError, Global};
 use std::collections::BTreeSet;
 use std::test::Fail;

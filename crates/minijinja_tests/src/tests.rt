@@ -1,5 +1,5 @@
 //! Tests of the compiler and of the crates below it: a crate that has tests is proved twice, so
-//! they stand here.
+//! they stand in one that has nothing else.
 //!
 //! The rows of a subject stand in one text, since a test is proved too, with each text that it
 //! names spelled out.
@@ -24,14 +24,14 @@ mod syntax;
 mod tree;
 mod values;
 
-use crate::ast::Stmt;
-use crate::codegen::CodeGenerator;
-use crate::compile::{Compiled, compile};
-use crate::error::{Detail, Error, ErrorKind};
-use crate::instructions::Instructions;
-use crate::parser::parse;
-use crate::syntax::{SyntaxConfig, SyntaxConfigBuilder};
-use crate::value::Value;
+use minijinja_compiler::ast::Stmt;
+use minijinja_compiler::codegen::CodeGenerator;
+use minijinja_compiler::compile::{Compiled, compile};
+use minijinja_compiler::error::{Detail, Error, ErrorKind};
+use minijinja_compiler::instructions::Instructions;
+use minijinja_compiler::parser::parse;
+use minijinja_compiler::syntax::{SyntaxConfig, SyntaxConfigBuilder};
+use minijinja_compiler::value::Value;
 use std::alloc::{AllocError, Global};
 use std::ops::Range;
 use std::process::Abort;

@@ -2,8 +2,8 @@
 //! rows of what a parser or a generator that calls itself would end the process at: a test has a
 //! minute.
 use super::{Subject, hold, page_length, parted, repeated, syntax_of};
-use crate::lexer::Tokenizer;
-use crate::syntax::SyntaxConfig;
+use minijinja_compiler::lexer::Tokenizer;
+use minijinja_compiler::syntax::SyntaxConfig;
 use std::alloc::Global;
 use std::test::Fail;
 

@@ -4,11 +4,11 @@
 //! is the first one.
 use super::parser::{Refusal, refusal_of};
 use super::{Subject, hold, parted, repeated, syntax_of};
-use crate::compile::compile;
-use crate::error::ErrorKind;
-use crate::lexer::Tokenizer;
-use crate::syntax::SyntaxConfig;
-use crate::value::Value;
+use minijinja_compiler::compile::compile;
+use minijinja_compiler::error::ErrorKind;
+use minijinja_compiler::lexer::Tokenizer;
+use minijinja_compiler::syntax::SyntaxConfig;
+use minijinja_compiler::value::Value;
 use std::alloc::{AllocError, Global};
 use std::test::Fail;
 

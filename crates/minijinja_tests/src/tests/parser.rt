@@ -2,12 +2,12 @@
 ghost use Rattle.std.specs.Prelude.{◌<◌, ◌^◌, length};
 
 use super::{Subject, hold, parse_page, repeated};
-use crate::ast::Stmt;
-use crate::error::{Error, ErrorKind};
-use crate::parser::{Parser, TokenStream, parse_expr};
-use crate::syntax::SyntaxConfig;
-use crate::tokens::Span;
-use crate::value::Value;
+use minijinja_compiler::ast::Stmt;
+use minijinja_compiler::error::{Error, ErrorKind};
+use minijinja_compiler::parser::{Parser, TokenStream, parse_expr};
+use minijinja_compiler::syntax::SyntaxConfig;
+use minijinja_compiler::tokens::Span;
+use minijinja_compiler::value::Value;
 use std::alloc::{AllocError, Global};
 use std::process::Abort;
 use std::test::Fail;

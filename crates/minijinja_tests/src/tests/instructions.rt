@@ -1,8 +1,10 @@
 //! Which lines and spans a list keeps and which it returns, and which names it refers to.
-use crate::error::Error;
-use crate::instructions::{Instruction, InstructionList, Instructions, LOOP_FLAG_WITH_LOOP_VAR};
-use crate::tokens::Span;
-use crate::value::Value;
+use minijinja_compiler::error::Error;
+use minijinja_compiler::instructions::{
+    Instruction, InstructionList, Instructions, LOOP_FLAG_WITH_LOOP_VAR,
+};
+use minijinja_compiler::tokens::Span;
+use minijinja_compiler::value::Value;
 use std::alloc::Global;
 use std::test::Fail;
 

@@ -1,14 +1,14 @@
 //! Calls that make code, values, nodes and syntaxes.
 use super::{Ballast, Refusable, is_refused_so, push_code, refused, refused_at_each};
-use crate::ast::{Expr, Spanned, Var};
-use crate::codegen::CodeGenerator;
-use crate::error::Error;
-use crate::instructions::{Instruction, Instructions};
-use crate::parser::{parse, parse_expr};
-use crate::syntax::{StartMarkerMatcher, SyntaxConfig};
 use crate::tests::{compile_page, parted, set, syntax_of};
-use crate::tokens::Span;
-use crate::value::{TemplateValue, Value, ValueMap};
+use minijinja_compiler::ast::{Expr, Spanned, Var};
+use minijinja_compiler::codegen::CodeGenerator;
+use minijinja_compiler::error::Error;
+use minijinja_compiler::instructions::{Instruction, Instructions};
+use minijinja_compiler::parser::{parse, parse_expr};
+use minijinja_compiler::syntax::{StartMarkerMatcher, SyntaxConfig};
+use minijinja_compiler::tokens::Span;
+use minijinja_compiler::value::{TemplateValue, Value, ValueMap};
 use std::alloc::{AllocError, Global};
 use std::test::Fail;
 

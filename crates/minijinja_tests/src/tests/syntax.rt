@@ -1,7 +1,7 @@
 //! How syntaxes are built, and which start marker a search finds.
 use super::{Subject, hold, parted, syntax_of};
-use crate::error::Error;
-use crate::syntax::{StartMarker, StartMarkerMatcher, SyntaxConfig};
+use minijinja_compiler::error::Error;
+use minijinja_compiler::syntax::{StartMarker, StartMarkerMatcher, SyntaxConfig};
 use std::alloc::{AllocError, Global};
 use std::process::Abort;
 use std::test::Fail;

@@ -1,15 +1,15 @@
 //! Calls that take no memory: they answer with none left.
 use super::{Ballast, Refusable, answered_without};
-use crate::ast::{CallType, Expr};
-use crate::codegen::CodeGenerator;
-use crate::error::{Detail, Error, ErrorKind};
-use crate::instructions::{Instruction, Instructions};
-use crate::lexer::Tokenizer;
-use crate::parser::{Parser, TokenStream, parse, parse_expr};
-use crate::syntax::{StartMarkerMatcher, SyntaxConfig};
 use crate::tests::{compile_page, parse_page, syntax_of};
-use crate::tokens::Span;
-use crate::value::{TemplateValue, Value, ValueMap};
+use minijinja_compiler::ast::{CallType, Expr};
+use minijinja_compiler::codegen::CodeGenerator;
+use minijinja_compiler::error::{Detail, Error, ErrorKind};
+use minijinja_compiler::instructions::{Instruction, Instructions};
+use minijinja_compiler::lexer::Tokenizer;
+use minijinja_compiler::parser::{Parser, TokenStream, parse, parse_expr};
+use minijinja_compiler::syntax::{StartMarkerMatcher, SyntaxConfig};
+use minijinja_compiler::tokens::Span;
+use minijinja_compiler::value::{TemplateValue, Value, ValueMap};
 use std::alloc::{AllocError, Global};
 use std::test::Fail;
 

@@ -2,10 +2,10 @@
 //!
 //! The program's tests have the lines and columns of tokens.
 use super::{Subject, compile_page, hold, parted, repeated, syntax_of};
-use crate::error::Error;
-use crate::lexer::Tokenizer;
-use crate::syntax::SyntaxConfig;
-use crate::tokens::{Span, Token};
+use minijinja_compiler::error::Error;
+use minijinja_compiler::lexer::Tokenizer;
+use minijinja_compiler::syntax::SyntaxConfig;
+use minijinja_compiler::tokens::{Span, Token};
 use std::alloc::{AllocError, Global};
 use std::test::Fail;
 

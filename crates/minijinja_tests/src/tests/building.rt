@@ -1,9 +1,9 @@
 //! Code that is made by the calls of a generator, one instruction after another.
 use super::finished;
-use crate::codegen::CodeGenerator;
-use crate::instructions::{Instruction, Instructions};
-use crate::tokens::Span;
-use crate::value::Value;
+use minijinja_compiler::codegen::CodeGenerator;
+use minijinja_compiler::instructions::{Instruction, Instructions};
+use minijinja_compiler::tokens::Span;
+use minijinja_compiler::value::Value;
 use std::alloc::{AllocError, Global};
 use std::process::Abort;
 use std::test::Fail;

@@ -1,9 +1,9 @@
 //! Whole compiles: templates and expressions with ample memory, and what is refused.
 use super::{Subject, compile_page, hold, marked, page_length, parted, syntax_of};
-use crate::compile::{Compiled, compile_expression, compile_expression_in};
-use crate::error::{Error, ErrorKind};
-use crate::instructions::Instructions;
-use crate::value::Value;
+use minijinja_compiler::compile::{Compiled, compile_expression, compile_expression_in};
+use minijinja_compiler::error::{Error, ErrorKind};
+use minijinja_compiler::instructions::Instructions;
+use minijinja_compiler::value::Value;
 use std::alloc::{AllocError, Global};
 use std::process::Abort;
 use std::test::Fail;

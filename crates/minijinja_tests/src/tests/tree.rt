@@ -1,9 +1,9 @@
 //! The trees of expressions: their values, what they are called, and whether they are well formed.
 use super::values::{Constants, printed};
 use super::{Subject, hold};
-use crate::ast::{BinOpKind, CallType, CompareOpKind, Expr, UnaryOpKind};
-use crate::parser::parse_expr;
-use crate::value::{OpError, TemplateValue, Value, ValueFault};
+use minijinja_compiler::ast::{BinOpKind, CallType, CompareOpKind, Expr, UnaryOpKind};
+use minijinja_compiler::parser::parse_expr;
+use minijinja_compiler::value::{OpError, TemplateValue, Value, ValueFault};
 use minijinja_tree::constants::constant_kwargs;
 use std::alloc::{AllocError, Global};
 use std::test::Fail;

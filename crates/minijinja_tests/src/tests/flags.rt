@@ -1,11 +1,11 @@
 //! The flags of loops and of macros, whose bits a renderer tests.
 use super::{Subject, hold};
-use crate::compile::compile;
-use crate::instructions::{
+use minijinja_compiler::compile::compile;
+use minijinja_compiler::instructions::{
     Instruction, LOOP_FLAG_RECURSIVE, LOOP_FLAG_WITH_LOOP_VAR, MACRO_CALLER,
 };
-use crate::syntax::SyntaxConfig;
-use crate::value::Value;
+use minijinja_compiler::syntax::SyntaxConfig;
+use minijinja_compiler::value::Value;
 use std::alloc::{AllocError, Global};
 use std::test::Fail;
 
