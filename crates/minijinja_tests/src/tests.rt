@@ -33,6 +33,7 @@ use minijinja_compiler::parser::parse;
 use minijinja_compiler::syntax::{SyntaxConfig, SyntaxConfigBuilder};
 use minijinja_compiler::value::Value;
 use std::alloc::{AllocError, Global};
+use std::fmt::{Debug, Display};
 use std::ops::Range;
 use std::process::Abort;
 use std::test::Fail;
@@ -118,6 +119,16 @@ fn repeated(alloc: Global, pieces: &str) -> Result<String, Fail> {
         }
     }
     Ok(text)
+}
+
+/// Appends a value and a space.
+fn push_word(words: &mut String, value: impl Display + Drop) -> Result<(), AllocError> {
+    write!(words, "{value} ")
+}
+
+/// Appends the debug form of a value and a space.
+fn push_debug(words: &mut String, value: impl Debug + Drop) -> Result<(), AllocError> {
+    write!(words, "{value:?} ")
 }
 
 /// The syntax with these options, which are parted by commas: `default`, the name of a flag that is

@@ -3,9 +3,16 @@ use super::{Subject, hold, marked, parted, syntax_of};
 use minijinja_compiler::compile::{compile, compile_expression_in};
 use minijinja_compiler::instructions::Instructions;
 use minijinja_compiler::syntax::SyntaxConfig;
+use minijinja_compiler::tokens::Span;
 use minijinja_compiler::value::Value;
 use std::alloc::{AllocError, Global};
 use std::test::Fail;
+
+fn push_span(words: &mut String, span: Span) -> Result<(), AllocError> {
+    let (start, start_col) = (span.start_line, span.start_col);
+    let (end, end_col) = (span.end_line, span.end_col);
+    write!(words, "@{start}:{start_col}-{end}:{end_col}")
+}
 
 /// Adds the line of an instruction, and its span, if it has one.
 fn push_place(
@@ -17,8 +24,7 @@ fn push_place(
         write!(words, "{line}")?;
     }
     if let Some(span) = code.get_span(index) {
-        write!(words, "@{}:{}-", span.start_line, span.start_col)?;
-        write!(words, "{}:{}", span.end_line, span.end_col)?;
+        push_span(words, span)?;
     }
     words.push_str(" ")
 }

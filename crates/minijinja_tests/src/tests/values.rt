@@ -325,6 +325,10 @@ fn keys_are_found_by_their_text(rt: HostRuntime) -> Result<(), Fail> {
     hold::<Found>(&rt, rt.alloc(), rows)
 }
 
+fn push_pair(words: &mut String, key: &Value, value: &Value) -> Result<(), AllocError> {
+    write!(words, "{}={}", Rendered(key), Rendered(value))
+}
+
 /// Maps: what a template prints for each key and its value, once by reference and once taken out.
 enum Pairs {}
 
@@ -333,10 +337,12 @@ impl Subject for Pairs {
         let map = map_value(alloc, text)?;
         let mut words = String::new(alloc);
         for (key, value) in &map {
-            write!(words, "{}={},", Rendered(key), Rendered(value))?;
+            push_pair(&mut words, key, value)?;
+            words.push_str(",")?;
         }
         for (key, value) in map.into_pairs() {
-            write!(words, ";{}={}", Rendered(&key), Rendered(&value))?;
+            words.push_str(";")?;
+            push_pair(&mut words, &key, &value)?;
         }
         Ok(words)
     }

@@ -1,6 +1,6 @@
 //! Calls that make code, values, nodes and syntaxes.
 use super::{Ballast, Refusable, is_refused_so, push_code, refused, refused_at_each};
-use crate::tests::{compile_page, parted, set, syntax_of};
+use crate::tests::{compile_page, parted, push_word, set, syntax_of};
 use minijinja_compiler::ast::{Expr, Spanned, Var};
 use minijinja_compiler::codegen::CodeGenerator;
 use minijinja_compiler::error::Error;
@@ -30,6 +30,11 @@ fn has_refused<'s>(generator: &mut CodeGenerator<'s, Value>, error: Error<'_>) -
         && is_refused_so(generator.start_sc_bool(), error)
 }
 
+/// Appends how many instructions a generator has.
+fn push_count(words: &mut String, generator: &CodeGenerator<'_, Value>) -> Result<(), AllocError> {
+    write!(words, "{} instructions", generator.next_instruction())
+}
+
 /// Templates: the code that a generator makes of their tree. A refusal stands.
 enum Generates {}
 
@@ -48,7 +53,7 @@ impl Refusable for Generates {
             let stands = has_refused(&mut generator, error);
             return refused(error, stands, words);
         }
-        write!(words, "{} instructions", generator.next_instruction())?;
+        push_count(words, &generator)?;
         Ok(())
     }
 }
@@ -83,7 +88,7 @@ impl Refusable for GeneratesExpression {
                 && is_refused_so(generator.compile_expr(&expr), error);
             return refused(error, stands, words);
         }
-        write!(words, "{} instructions", generator.next_instruction())?;
+        push_count(words, &generator)?;
         Ok(())
     }
 }
@@ -117,7 +122,7 @@ impl Refusable for Assigns {
                 && is_refused_so(generator.compile_assignment(&target), error);
             return refused(error, stands, words);
         }
-        write!(words, "{} instructions", generator.next_instruction())?;
+        push_count(words, &generator)?;
         Ok(())
     }
 }
@@ -182,7 +187,7 @@ impl Refusable for Opens {
                 return refused(error, stands, words);
             }
         }
-        write!(words, "{} instructions", generator.next_instruction())?;
+        push_count(words, &generator)?;
         Ok(())
     }
 }
@@ -245,6 +250,19 @@ fn lists_are_refused_at_each_request(rt: HostRuntime) -> Result<(), Fail> {
     refused_at_each::<Lists>(&rt, rt.alloc(), "a list => true")
 }
 
+/// Appends the names that are referenced at an index.
+fn push_referenced<'s>(
+    words: &mut String,
+    code: &Instructions<'s, Value>,
+    index: u32,
+) -> Result<(), Error<'s>> {
+    for name in &code.get_referenced_names(index)? {
+        push_word(words, *name)?;
+    }
+    words.push_str("at ")?;
+    Ok(write!(words, "{index}; ")?)
+}
+
 /// Templates: the names that are referenced at some indices.
 enum Referenced {}
 
@@ -258,11 +276,7 @@ impl Refusable for Referenced {
         let compiled = compile_page(alloc, text)?;
         ballast.narrow();
         for index in [11, 5, 0] {
-            for name in &compiled.instructions.get_referenced_names(index)? {
-                write!(words, "{name} ")?;
-            }
-            words.push_str("at ")?;
-            write!(words, "{index}; ")?;
+            push_referenced(words, &compiled.instructions, index)?;
         }
         words.push_str("end")?;
         Ok(())
@@ -277,17 +291,14 @@ fn referenced_names_are_refused_at_each_request(rt: HostRuntime) -> Result<(), F
 
 /// Appends what a syntax has.
 fn push_syntax(words: &mut String, syntax: &SyntaxConfig) -> Result<(), AllocError> {
-    let (block, variable) = (syntax.block_delimiters(), syntax.variable_delimiters());
-    let comment = syntax.comment_delimiters();
-    write!(
-        words,
-        "{} {} {} {} ",
-        block.0, block.1, variable.0, variable.1
-    )?;
-    write!(words, "{} {} ", comment.0, comment.1)?;
-    let statement = syntax.line_statement_prefix().unwrap_or("none");
-    let line_comment = syntax.line_comment_prefix().unwrap_or("none");
-    write!(words, "{statement} {line_comment}")
+    push_word(words, syntax.block_delimiters().0)?;
+    push_word(words, syntax.block_delimiters().1)?;
+    push_word(words, syntax.variable_delimiters().0)?;
+    push_word(words, syntax.variable_delimiters().1)?;
+    push_word(words, syntax.comment_delimiters().0)?;
+    push_word(words, syntax.comment_delimiters().1)?;
+    push_word(words, syntax.line_statement_prefix().unwrap_or("none"))?;
+    words.push_str(syntax.line_comment_prefix().unwrap_or("none"))
 }
 
 /// Options one after another: the syntax with all of them. A refusal leaves the builder with those
@@ -345,6 +356,10 @@ fn finds_marker(alloc: Global, syntax: &SyntaxConfig) -> Result<bool, Error<'sta
     Ok(matcher.find("ab#c", 1).is_some())
 }
 
+fn push_is_found(words: &mut String, is_found: bool) -> Result<(), AllocError> {
+    write!(words, ", {is_found}")
+}
+
 /// Syntaxes: copies of them, and whether a copy finds a marker in a text.
 enum Copies {}
 
@@ -359,7 +374,7 @@ impl Refusable for Copies {
         ballast.narrow();
         let copy = copied(alloc, &syntax)?;
         push_syntax(words, &copy)?;
-        write!(words, ", {}", finds_marker(alloc, &copy)?)?;
+        push_is_found(words, finds_marker(alloc, &copy)?)?;
         Ok(())
     }
 }
@@ -407,6 +422,10 @@ fn made(alloc: Global, call: &str, left: Value, right: Value) -> Result<Value, A
     }
 }
 
+fn push_value(words: &mut String, value: Value) -> Result<(), AllocError> {
+    write!(words, "{value}")
+}
+
 /// Two values and a call: what it makes of them.
 enum Makes {}
 
@@ -421,7 +440,7 @@ impl Refusable for Makes {
         let (left, right) = parted(operands, " | ");
         let (left, right) = (value_of(alloc, left)?, value_of(alloc, right)?);
         ballast.narrow();
-        write!(words, "{}", made(alloc, call, left, right)?)?;
+        push_value(words, made(alloc, call, left, right)?)?;
         Ok(())
     }
 }

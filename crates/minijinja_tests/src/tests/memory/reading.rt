@@ -2,15 +2,35 @@
 use super::{Ballast, Refusable, is_refused_so, push_code, refused, refused_at_each};
 use crate::tests::{parse_page, parted, syntax_of};
 use minijinja_compiler::ast::Stmt;
-use minijinja_compiler::compile::{compile, compile_expression};
+use minijinja_compiler::compile::{Compiled, compile, compile_expression};
 use minijinja_compiler::error::Error;
+use minijinja_compiler::instructions::Instructions;
 use minijinja_compiler::lexer::Tokenizer;
 use minijinja_compiler::meta::{find_macro_closure, find_undeclared};
 use minijinja_compiler::parser::{Parser, TokenStream, parse, parse_expr};
+use minijinja_compiler::tokens::Token;
 use minijinja_compiler::value::Value;
 use std::alloc::{AllocError, Global};
 use std::collections::BTreeSet;
 use std::test::Fail;
+
+/// Appends the code of a block.
+fn push_block(
+    words: &mut String,
+    name: &str,
+    code: &Instructions<'_, Value>,
+) -> Result<(), AllocError> {
+    write!(words, "block {name}: ")?;
+    push_code(words, code)
+}
+
+/// Appends the code of each block and the hint.
+fn push_blocks(words: &mut String, compiled: &Compiled<'_>) -> Result<(), AllocError> {
+    for (name, code) in &compiled.blocks {
+        push_block(words, name, code)?;
+    }
+    write!(words, "hint {}", compiled.buffer_size_hint)
+}
 
 /// Texts after their options: their code.
 enum Compiles {}
@@ -27,11 +47,7 @@ impl Refusable for Compiles {
         ballast.narrow();
         let compiled = compile(alloc, source, "page", &syntax)?;
         push_code(words, &compiled.instructions)?;
-        for (name, code) in &compiled.blocks {
-            write!(words, "block {name}: ")?;
-            push_code(words, code)?;
-        }
-        write!(words, "hint {}", compiled.buffer_size_hint)?;
+        push_blocks(words, &compiled)?;
         Ok(())
     }
 }
@@ -77,11 +93,15 @@ foo.1.0 => Lookup("foo"); LoadConst(1); GetItem; LoadConst(0); GetItem; end
     refused_at_each::<CompilesExpression>(&rt, rt.alloc(), rows)
 }
 
+fn push_token(words: &mut String, token: Token<'_>) -> Result<(), AllocError> {
+    write!(words, "{token}; ")
+}
+
 /// Appends the tokens that are left.
 fn push_tokens<'s>(tokenizer: &mut Tokenizer<'s, '_>, words: &mut String) -> Result<(), Error<'s>> {
     for _ in 0..100 {
         match tokenizer.next_token()? {
-            Some((token, _)) => write!(words, "{token}; ")?,
+            Some((token, _)) => push_token(words, token)?,
             None => return Ok(words.push_str("end")?),
         }
     }
@@ -123,11 +143,15 @@ default | {{ a 'b\n' 18446744073709551616 'c\td' }} => start of variable block; 
     refused_at_each::<Tokenizes>(&rt, rt.alloc(), rows)
 }
 
+fn push_viewed(words: &mut String, token: &Token<'_>) -> Result<(), AllocError> {
+    write!(words, "{token}; ")
+}
+
 /// Appends the tokens that come.
 fn push_stream<'s>(stream: &mut TokenStream<'s, '_>, words: &mut String) -> Result<(), Error<'s>> {
     for _ in 0..100 {
         match stream.current()? {
-            Some((token, _)) => write!(words, "{token}; ")?,
+            Some((token, _)) => push_viewed(words, token)?,
             None => return Ok(words.push_str("end")?),
         }
         let _ = stream.next()?;
@@ -258,6 +282,10 @@ foo.1.0 => expression
     refused_at_each::<ParsesExpression>(&rt, rt.alloc(), rows)
 }
 
+fn push_value(words: &mut String, value: Value) -> Result<(), AllocError> {
+    write!(words, "{value}")
+}
+
 /// Expressions: their value, if it is known.
 enum Constants {}
 
@@ -271,7 +299,7 @@ impl Refusable for Constants {
         let expr = parse_expr::<Value>(alloc, text)?;
         ballast.narrow();
         match expr.as_const(alloc)? {
-            Some(value) => write!(words, "{value}")?,
+            Some(value) => push_value(words, value)?,
             None => words.push_str("unknown")?,
         }
         Ok(())

@@ -1,17 +1,39 @@
 //! Calls that take no memory: they answer with none left.
 use super::{Ballast, Refusable, answered_without};
-use crate::tests::{compile_page, parse_page, syntax_of};
-use minijinja_compiler::ast::{CallType, Expr};
+use crate::tests::{compile_page, parse_page, push_debug, push_word, syntax_of};
+use minijinja_compiler::ast::{CallType, Expr, Stmt};
 use minijinja_compiler::codegen::CodeGenerator;
 use minijinja_compiler::error::{Detail, Error, ErrorKind};
 use minijinja_compiler::instructions::{Instruction, Instructions};
 use minijinja_compiler::lexer::Tokenizer;
-use minijinja_compiler::parser::{Parser, TokenStream, parse, parse_expr};
-use minijinja_compiler::syntax::{StartMarkerMatcher, SyntaxConfig};
-use minijinja_compiler::tokens::Span;
+use minijinja_compiler::parser::{Parser, TokenStream, parse_expr};
+use minijinja_compiler::syntax::{StartMarkerMatcher, SyntaxConfig, SyntaxConfigBuilder};
+use minijinja_compiler::tokens::{Span, Token};
 use minijinja_compiler::value::{TemplateValue, Value, ValueMap};
 use std::alloc::{AllocError, Global};
 use std::test::Fail;
+
+/// Appends a token and where it stands.
+fn push_place(words: &mut String, token: Token<'_>, span: Span) -> Result<(), AllocError> {
+    write!(words, "{token}{span:?}; ")
+}
+
+/// Appends the tokens that are left, each with its place.
+fn push_places<'s>(tokenizer: &mut Tokenizer<'s, '_>, words: &mut String) -> Result<(), Error<'s>> {
+    for _ in 0..100 {
+        match tokenizer.next_token()? {
+            Some((token, span)) => push_place(words, token, span)?,
+            None => return Ok(words.push_str("end")?),
+        }
+    }
+    Ok(())
+}
+
+/// Appends the name and the length of a source.
+fn push_source(words: &mut String, tokenizer: &Tokenizer<'_, '_>) -> Result<(), AllocError> {
+    let length = tokenizer.source().len();
+    write!(words, "{} {length}: ", tokenizer.filename())
+}
 
 /// Templates without escapes and large integers: their tokens, from a tokenizer.
 enum Tokens {}
@@ -29,15 +51,8 @@ impl Refusable for Tokens {
         ballast.narrow();
         let syntax = SyntaxConfig::default();
         let mut tokenizer = Tokenizer::new(alloc, text, "page", false, &syntax);
-        let source = tokenizer.source();
-        write!(words, "{} {}: ", tokenizer.filename(), source.len())?;
-        for _ in 0..100 {
-            match tokenizer.next_token()? {
-                Some((token, span)) => write!(words, "{token}{span:?}; ")?,
-                None => return Ok(words.push_str("end")?),
-            }
-        }
-        Ok(())
+        push_source(words, &tokenizer)?;
+        push_places(&mut tokenizer, words)
     }
 }
 
@@ -50,6 +65,24 @@ Hello {{ name }}! => page 17: template-data @ 1:0-1:6; start of variable block @
 {{ '\q' => page 7: start of variable block @ 1:0-1:2; BadEscape
 "#;
     answered_without::<Tokens>(&rt, rt.alloc(), rows)
+}
+
+/// Appends whether a token is in view, and takes it.
+fn push_view<'s>(words: &mut String, stream: &mut TokenStream<'s, '_>) -> Result<(), Error<'s>> {
+    let is_token = stream.current()?.is_some();
+    push_word(words, is_token)?;
+    drop(stream.next()?);
+    Ok(())
+}
+
+/// Appends the place of the token taken last, and that of all since another.
+fn push_spans(
+    words: &mut String,
+    stream: &TokenStream<'_, '_>,
+    first: Span,
+) -> Result<(), AllocError> {
+    let (last, all) = (stream.last_span(), stream.expand_span(first));
+    write!(words, "{last:?}{all:?}")
 }
 
 /// Templates of two tokens: what a stream has in view.
@@ -70,12 +103,12 @@ impl Refusable for Views {
         let parser = Parser::new(alloc, text, "page", false, &syntax);
         let mut stream = TokenStream::new(alloc, text, "page", false, &syntax);
         let first = stream.current_span();
-        write!(words, "{} {} ", parser.filename(), stream.source())?;
-        let _ = stream.next()?;
-        write!(words, "{} ", stream.current()?.is_some())?;
-        let _ = stream.next()?;
-        let (last, all) = (stream.last_span(), stream.expand_span(first));
-        write!(words, "{} {last:?}{all:?}", stream.current()?.is_some())?;
+        push_word(words, parser.filename())?;
+        push_word(words, stream.source())?;
+        drop(stream.next()?);
+        push_view(words, &mut stream)?;
+        push_view(words, &mut stream)?;
+        push_spans(words, &stream, first)?;
         Ok(())
     }
 }
@@ -86,16 +119,35 @@ fn tokens_in_view_need_no_memory(rt: HostRuntime) -> Result<(), Fail> {
     answered_without::<Views>(&rt, rt.alloc(), rows)
 }
 
-/// Appends what a default syntax and a syntax have.
+/// Appends what a syntax has.
 fn push_syntax(words: &mut String, syntax: &SyntaxConfig) -> Result<(), AllocError> {
-    let (block, variable) = (syntax.block_delimiters(), syntax.variable_delimiters());
-    write!(words, "{} {} ", block.0, variable.1)?;
-    let (comment, statement) = (syntax.comment_delimiters(), syntax.line_statement_prefix());
-    write!(words, "{} {} ", comment.0, statement.unwrap_or("none"))?;
-    let (trims, strips) = (syntax.trim_blocks(), syntax.lstrip_blocks());
-    let (line_comment, keeps) = (syntax.line_comment_prefix(), syntax.keep_trailing_newline());
-    write!(words, "{} ", line_comment.unwrap_or("none"))?;
-    write!(words, "{trims} {strips} {keeps} ")
+    push_word(words, syntax.block_delimiters().0)?;
+    push_word(words, syntax.variable_delimiters().1)?;
+    push_word(words, syntax.comment_delimiters().0)?;
+    push_word(words, syntax.line_statement_prefix().unwrap_or("none"))?;
+    push_word(words, syntax.line_comment_prefix().unwrap_or("none"))?;
+    push_word(words, syntax.trim_blocks())?;
+    push_word(words, syntax.lstrip_blocks())?;
+    push_word(words, syntax.keep_trailing_newline())
+}
+
+/// Appends whether a syntax and its matcher find a marker.
+fn push_found(
+    words: &mut String,
+    syntax: &SyntaxConfig,
+    matcher: &StartMarkerMatcher,
+) -> Result<(), AllocError> {
+    let (found, same) = (syntax.find_marker("ab#c", 1), matcher.find("ab#c", 1));
+    write!(words, "{} {}", found.is_some(), same.is_some())
+}
+
+/// A builder that has set each flag.
+fn flagged() -> SyntaxConfigBuilder {
+    let mut builder = SyntaxConfig::builder();
+    builder.trim_blocks(true);
+    builder.lstrip_blocks(true);
+    builder.keep_trailing_newline(true);
+    builder
 }
 
 /// Syntaxes: what they have, and where they find a marker.
@@ -113,12 +165,8 @@ impl Refusable for Syntaxes {
         ballast.narrow();
         push_syntax(words, &syntax)?;
         push_syntax(words, &SyntaxConfig::default())?;
-        let (found, same) = (syntax.find_marker("ab#c", 1), matcher.find("ab#c", 1));
-        write!(words, "{} {}", found.is_some(), same.is_some())?;
-        let mut builder = SyntaxConfig::builder();
-        builder.trim_blocks(true);
-        builder.lstrip_blocks(true);
-        builder.keep_trailing_newline(true);
+        push_found(words, &syntax, &matcher)?;
+        let builder = flagged();
         ballast.give_back();
         push_syntax(words, &builder.build(alloc)?)?;
         Ok(())
@@ -143,6 +191,26 @@ fn push_callee(words: &mut String, callee: CallType<'_, '_, Value>) -> Result<()
     }
 }
 
+/// Appends the callee and the place of an expression that is a call.
+fn push_call(words: &mut String, expr: &Expr<'_, Value>) -> Result<(), AllocError> {
+    let Expr::Call(call) = expr else {
+        return Ok(());
+    };
+    push_callee(words, call.node().identify_call())?;
+    write!(words, "{:?}", call.span())
+}
+
+/// Appends what a template and an expression are.
+fn push_tree(
+    words: &mut String,
+    template: &Stmt<'_, Value>,
+    expr: &Expr<'_, Value>,
+) -> Result<(), AllocError> {
+    push_word(words, expr.description())?;
+    push_word(words, expr.is_well_formed())?;
+    write!(words, "{}{:?} ", template.is_well_formed(), expr.span())
+}
+
 /// Expressions: what they are called, whether they are well formed, and what they call.
 enum Trees {}
 
@@ -156,12 +224,8 @@ impl Refusable for Trees {
         let expr = parse_expr::<Value>(alloc, text)?;
         let template = parse_page(alloc, "{% block a %}{% endblock %}")?;
         ballast.narrow();
-        write!(words, "{} {} ", expr.description(), expr.is_well_formed())?;
-        write!(words, "{}{:?} ", template.is_well_formed(), expr.span())?;
-        if let Expr::Call(call) = &expr {
-            push_callee(words, call.node().identify_call())?;
-            write!(words, "{:?}", call.span())?;
-        }
+        push_tree(words, &template, &expr)?;
+        push_call(words, &expr)?;
         Ok(())
     }
 }
@@ -177,6 +241,33 @@ x[1]() => call true true @ 1:1-1:6 object @ 1:1-1:6
     answered_without::<Trees>(&rt, rt.alloc(), rows)
 }
 
+/// Appends what a list has.
+fn push_list(words: &mut String, code: &Instructions<'_, Value>) -> Result<(), AllocError> {
+    push_word(words, code.name())?;
+    push_word(words, code.source().len())?;
+    push_word(words, code.len())?;
+    push_word(words, code.is_required_block())
+}
+
+/// Appends where the second instruction of a list stands.
+fn push_second_place(words: &mut String, code: &Instructions<'_, Value>) -> Result<(), AllocError> {
+    write!(words, "{:?}{:?} ", code.get_line(1), code.get_span(1))
+}
+
+/// Replaces the second instruction of a list and appends it.
+fn push_replaced<'s>(
+    words: &mut String,
+    code: &mut Instructions<'s, Value>,
+) -> Result<(), AllocError> {
+    if let Some(instruction) = code.get_mut(1) {
+        *instruction = Instruction::Emit;
+    }
+    match code.get(1) {
+        Some(instruction) => write!(words, "{instruction}"),
+        None => Ok(()),
+    }
+}
+
 /// Templates: what the second instruction of their list is, before and after it is replaced.
 enum Lists {}
 
@@ -189,17 +280,11 @@ impl Refusable for Lists {
     ) -> Result<(), Error<'t>> {
         let mut code = compile_page(alloc, text)?.instructions;
         ballast.narrow();
-        write!(words, "{} {} ", code.name(), code.source().len())?;
-        write!(words, "{} {} ", code.len(), code.is_required_block())?;
+        push_list(words, &code)?;
         let fresh = Instructions::<Value>::new(alloc, "page", text);
-        write!(words, "{} ", fresh.is_empty())?;
-        write!(words, "{:?}{:?} ", code.get_line(1), code.get_span(1))?;
-        if let Some(instruction) = code.get_mut(1) {
-            *instruction = Instruction::Emit;
-        }
-        if let Some(instruction) = code.get(1) {
-            write!(words, "{instruction}")?;
-        }
+        push_word(words, fresh.is_empty())?;
+        push_second_place(words, &code)?;
+        push_replaced(words, &mut code)?;
         Ok(())
     }
 }
@@ -217,6 +302,65 @@ fn push_open(words: &mut String, generator: &CodeGenerator<'_, Value>) -> Result
     write!(words, "{branch} {row} {inside} {closed}, ")
 }
 
+/// A generator with the code of a template, which has opened a branch and in it a row of conditions.
+fn with_open_row(alloc: Global, text: &str) -> Result<CodeGenerator<'_, Value>, Error<'_>> {
+    let template = parse_page(alloc, text)?;
+    let mut generator = CodeGenerator::new(alloc, "page", text);
+    generator.compile_stmt(&template)?;
+    open_row(&mut generator)?;
+    Ok(generator)
+}
+
+fn open_row<'s>(generator: &mut CodeGenerator<'s, Value>) -> Result<(), Error<'s>> {
+    generator.start_if()?;
+    generator.start_sc_bool()?;
+    generator.push_span(Span::default())
+}
+
+fn close_row(generator: &mut CodeGenerator<'_, Value>) {
+    generator.set_line(3);
+    generator.set_line_from_span(Span::default());
+    generator.pop_span();
+    if generator.in_sc_bool() {
+        generator.end_sc_bool();
+    }
+}
+
+/// Closes the row and the branch, and appends what is open before, between and after.
+fn push_closing(
+    words: &mut String,
+    generator: &mut CodeGenerator<'_, Value>,
+) -> Result<(), AllocError> {
+    push_open(words, generator)?;
+    close_row(generator);
+    push_open(words, generator)?;
+    if generator.in_branch() {
+        generator.end_if();
+    }
+    push_open(words, generator)
+}
+
+/// Appends how long the code of a generator and its output are.
+fn push_lengths(
+    words: &mut String,
+    generator: &CodeGenerator<'_, Value>,
+) -> Result<(), AllocError> {
+    let hint = generator.buffer_size_hint();
+    write!(words, "{} {hint} ", generator.next_instruction())
+}
+
+/// Appends how long the list of a generator is, and how many blocks have one.
+fn push_finished(
+    words: &mut String,
+    generator: CodeGenerator<'_, Value>,
+) -> Result<(), AllocError> {
+    if !generator.is_closed() {
+        return Ok(());
+    }
+    let (code, blocks) = generator.finish();
+    write!(words, "{} {}", code.len(), blocks.len())
+}
+
 /// A template: what a generator says of it and of an empty branch after it.
 enum Generators {}
 
@@ -227,33 +371,12 @@ impl Refusable for Generators {
         ballast: &mut Ballast,
         words: &mut String,
     ) -> Result<(), Error<'t>> {
-        let template = parse(alloc, text, "page", &SyntaxConfig::default())?;
-        let mut generator = CodeGenerator::new(alloc, "page", text);
-        generator.compile_stmt(&template)?;
-        generator.start_if()?;
-        generator.start_sc_bool()?;
-        generator.push_span(Span::default())?;
+        let mut generator = with_open_row(alloc, text)?;
         ballast.narrow();
-        let fresh = CodeGenerator::<Value>::new(alloc, "page", text);
-        push_open(words, &fresh)?;
-        push_open(words, &generator)?;
-        generator.set_line(3);
-        generator.set_line_from_span(Span::default());
-        generator.pop_span();
-        if generator.in_sc_bool() {
-            generator.end_sc_bool();
-        }
-        push_open(words, &generator)?;
-        if generator.in_branch() {
-            generator.end_if();
-        }
-        push_open(words, &generator)?;
-        let hint = generator.buffer_size_hint();
-        write!(words, "{} {hint} ", generator.next_instruction())?;
-        if generator.is_closed() {
-            let (code, blocks) = generator.finish();
-            write!(words, "{} {}", code.len(), blocks.len())?;
-        }
+        push_open(words, &CodeGenerator::new(alloc, "page", text))?;
+        push_closing(words, &mut generator)?;
+        push_lengths(words, &generator)?;
+        push_finished(words, generator)?;
         Ok(())
     }
 }
@@ -263,6 +386,16 @@ fn what_a_generator_says_needs_no_memory(rt: HostRuntime) -> Result<(), Fail> {
     let rows = "abc{% block a %}x{% endblock %} => false false false true, \
         false true false false, true false false false, false false false true, 3 8 3 1";
     answered_without::<Generators>(&rt, rt.alloc(), rows)
+}
+
+/// Appends what an error has.
+fn push_error(words: &mut String, error: Error<'_>) -> Result<(), AllocError> {
+    push_debug(words, error.kind())?;
+    push_word(words, error.detail())?;
+    push_debug(words, error.span())?;
+    push_debug(words, error.line())?;
+    push_word(words, error.name().unwrap_or("none"))?;
+    push_word(words, error)
 }
 
 /// A name: what an error with it has.
@@ -283,9 +416,7 @@ impl Refusable for Errors {
             Some(text),
             Some(span),
         );
-        write!(words, "{:?} {} ", error.kind(), error.detail())?;
-        write!(words, "{:?} {:?} ", error.span(), error.line())?;
-        write!(words, "{} {error} ", error.name().unwrap_or("none"))?;
+        push_error(words, error)?;
         write!(words, "{:?}", Error::from(AllocError).kind())?;
         Ok(())
     }
@@ -297,6 +428,23 @@ fn errors_need_no_memory(rt: HostRuntime) -> Result<(), Fail> {
         "a => SyntaxError template exceeds maximum recursion limits Some( @ 0:0-0:0) Some(0) \
         a syntax error: template exceeds maximum recursion limits (in a:0:0) OutOfMemory";
     answered_without::<Errors>(&rt, rt.alloc(), rows)
+}
+
+/// Appends what a value says of itself.
+fn push_answers(words: &mut String, value: &Value) -> Result<(), AllocError> {
+    push_word(words, value.is_true())?;
+    push_debug(words, value.as_count())?;
+    push_word(words, Value::none())?;
+    push_word(words, Value::silent_undefined().is_undefined())?;
+    push_word(words, value.equals(value))?;
+    push_debug(words, value.order(value))
+}
+
+/// Appends whether two values are equal, and whether a new map is empty.
+fn push_equal(words: &mut String, alloc: Global) -> Result<(), AllocError> {
+    let (seven, yes) = (Value::of_u64(7), Value::of_bool(true));
+    push_word(words, yes.equals(&seven))?;
+    push_word(words, ValueMap::new(alloc).is_empty())
 }
 
 /// A text: what values that need no memory say.
@@ -312,22 +460,10 @@ impl Refusable for Values {
         let known = parse_expr::<Value>(alloc, text)?.as_const(alloc)?;
         let value = known.unwrap_or(Value::Undefined);
         ballast.narrow();
-        let (seven, yes) = (Value::of_u64(7), Value::of_bool(true));
-        write!(words, "{} {:?} ", value.is_true(), value.as_count())?;
-        write!(
-            words,
-            "{} {} ",
-            Value::none(),
-            Value::silent_undefined().is_undefined()
-        )?;
-        write!(words, "{} {:?} ", value.equals(&value), value.order(&value))?;
-        write!(
-            words,
-            "{} {} ",
-            yes.equals(&seven),
-            ValueMap::new(alloc).is_empty()
-        )?;
-        write!(words, "{value} {seven}")?;
+        push_answers(words, &value)?;
+        push_equal(words, alloc)?;
+        push_word(words, value)?;
+        write!(words, "{}", Value::of_u64(7))?;
         Ok(())
     }
 }
