@@ -2,7 +2,8 @@
 //! they stand in one that has nothing else.
 //!
 //! The rows of a subject stand in one text, since a test is proved too, with each text that it
-//! names spelled out.
+//! names spelled out. What appends words has one `write!` a function: the proof of several in a row
+//! takes many times as long.
 ghost use Rattle.std.specs.Prelude.{◌≤◌, IfOk};
 ghost use Rattle.std.specs.Str.{IsCharBoundary};
 
