@@ -15,17 +15,27 @@ use std::test::Fail;
 /// Whether a generator answers this refusal again, to each call that may be refused, and says that
 /// nothing is open.
 fn has_refused<'s>(generator: &mut CodeGenerator<'s, Value>, error: Error<'_>) -> bool {
+    has_nothing_open(generator) && adds_nothing(generator, error) && opens_nothing(generator, error)
+}
+
+fn has_nothing_open(generator: &CodeGenerator<'_, Value>) -> bool {
     !generator.in_branch()
         && !generator.in_loop()
         && !generator.in_sc_bool()
         && !generator.is_closed()
-        && is_refused_so(generator.add(Instruction::Emit), error)
+}
+
+fn adds_nothing<'s>(generator: &mut CodeGenerator<'s, Value>, error: Error<'_>) -> bool {
+    is_refused_so(generator.add(Instruction::Emit), error)
         && is_refused_so(
             generator.add_with_span(Instruction::Emit, Span::default()),
             error,
         )
         && is_refused_so(generator.push_span(Span::default()), error)
-        && is_refused_so(generator.start_for_loop(true, true), error)
+}
+
+fn opens_nothing<'s>(generator: &mut CodeGenerator<'s, Value>, error: Error<'_>) -> bool {
+    is_refused_so(generator.start_for_loop(true, true), error)
         && is_refused_so(generator.start_if(), error)
         && is_refused_so(generator.start_sc_bool(), error)
 }
@@ -134,28 +144,45 @@ fn assignments_are_refused_at_each_request(rt: HostRuntime) -> Result<(), Fail> 
 
 /// Opens a loop, a condition in it, and in that a row of conditions.
 fn open<'s>(generator: &mut CodeGenerator<'s, Value>) -> Result<(), Error<'s>> {
-    generator.push_span(Span::default())?;
-    generator.add(Instruction::Emit)?;
-    generator.add_with_span(Instruction::Emit, Span::default())?;
     generator.start_for_loop(true, false)?;
     generator.start_if()?;
     generator.start_sc_bool()
 }
 
-/// Closes what is open, where that is what [`open`] has opened.
-fn close<'s>(generator: &mut CodeGenerator<'s, Value>) -> Result<(), Error<'s>> {
+/// Adds two instructions, after a span.
+fn add_two<'s>(generator: &mut CodeGenerator<'s, Value>) -> Result<(), Error<'s>> {
+    generator.push_span(Span::default())?;
+    generator.add(Instruction::Emit)?;
+    generator.add_with_span(Instruction::Emit, Span::default())?;
+    Ok(())
+}
+
+/// Closes a row of conditions that is open.
+fn close_row<'s>(generator: &mut CodeGenerator<'s, Value>) -> Result<(), Error<'s>> {
     if generator.in_sc_bool() {
         generator.sc_bool(true)?;
     }
     if generator.in_sc_bool() {
         generator.end_sc_bool();
     }
+    Ok(())
+}
+
+/// Closes a condition that is open, after its other branch.
+fn close_condition<'s>(generator: &mut CodeGenerator<'s, Value>) -> Result<(), Error<'s>> {
     if generator.in_branch() {
         generator.start_else()?;
     }
     if generator.in_branch() {
         generator.end_if();
     }
+    Ok(())
+}
+
+/// Closes what is open, where that is what [`open`] has opened.
+fn close<'s>(generator: &mut CodeGenerator<'s, Value>) -> Result<(), Error<'s>> {
+    close_row(generator)?;
+    close_condition(generator)?;
     if generator.in_loop() {
         generator.end_for_loop(true)?;
     }
@@ -164,6 +191,7 @@ fn close<'s>(generator: &mut CodeGenerator<'s, Value>) -> Result<(), Error<'s>> 
 
 /// Opens and closes a loop with a condition in it, and in that a row of conditions.
 fn open_and_close<'s>(generator: &mut CodeGenerator<'s, Value>) -> Result<(), Error<'s>> {
+    add_two(generator)?;
     open(generator)?;
     close(generator)
 }

@@ -282,8 +282,12 @@ foo.1.0 => expression
     refused_at_each::<ParsesExpression>(&rt, rt.alloc(), rows)
 }
 
-fn push_value(words: &mut String, value: Value) -> Result<(), AllocError> {
-    write!(words, "{value}")
+/// Appends a value, if it is known.
+fn push_constant(words: &mut String, value: Option<Value>) -> Result<(), AllocError> {
+    match value {
+        Some(value) => write!(words, "{value}"),
+        None => words.push_str("unknown"),
+    }
 }
 
 /// Expressions: their value, if it is known.
@@ -298,10 +302,7 @@ impl Refusable for Constants {
     ) -> Result<(), Error<'t>> {
         let expr = parse_expr::<Value>(alloc, text)?;
         ballast.narrow();
-        match expr.as_const(alloc)? {
-            Some(value) => push_value(words, value)?,
-            None => words.push_str("unknown")?,
-        }
+        push_constant(words, expr.as_const(alloc)?)?;
         Ok(())
     }
 }
