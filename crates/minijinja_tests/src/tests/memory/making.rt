@@ -291,6 +291,17 @@ fn push_referenced<'s>(
     Ok(write!(words, "{index}; ")?)
 }
 
+/// Appends the names that are referenced at some indices.
+fn push_all_referenced<'s>(
+    words: &mut String,
+    code: &Instructions<'s, Value>,
+) -> Result<(), Error<'s>> {
+    for index in [11, 5, 0] {
+        push_referenced(words, code, index)?;
+    }
+    Ok(words.push_str("end")?)
+}
+
 /// Templates: the names that are referenced at some indices.
 enum Referenced {}
 
@@ -303,10 +314,7 @@ impl Refusable for Referenced {
     ) -> Result<(), Error<'t>> {
         let compiled = compile_page(alloc, text)?;
         ballast.narrow();
-        for index in [11, 5, 0] {
-            push_referenced(words, &compiled.instructions, index)?;
-        }
-        words.push_str("end")?;
+        push_all_referenced(words, &compiled.instructions)?;
         Ok(())
     }
 }

@@ -32,6 +32,12 @@ fn push_blocks(words: &mut String, compiled: &Compiled<'_>) -> Result<(), AllocE
     write!(words, "hint {}", compiled.buffer_size_hint)
 }
 
+/// Appends the code of a template and of its blocks, and the hint.
+fn push_compiled(words: &mut String, compiled: &Compiled<'_>) -> Result<(), AllocError> {
+    push_code(words, &compiled.instructions)?;
+    push_blocks(words, compiled)
+}
+
 /// Texts after their options: their code.
 enum Compiles {}
 
@@ -46,8 +52,7 @@ impl Refusable for Compiles {
         let syntax = syntax_of(alloc, options)?;
         ballast.narrow();
         let compiled = compile(alloc, source, "page", &syntax)?;
-        push_code(words, &compiled.instructions)?;
-        push_blocks(words, &compiled)?;
+        push_compiled(words, &compiled)?;
         Ok(())
     }
 }
@@ -327,6 +332,18 @@ fn push_names(words: &mut String, names: &BTreeSet<String>) -> Result<(), AllocE
     Ok(())
 }
 
+/// Appends the names that a template needs, with the attributes that stand right after them if `nested`
+/// is set.
+fn push_undeclared(
+    alloc: Global,
+    words: &mut String,
+    template: &Stmt<'_, Value>,
+    nested: bool,
+) -> Result<(), Error<'static>> {
+    let names = find_undeclared(alloc, template, nested)?;
+    Ok(push_names(words, &names)?)
+}
+
 /// Templates: the names that they need, plain and nested.
 enum Undeclared {}
 
@@ -339,12 +356,10 @@ impl Refusable for Undeclared {
     ) -> Result<(), Error<'t>> {
         let template = parse_page(alloc, text)?;
         ballast.narrow();
-        let plain = find_undeclared(alloc, &template, false)?;
-        let nested = find_undeclared(alloc, &template, true)?;
         words.push_str("plain")?;
-        push_names(words, &plain)?;
+        push_undeclared(alloc, words, &template, false)?;
         words.push_str(", nested")?;
-        push_names(words, &nested)?;
+        push_undeclared(alloc, words, &template, true)?;
         Ok(())
     }
 }
@@ -374,6 +389,20 @@ fn push_closure(
     Ok(())
 }
 
+/// Appends the names that each macro of a template needs.
+fn push_closures(
+    alloc: Global,
+    words: &mut String,
+    template: &Stmt<'_, Value>,
+) -> Result<(), Error<'static>> {
+    if let Stmt::Template(template) = template {
+        for part in &template.node().children {
+            push_closure(alloc, words, part)?;
+        }
+    }
+    Ok(words.push_str("end")?)
+}
+
 /// Templates: the names that their macros need.
 enum Closures {}
 
@@ -386,12 +415,7 @@ impl Refusable for Closures {
     ) -> Result<(), Error<'t>> {
         let template = parse_page(alloc, text)?;
         ballast.narrow();
-        if let Stmt::Template(template) = &template {
-            for part in &template.node().children {
-                push_closure(alloc, words, part)?;
-            }
-        }
-        words.push_str("end")?;
+        push_closures(alloc, words, &template)?;
         Ok(())
     }
 }

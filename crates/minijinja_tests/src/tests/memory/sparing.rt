@@ -200,7 +200,11 @@ fn push_call(words: &mut String, expr: &Expr<'_, Value>) -> Result<(), AllocErro
     write!(words, "{:?}", call.span())
 }
 
-/// Appends what a template and an expression are.
+fn push_formed(words: &mut String, is_formed: bool, span: Span) -> Result<(), AllocError> {
+    write!(words, "{is_formed}{span:?} ")
+}
+
+/// Appends what a template and an expression are, and what the expression calls.
 fn push_tree(
     words: &mut String,
     template: &Stmt<'_, Value>,
@@ -208,7 +212,8 @@ fn push_tree(
 ) -> Result<(), AllocError> {
     push_word(words, expr.description())?;
     push_word(words, expr.is_well_formed())?;
-    write!(words, "{}{:?} ", template.is_well_formed(), expr.span())
+    push_formed(words, template.is_well_formed(), expr.span())?;
+    push_call(words, expr)
 }
 
 /// Expressions: what they are called, whether they are well formed, and what they call.
@@ -224,9 +229,7 @@ impl Refusable for Trees {
         let expr = parse_expr::<Value>(alloc, text)?;
         let template = parse_page(alloc, "{% block a %}{% endblock %}")?;
         ballast.narrow();
-        push_tree(words, &template, &expr)?;
-        push_call(words, &expr)?;
-        Ok(())
+        Ok(push_tree(words, &template, &expr)?)
     }
 }
 
@@ -302,13 +305,14 @@ fn push_open(words: &mut String, generator: &CodeGenerator<'_, Value>) -> Result
     write!(words, "{branch} {row} {inside} {closed}, ")
 }
 
-/// A generator with the code of a template, which has opened a branch and in it a row of conditions.
-fn with_open_row(alloc: Global, text: &str) -> Result<CodeGenerator<'_, Value>, Error<'_>> {
-    let template = parse_page(alloc, text)?;
-    let mut generator = CodeGenerator::new(alloc, "page", text);
-    generator.compile_stmt(&template)?;
-    open_row(&mut generator)?;
-    Ok(generator)
+/// Adds the code of a template, and opens a branch and in it a row of conditions.
+fn add_page<'s>(
+    alloc: Global,
+    text: &'s str,
+    generator: &mut CodeGenerator<'s, Value>,
+) -> Result<(), Error<'s>> {
+    generator.compile_stmt(&parse_page(alloc, text)?)?;
+    open_row(generator)
 }
 
 fn open_row<'s>(generator: &mut CodeGenerator<'s, Value>) -> Result<(), Error<'s>> {
@@ -371,7 +375,8 @@ impl Refusable for Generators {
         ballast: &mut Ballast,
         words: &mut String,
     ) -> Result<(), Error<'t>> {
-        let mut generator = with_open_row(alloc, text)?;
+        let mut generator = CodeGenerator::new(alloc, "page", text);
+        add_page(alloc, text, &mut generator)?;
         ballast.narrow();
         push_open(words, &CodeGenerator::new(alloc, "page", text))?;
         push_closing(words, &mut generator)?;
