@@ -1,7 +1,7 @@
 //! Calls that make code, values, nodes and syntaxes.
 use super::{Ballast, Refusable, is_refused_so, push_code, refused, refused_at_each};
 use crate::tests::{compile_page, parted, push_word, set, syntax_of};
-use minijinja_compiler::ast::{Expr, Spanned, Stmt, Var};
+use minijinja_compiler::ast::{Expr, Spanned, Var};
 use minijinja_compiler::codegen::CodeGenerator;
 use minijinja_compiler::error::Error;
 use minijinja_compiler::instructions::{Instruction, Instructions};
@@ -45,21 +45,6 @@ fn push_count(words: &mut String, generator: &CodeGenerator<'_, Value>) -> Resul
     write!(words, "{} instructions", generator.next_instruction())
 }
 
-/// Appends how many instructions a statement has.
-fn generate<'t>(
-    generator: &mut CodeGenerator<'t, Value>,
-    stmt: &Stmt<'t, Value>,
-    ballast: &mut Ballast,
-    words: &mut String,
-) -> Result<(), Error<'t>> {
-    if let Err(error) = generator.compile_stmt(stmt) {
-        ballast.give_back();
-        let stands = has_refused(generator, error);
-        return refused(error, stands, words);
-    }
-    Ok(push_count(words, generator)?)
-}
-
 /// Templates: the code that a generator makes of their tree. A refusal stands.
 enum Generates {}
 
@@ -73,7 +58,13 @@ impl Refusable for Generates {
         let template = parse(alloc, text, "page", &SyntaxConfig::default())?;
         ballast.narrow();
         let mut generator = CodeGenerator::new(alloc, "page", text);
-        generate(&mut generator, &template, ballast, words)
+        if let Err(error) = generator.compile_stmt(&template) {
+            ballast.give_back();
+            let stands = has_refused(&mut generator, error);
+            return refused(error, stands, words);
+        }
+        push_count(words, &generator)?;
+        Ok(())
     }
 }
 
@@ -86,22 +77,6 @@ fn code_is_refused_at_each_request(rt: HostRuntime) -> Result<(), Fail> {
 {% block a %}xyz{% endblock %} => 1 instructions
 "#;
     refused_at_each::<Generates>(&rt, rt.alloc(), rows)
-}
-
-/// Appends how many instructions an expression has.
-fn generate_expression<'t>(
-    generator: &mut CodeGenerator<'t, Value>,
-    expr: &Expr<'t, Value>,
-    ballast: &mut Ballast,
-    words: &mut String,
-) -> Result<(), Error<'t>> {
-    if let Err(error) = generator.compile_expr(expr) {
-        ballast.give_back();
-        let stands = has_refused(generator, error)
-            && is_refused_so(generator.compile_expr(expr), error);
-        return refused(error, stands, words);
-    }
-    Ok(push_count(words, generator)?)
 }
 
 /// Expressions: the code that a generator makes of their tree. A refusal stands.
@@ -117,7 +92,14 @@ impl Refusable for GeneratesExpression {
         let expr = parse_expr(alloc, text)?;
         ballast.narrow();
         let mut generator = CodeGenerator::new(alloc, "page", text);
-        generate_expression(&mut generator, &expr, ballast, words)
+        if let Err(error) = generator.compile_expr(&expr) {
+            ballast.give_back();
+            let stands = has_refused(&mut generator, error)
+                && is_refused_so(generator.compile_expr(&expr), error);
+            return refused(error, stands, words);
+        }
+        push_count(words, &generator)?;
+        Ok(())
     }
 }
 
@@ -128,22 +110,6 @@ foo.1.0 => 5 instructions
 a is b or c | d => 5 instructions
 "#;
     refused_at_each::<GeneratesExpression>(&rt, rt.alloc(), rows)
-}
-
-/// Appends how many instructions an assignment has.
-fn assign<'t>(
-    generator: &mut CodeGenerator<'t, Value>,
-    target: &Expr<'t, Value>,
-    ballast: &mut Ballast,
-    words: &mut String,
-) -> Result<(), Error<'t>> {
-    if let Err(error) = generator.compile_assignment(target) {
-        ballast.give_back();
-        let stands = has_refused(generator, error)
-            && is_refused_so(generator.compile_assignment(target), error);
-        return refused(error, stands, words);
-    }
-    Ok(push_count(words, generator)?)
 }
 
 /// Names: the code of assignments to them. A refusal stands.
@@ -160,7 +126,14 @@ impl Refusable for Assigns {
         let target = Expr::Var(name);
         ballast.narrow();
         let mut generator = CodeGenerator::new(alloc, "page", text);
-        assign(&mut generator, &target, ballast, words)
+        if let Err(error) = generator.compile_assignment(&target) {
+            ballast.give_back();
+            let stands = has_refused(&mut generator, error)
+                && is_refused_so(generator.compile_assignment(&target), error);
+            return refused(error, stands, words);
+        }
+        push_count(words, &generator)?;
+        Ok(())
     }
 }
 

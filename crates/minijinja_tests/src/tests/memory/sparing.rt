@@ -6,7 +6,7 @@ use minijinja_compiler::codegen::CodeGenerator;
 use minijinja_compiler::error::{Detail, Error, ErrorKind};
 use minijinja_compiler::instructions::{Instruction, Instructions};
 use minijinja_compiler::lexer::Tokenizer;
-use minijinja_compiler::parser::{Parser, TokenStream, parse_expr};
+use minijinja_compiler::parser::{Parser, TokenStream, parse, parse_expr};
 use minijinja_compiler::syntax::{StartMarkerMatcher, SyntaxConfig, SyntaxConfigBuilder};
 use minijinja_compiler::tokens::{Span, Token};
 use minijinja_compiler::value::{TemplateValue, Value, ValueMap};
@@ -311,7 +311,8 @@ fn add_page<'s>(
     text: &'s str,
     generator: &mut CodeGenerator<'s, Value>,
 ) -> Result<(), Error<'s>> {
-    generator.compile_stmt(&parse_page(alloc, text)?)?;
+    let template = parse(alloc, text, "page", &SyntaxConfig::default())?;
+    generator.compile_stmt(&template)?;
     open_row(generator)
 }
 
