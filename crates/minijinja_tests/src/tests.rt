@@ -2,8 +2,7 @@
 //! they stand in one that has nothing else.
 //!
 //! The rows of a subject stand in one text, since a test is proved too, with each text that it
-//! names spelled out. What appends words has one `write!` a function: the proof of several in a row
-//! takes many times as long.
+//! names spelled out. What appends words has one `write!` a function.
 ghost use Rattle.std.specs.Prelude.{◌≤◌, IfOk};
 ghost use Rattle.std.specs.Str.{IsCharBoundary};
 
