@@ -27,5 +27,6 @@ pub mod Examples
 mod Occurrences
 mod Stretches
 mod Plain
+mod Cursors
 mod RawTexts
 pub mod Elsewhere

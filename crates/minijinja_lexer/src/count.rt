@@ -109,7 +109,8 @@ fn char_count(bytes: &[u8]) -> usize
 /// The end of some plain text that starts at `at`: ASCII characters other than newlines.
 pub(crate) fn plain_end(text: &str, at: usize) -> usize
     requires { at ≤ length text.now }
-    ensures { IsPlain text.now at result }
+    ensures onwards { at ≤ result }
+    ensures plain { IsPlain text.now at result }
 {
     let rest = &text.as_bytes()[at..];
     at + plain_len(&rest[..rest.len().min(AHEAD)])

@@ -6,6 +6,9 @@ use crate::fault::LexFault;
 use minijinja_syntax::tokens::Span;
 use std::marker::Model;
 
+/// The largest column that a span holds.
+const COLUMNS: usize = 65535;
+
 /// A place between characters. The line counts from 1 and the column from 0, in characters; both
 /// stop at 65535.
 #[derive(Drop)]
@@ -15,8 +18,12 @@ pub(crate) struct Cursor<'s> {
     /// From `at` up to here there are only ASCII characters other than newlines, which move only
     /// the column.
     plain: usize,
+    /// From `at` up to here, and not past `plain`, the column needs no limit.
+    exact: usize,
+    /// The column counts the bytes from here to `at`. This is where the line begins, or as much
+    /// later as the line has bytes that begin no character.
+    origin: usize,
     line: u16,
-    column: u16,
 }
 
 impl<'s> Model for Cursor<'s> {
@@ -32,7 +39,7 @@ impl<'s> Model for Cursor<'s> {
 }
 
 impl<'s> Cursor<'s> {
-    ghost use Rattle.std.specs.Prelude.{◌≡◌, ℕ, ◌+◌, ◌<◌, ◌≤◌, ◌^◌, length, take};
+    ghost use Rattle.std.specs.Prelude.{◌≡◌, ℕ, ◌+◌, ◌<◌, ◌≤◌, ◌^◌, length, take, IsTrue};
     ghost use Rattle.std.specs.Str.{IsCharBoundary};
     ghost use Rattle.minijinja_syntax.specs.Positions.{span_at, line_after, column_after};
     ghost use Rattle.minijinja_lexer.specs.private.Place.{Place};
@@ -49,8 +56,9 @@ impl<'s> Cursor<'s> {
             text,
             at: 0,
             plain: 0,
+            exact: 0,
+            origin: 0,
             line: 1,
-            column: 0,
         }
     }
 
@@ -79,7 +87,7 @@ impl<'s> Cursor<'s> {
         ensures offset { result.2 ≡ self.now.at }
         ensures boundary { IsCharBoundary self.now.text self.now.at }
     {
-        (self.line, self.column, self.at as u32)
+        (self.line, stopped(self.at - self.origin), self.at as u32)
     }
 
     /// Moves on to a place.
@@ -90,25 +98,59 @@ impl<'s> Cursor<'s> {
         ensures { self.new ≡ record { text = self.old.text; at = to } }
     {
         if to <= self.plain {
-            self.column = stopped(usize::from(self.column) + (to - self.at));
             self.at = to;
         } else {
             self.count_to(to);
         }
     }
 
-    /// Moves on to a place and counts the bytes up to it.
+    /// Moves on to a place and counts the lines and characters up to it.
     #[inline(never)]
     fn count_to(&mut self, to: usize)
         requires onwards { self.old.at ≤ to }
         requires boundary { IsCharBoundary self.old.text to }
         ensures { self.new ≡ record { text = self.old.text; at = to } }
     {
-        let (line, column) = after(self.text, self.at, to, self.line, self.column);
+        // Most stretches end on the next line, or on the one after it.
+        if self.is_on_next_line(to) || self.is_on_next_line(to) {
+            return;
+        }
+        let column = stopped(self.at - self.origin);
+        let (line, column) = after(self.text, self.at, to, self.line, column);
+        let origin = to - usize::from(column);
+        let plain = plain_end(self.text, to);
         self.line = line;
-        self.column = column;
         self.at = to;
-        self.plain = plain_end(self.text, to);
+        self.plain = plain;
+        self.exact = plain.min(origin + COLUMNS);
+        self.origin = origin;
+    }
+
+    /// Moves on to a place, if that stands in plain text on the next line. If that line begins
+    /// before the place, but is not plain up to there, it moves to where the line begins.
+    fn is_on_next_line(&mut self, to: usize) -> bool
+        requires onwards { self.old.at ≤ to }
+        requires boundary { IsCharBoundary self.old.text to }
+        ensures text { self.new.text ≡ self.old.text }
+        ensures onwards { self.new.at ≤ to }
+        ensures place { IsTrue result → self.new.at ≡ to }
+    {
+        let end = self.plain;
+        if end >= to || self.text.as_bytes()[end] != b'\n' {
+            return false;
+        }
+        let begin = end + 1;
+        let plain = plain_end(self.text, begin);
+        self.line = stopped(usize::from(self.line) + 1);
+        self.at = begin;
+        self.plain = plain;
+        self.exact = plain.min(begin + COLUMNS);
+        self.origin = begin;
+        if to > plain {
+            return false;
+        }
+        self.at = to;
+        true
     }
 
     /// Moves on to a place that often is this one.
@@ -132,17 +174,7 @@ impl<'s> Cursor<'s> {
         ensures between { IsBetweenChars self.old.text result }
         ensures place { self.new ≡ record { text = self.old.text; at = stop } }
     {
-        let (start_line, start_col, start_offset) = self.position();
-        self.advance(stop);
-        let (end_line, end_col, end_offset) = self.position();
-        Span {
-            start_line,
-            start_col,
-            start_offset,
-            end_line,
-            end_col,
-            end_offset,
-        }
+        self.span(self.at, stop)
     }
 
     /// Moves to the end of a stretch and returns the stretch's span.
@@ -156,8 +188,29 @@ impl<'s> Cursor<'s> {
         ensures between { IsBetweenChars self.old.text result }
         ensures place { self.new ≡ record { text = self.old.text; at = stop } }
     {
-        self.advance(start);
-        self.span_to(stop)
+        if stop <= self.exact {
+            self.at = stop;
+            return Span {
+                start_line: self.line,
+                start_col: (start - self.origin) as u16,
+                start_offset: start as u32,
+                end_line: self.line,
+                end_col: (stop - self.origin) as u16,
+                end_offset: stop as u32,
+            };
+        }
+        self.skip_to(start);
+        let (start_line, start_col, start_offset) = self.position();
+        self.advance(stop);
+        let (end_line, end_col, end_offset) = self.position();
+        Span {
+            start_line,
+            start_col,
+            start_offset,
+            end_line,
+            end_col,
+            end_offset,
+        }
     }
 
     /// Moves to where the text is refused and returns the refusal's span.
