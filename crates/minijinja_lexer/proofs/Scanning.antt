@@ -64,6 +64,10 @@ ascii_continues b = ⊎_elim
     twice false true = refl
     twice false false = refl
 
+-- below the digits stand only spaces and marks
+pub mark_stops : (b : ℕ) → b < 48 → false ≡ (nat_lt b 128 && continues_name b)
+mark_stops b h = let none : (is_ascii_alphanumeric b || (b == 95)) ≡ false = grind (arith, nat_tests) in sym none ∙ ascii_continues b
+
 pub small_letter_continues : (b : ℕ) → is_ascii_lowercase b ≡ true → (nat_lt b 128 && continues_name b) ≡ true
 small_letter_continues b h = sym (ascii_continues b) ∙ small_letter b h
 

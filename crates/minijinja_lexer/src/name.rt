@@ -25,9 +25,12 @@ pub(crate) fn begins_name(text: &str) -> bool
 fn continues_ascii(byte: u8) -> bool
     ensures { result ≡ (nat_lt byte 128 && spec.continues_name byte) }
 {
-    // Most bytes of names are small letters.
+    // Most bytes of names are small letters, and most names end before a space or a mark.
     if byte.is_ascii_lowercase() {
         return true;
+    }
+    if byte < b'0' {
+        return false;
     }
     byte.is_ascii_alphanumeric() | (byte == b'_')
 }
