@@ -1,9 +1,11 @@
 //! Why a text is refused, and the errors for that.
-ghost use Rattle.std.specs.Prelude.{◌≡◌, IfErr, MatchResult, Some};
+ghost use Rattle.std.specs.Prelude.{◌≡◌, IfErr, MatchResult, None, Ok, Some};
 ghost use Rattle.minijinja_syntax.specs.Errors.{IsOutOfMemory, kind_of, name_of, span_of};
 ghost use Rattle.minijinja_lexer.specs.Faults.{fault_kind};
+ghost use Rattle.minijinja_lexer.specs.declared.step.State.TheVariants as states;
 ghost use Rattle.minijinja_lexer.specs.private.Views.{fault_view};
 
+use crate::step::State;
 use minijinja_syntax::error::{Detail, Error, ErrorKind, Expected, Found};
 use minijinja_syntax::tokens::{Span, Token};
 use std::alloc::AllocError;
@@ -54,26 +56,49 @@ fn kind(fault: LexFault) -> ErrorKind
     }
 }
 
-/// Sets the result to the refusal. It is rare and large, so it is made out of line.
+/// Sets the result to the end, and the state to it. It is rare, so it stands out of line: the memory
+/// of what it makes would be zeroed for each token.
+#[cold]
+pub(crate) fn finish<'s>(
+    state: &mut State,
+    answer: &mut Result<Option<(Token<'s>, Span)>, Error<'s>>,
+)
+    ensures state { state.new ≡ states.Over }
+    ensures answer { answer.new ≡ Ok None }
+{
+    *state = State::Over;
+    *answer = Ok(None);
+}
+
+/// Sets the result to the refusal, and the state to it. It is rare and large, so it is made out of
+/// line.
 #[cold]
 pub(crate) fn refuse<'s>(
     fault: LexFault,
     filename: &'s str,
     span: Span,
+    state: &mut State,
     answer: &mut Result<Option<(Token<'s>, Span)>, Error<'s>>,
 )
+    ensures state { state.new ≡ states.Failed fault span }
     ensures kind { MatchResult answer.new (λ _. ⊥)
         (λ e. kind_of e ≡ fault_kind (fault_view fault)) }
     ensures name { IfErr answer.new (λ e. name_of e ≡ Some filename.entry) }
     ensures span { IfErr answer.new (λ e. span_of e ≡ Some span) }
 {
+    *state = State::Failed(fault, span);
     *answer = Err(Error::new(kind(fault), detail(fault), Some(filename), Some(span)));
 }
 
-/// Sets the result to refused memory, out of line.
+/// Sets the result to refused memory, and the state to it, out of line.
 #[cold]
-pub(crate) fn refuse_for_memory<'s>(answer: &mut Result<Option<(Token<'s>, Span)>, Error<'s>>)
-    ensures { MatchResult answer.new (λ _. ⊥) IsOutOfMemory }
+pub(crate) fn refuse_for_memory<'s>(
+    state: &mut State,
+    answer: &mut Result<Option<(Token<'s>, Span)>, Error<'s>>,
+)
+    ensures state { state.new ≡ states.NoMemory }
+    ensures answer { MatchResult answer.new (λ _. ⊥) IsOutOfMemory }
 {
+    *state = State::NoMemory;
     *answer = Err(Error::from(AllocError));
 }

@@ -83,7 +83,7 @@ fn step_end<'s>(
     match close {
         Close::Closed { start, stop, after } => {
             let span = cursor.span(start, stop);
-            *state = state_behind(cursor, whole, after);
+            leave(cursor, state, whole, after);
             Step::Token(end_token(tag), span)
         }
         Close::Broken => Step::Over,
@@ -95,25 +95,37 @@ fn step_end<'s>(
     }
 }
 
-/// The state after a tag. The tail of the tag is skipped, but after a tag that is the whole text
-/// any further text is refused.
+/// Sets the state to that after a tag. The tail of the tag is skipped, but after a tag that is the
+/// whole text any further text is refused.
 #[inline(always)]
-fn state_behind(cursor: &mut Cursor<'_>, whole: bool, after: usize) -> State
+fn leave(cursor: &mut Cursor<'_>, state: &mut State, whole: bool, after: usize)
     requires onwards { cursor.old.at ≤ after }
     requires boundary { IsCharBoundary cursor.old.text after }
     ensures text { cursor.new.text ≡ cursor.old.text }
-    ensures state { (s : Syntax) → stream_from s cursor.new result ≡ behind s cursor.old.text whole
-        cursor.old.at after }
-    ensures fits { StateFits cursor.new result }
+    ensures state { (s : Syntax) → stream_from s cursor.new state.new ≡ behind s cursor.old.text
+        whole cursor.old.at after }
+    ensures fits { StateFits cursor.new state.new }
 {
-    if !whole {
+    if whole {
+        finish_expression(cursor, state);
+    } else {
         cursor.skip_to(after);
-        return State::Outside;
+        *state = State::Outside;
     }
+}
+
+/// Sets the state to that after an expression that is the whole text.
+#[cold]
+fn finish_expression(cursor: &mut Cursor<'_>, state: &mut State)
+    ensures text { cursor.new.text ≡ cursor.old.text }
+    ensures state { (s : Syntax) → stream_from s cursor.new state.new ≡
+        behind_expression cursor.old.text cursor.old.at cursor.old.at }
+    ensures fits { StateFits cursor.new state.new }
+{
     let at = cursor.at();
-    if at == cursor.text().len() {
+    *state = if at == cursor.text().len() {
         State::Over
     } else {
         State::Failed(LexFault::TextGoesOn, cursor.refusal(at))
-    }
+    };
 }

@@ -11,7 +11,7 @@ ghost use Rattle.minijinja_lexer.specs.private.States.{StateFits, Steps, Takes, 
 ghost use Rattle.minijinja_lexer.specs.TextTokens.{text_of, tokens_of_template, tokens_of_expression, tokens_of_expression_at};
 
 use crate::cursor::Cursor;
-use crate::fault::{refuse, refuse_for_memory};
+use crate::fault::{finish, refuse, refuse_for_memory};
 use crate::inside::step_inside;
 use crate::outside::step_outside;
 use crate::source::text_of;
@@ -210,18 +210,11 @@ impl<'s, 'c> Tokenizer<'s, 'c> {
     {
         match next_step(self.alloc, self.syntax, &mut self.cursor, &mut self.state) {
             Step::Token(token, span) => *answer = Ok(Some((token, span))),
-            Step::Over => {
-                self.state = State::Over;
-                *answer = Ok(None);
-            }
+            Step::Over => finish(&mut self.state, answer),
             Step::Failed(fault, span) => {
-                self.state = State::Failed(fault, span);
-                refuse(fault, self.filename, span, answer);
+                refuse(fault, self.filename, span, &mut self.state, answer);
             }
-            Step::NoMemory => {
-                self.state = State::NoMemory;
-                refuse_for_memory(answer);
-            }
+            Step::NoMemory => refuse_for_memory(&mut self.state, answer),
         }
     }
 }
