@@ -28,5 +28,6 @@ mod Occurrences
 mod Stretches
 mod Plain
 mod Cursors
+mod Ends
 mod RawTexts
 pub mod Elsewhere

@@ -9,5 +9,6 @@ pub mod NumberPlaces
 pub mod RawPlaces
 pub mod Places
 pub mod Found
+pub mod EndBytes
 pub mod States
 pub mod AtTokenizer

@@ -2,6 +2,7 @@
 ghost use Rattle.std.specs.Prelude.{◌≡◌, ℕ, ◌≤◌, length};
 ghost use Rattle.std.specs.Str.{IsCharBoundary};
 ghost use Rattle.minijinja_syntax.specs.Syntax.{Syntax};
+ghost use Rattle.minijinja_lexer.specs.private.EndBytes.{AreEndBytes};
 ghost use Rattle.minijinja_lexer.specs.private.Places.{ClosePlaces};
 ghost use Rattle.minijinja_lexer.specs.private.Views.{tag_view, close_view};
 ghost use Rattle.minijinja_lexer.specs.TextTokens.{stream_in, close_stream, behind_expression};
@@ -12,7 +13,7 @@ use crate::cursor::Cursor;
 use crate::fault::LexFault;
 use crate::step::{State, Step};
 use crate::tag_part::{
-    Close, Tag, TagPart, close_over, end_token, opened_by, shut_by, tag_part_at, token_of,
+    Close, EndBytes, Tag, TagPart, close_over, end_token, opened_by, shut_by, tag_part_at, token_of,
 };
 use minijinja_syntax::syntax::SyntaxConfig;
 use std::alloc::Global;
@@ -22,6 +23,7 @@ use std::alloc::Global;
 pub(crate) fn step_inside<'s>(
     alloc: Global,
     syntax: &SyntaxConfig,
+    ends: EndBytes,
     cursor: &mut Cursor<'s>,
     state: &mut State,
     tag: Tag,
@@ -29,6 +31,7 @@ pub(crate) fn step_inside<'s>(
     shut: usize,
     whole: bool,
 ) -> Step<'s>
+    requires ends { AreEndBytes syntax.now ends }
     requires state { state.old ≡ Inside tag opened shut whole }
     requires opened { opened ≤ cursor.old.at }
     requires shut { shut ≤ cursor.old.at }
@@ -43,7 +46,7 @@ pub(crate) fn step_inside<'s>(
     if at == text.len() {
         return step_end(cursor, state, tag, whole, close_over(at, at, tag));
     }
-    match tag_part_at(syntax, text, tag, opened, shut, at) {
+    match tag_part_at(syntax, ends, text, tag, opened, shut, at) {
         TagPart::Token(lexeme) => {
             let Ok(token) = token_of(alloc, text, at, lexeme) else {
                 return Step::NoMemory;

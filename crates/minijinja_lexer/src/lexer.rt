@@ -7,6 +7,7 @@ ghost use Rattle.minijinja_syntax.specs.Tokens.{tok_of};
 ghost use Rattle.minijinja_syntax.specs.declared.error.ErrorKind.TheVariants.{OutOfMemory};
 ghost use Rattle.minijinja_lexer.specs.Slices.{IsBetweenChars, IsTokenText};
 ghost use Rattle.minijinja_lexer.specs.Stream.{Answers, IsNamed, IsTokenizerKind};
+ghost use Rattle.minijinja_lexer.specs.private.EndBytes.{AreEndBytes};
 ghost use Rattle.minijinja_lexer.specs.private.States.{StateFits, Steps, Takes, stream_from};
 ghost use Rattle.minijinja_lexer.specs.TextTokens.{text_of, tokens_of_template, tokens_of_expression, tokens_of_expression_at};
 
@@ -16,7 +17,7 @@ use crate::inside::step_inside;
 use crate::outside::step_outside;
 use crate::source::text_of;
 use crate::step::{State, Step};
-use crate::tag_part::Tag;
+use crate::tag_part::{EndBytes, Tag, end_bytes};
 use minijinja_syntax::error::Error;
 pub use minijinja_syntax::syntax::StartMarker;
 use minijinja_syntax::syntax::SyntaxConfig;
@@ -29,10 +30,12 @@ use std::ops::Range;
 fn next_step<'s>(
     alloc: Global,
     syntax: &SyntaxConfig,
+    ends: EndBytes,
     cursor: &mut Cursor<'s>,
     state: &mut State,
 ) -> Step<'s>
-    requires { StateFits cursor.old state.old }
+    requires ends { AreEndBytes syntax.now ends }
+    requires state { StateFits cursor.old state.old }
     ensures text { cursor.new.text ≡ cursor.old.text }
     ensures steps { Steps syntax.now (stream_from syntax.now cursor.old state.old) state.new result
         cursor.new }
@@ -45,7 +48,7 @@ fn next_step<'s>(
             opened,
             shut,
             whole,
-        } => step_inside(alloc, syntax, cursor, state, tag, opened, shut, whole),
+        } => step_inside(alloc, syntax, ends, cursor, state, tag, opened, shut, whole),
         State::Over => Step::Over,
         State::Failed(fault, span) => Step::Failed(fault, span),
         State::NoMemory => Step::NoMemory,
@@ -59,6 +62,8 @@ pub struct Tokenizer<'s, 'c> {
     cursor: Cursor<'s>,
     state: State,
     syntax: &'c SyntaxConfig,
+    /// Those of `syntax`.
+    ends: EndBytes,
     alloc: Global,
 }
 
@@ -107,6 +112,7 @@ impl<'s, 'c> Tokenizer<'s, 'c> {
             cursor: Cursor::new(text_of(syntax, input)),
             state,
             syntax,
+            ends: end_bytes(syntax),
             alloc,
         }
     }
@@ -150,6 +156,7 @@ impl<'s, 'c> Tokenizer<'s, 'c> {
                 whole: true,
             },
             syntax,
+            ends: end_bytes(syntax),
             alloc,
         };
         (tokenizer, begin)
@@ -208,7 +215,14 @@ impl<'s, 'c> Tokenizer<'s, 'c> {
         ensures filename { self.new.filename ≡ self.old.filename }
         ensures source { self.new.source ≡ self.old.source }
     {
-        match next_step(self.alloc, self.syntax, &mut self.cursor, &mut self.state) {
+        let step = next_step(
+            self.alloc,
+            self.syntax,
+            self.ends,
+            &mut self.cursor,
+            &mut self.state,
+        );
+        match step {
             Step::Token(token, span) => *answer = Ok(Some((token, span))),
             Step::Over => finish(&mut self.state, answer),
             Step::Failed(fault, span) => {

@@ -1,5 +1,5 @@
 //! The parts of a tag: its tokens, and its end.
-ghost use Rattle.std.specs.Prelude.{◌≡◌, ℕ, ◌+◌, ◌-◌, ◌<◌, ◌≤◌, Option, option_map, length, drop, IfOk, IfErr, IfSome, IsTrue};
+ghost use Rattle.std.specs.Prelude.{◌≡◌, ℕ, ◌+◌, ◌-◌, ◌<◌, ◌≤◌, ◌==◌, ◌||◌, Option, option_map, length, drop, slice_index, IfOk, IfErr, IfSome, IsTrue};
 ghost use Rattle.std.specs.Str.{IsCharBoundary};
 ghost use Rattle.minijinja_syntax.specs.Syntax.{IsBuildable, IsDelimited, end_of};
 ghost use Rattle.minijinja_syntax.specs.Tokens.{tok_of};
@@ -8,12 +8,13 @@ ghost use Rattle.minijinja_lexer.specs.Cut as spec;
 ghost use Rattle.minijinja_lexer.specs.Whitespace.{past_space};
 ghost use Rattle.minijinja_lexer.specs.Stream.{OwnsMemory};
 ghost use Rattle.minijinja_lexer.specs.TextTokens.{start_tok, end_tok, lexeme_tok};
+ghost use Rattle.minijinja_lexer.specs.private.EndBytes.{AreEndBytes};
 ghost use Rattle.minijinja_lexer.specs.private.Places.{TagPartPlaces, ClosePlaces, LexemePlaces};
 ghost use Rattle.minijinja_lexer.specs.private.Views.{tag_view, sort_view, lexeme_view, close_view, tag_part_view, end_view};
 
 use crate::escape::unescape;
 use crate::fault::LexFault;
-use crate::scan::{Sort, token_at};
+use crate::scan::{Sort, byte_at, token_at};
 use crate::symbol::{closes, opens, symbol_token};
 use crate::whitespace::{
     Control, control_at, control_len, past_line_end, past_line_space, past_space, past_tail,
@@ -29,6 +30,13 @@ pub(crate) enum Tag {
     Block,
     /// A line statement.
     Line,
+}
+
+/// The bytes that the ends of tags begin with.
+#[derive(Clone, Copy)]
+pub(crate) struct EndBytes {
+    variable: u8,
+    block: u8,
 }
 
 /// The places of a token in a tag, and its sort.
@@ -85,6 +93,16 @@ pub(crate) fn end_token<'s>(tag: Tag) -> Token<'s>
     }
 }
 
+/// The bytes that the ends of tags of the syntax begin with.
+pub(crate) fn end_bytes(syntax: &SyntaxConfig) -> EndBytes
+    ensures { AreEndBytes syntax.now result }
+{
+    EndBytes {
+        variable: byte_at(syntax.variable_delimiters().1.as_bytes(), 0),
+        block: byte_at(syntax.block_delimiters().1.as_bytes(), 0),
+    }
+}
+
 /// How many brackets a token opens.
 pub(crate) fn opened_by(sort: Sort) -> usize
     ensures value { result ≡ brackets.opened_by (sort_view sort) }
@@ -127,6 +145,17 @@ pub(crate) fn token_of<'s>(
         Sort::Int128(value) => Token::Int128(Box::new(alloc, value)?),
         Sort::Symbol(symbol) => symbol_token(symbol),
     })
+}
+
+/// Whether an end delimiter that begins with the byte may stand at a place, by itself or after a
+/// control. This settles most places without a look at the delimiter.
+#[inline(always)]
+fn may_end(text: &str, at: usize, first: u8) -> bool
+    ensures { result ≡ (slice_index text.now at == first || slice_index text.now at == 45
+        || slice_index text.now at == 43) }
+{
+    let byte = byte_at(text.as_bytes(), at);
+    byte == first || byte == b'-' || byte == b'+'
 }
 
 /// The control of the end delimiter at a place, and where the delimiter ends.
@@ -194,7 +223,15 @@ fn line_close(text: &str, at: usize) -> Option<Close>
 /// The end of a tag at a place, if it is there. From there to `start` is whitespace.
 #[tactic(auto, unfolding(crate::specs::Cut::close_at))]
 #[inline]
-fn close_at(syntax: &SyntaxConfig, text: &str, tag: Tag, at: usize, start: usize) -> Option<Close>
+fn close_at(
+    syntax: &SyntaxConfig,
+    ends: EndBytes,
+    text: &str,
+    tag: Tag,
+    at: usize,
+    start: usize,
+) -> Option<Close>
+    requires ends { AreEndBytes syntax.now ends }
     requires boundary { IsCharBoundary text.now at }
     requires space { start ≡ past_space text.now at }
     requires behind { IsCharBoundary text.now start }
@@ -203,20 +240,20 @@ fn close_at(syntax: &SyntaxConfig, text: &str, tag: Tag, at: usize, start: usize
     ensures places { IfSome result (λ close. ClosePlaces text.now at (close_view close)) }
 {
     match tag {
-        Tag::Variable => delimiter_close(
-            syntax,
-            text,
-            StartMarker::Variable,
-            syntax.variable_delimiters().1,
-            start,
-        ),
-        Tag::Block => delimiter_close(
-            syntax,
-            text,
-            StartMarker::Block,
-            syntax.block_delimiters().1,
-            start,
-        ),
+        Tag::Variable => {
+            if !may_end(text, start, ends.variable) {
+                return None;
+            }
+            let delimiter = syntax.variable_delimiters().1;
+            delimiter_close(syntax, text, StartMarker::Variable, delimiter, start)
+        }
+        Tag::Block => {
+            if !may_end(text, start, ends.block) {
+                return None;
+            }
+            let delimiter = syntax.block_delimiters().1;
+            delimiter_close(syntax, text, StartMarker::Block, delimiter, start)
+        }
         Tag::Line => line_close(text, at),
     }
 }
@@ -265,20 +302,22 @@ fn token_part(text: &str, tag: Tag, at: usize) -> TagPart
 #[inline]
 pub(crate) fn tag_part_at(
     syntax: &SyntaxConfig,
+    ends: EndBytes,
     text: &str,
     tag: Tag,
     opened: usize,
     shut: usize,
     at: usize,
 ) -> TagPart
-    requires { IsCharBoundary text.now at }
+    requires ends { AreEndBytes syntax.now ends }
+    requires boundary { IsCharBoundary text.now at }
     ensures value { tag_part_view result ≡ spec.tag_part_at syntax.now text.now (tag_view tag)
         opened shut at }
     ensures places { TagPartPlaces text.now at (tag_part_view result) }
 {
     let start = past_space(text, at);
     if opened == shut {
-        if let Some(close) = close_at(syntax, text, tag, at, start) {
+        if let Some(close) = close_at(syntax, ends, text, tag, at, start) {
             return TagPart::End(close);
         }
     }
