@@ -1,5 +1,5 @@
 //! The public tokenizer. A clause sees the tokens to come.
-ghost use Rattle.std.specs.Prelude.{◌≡◌, ◌≢◌, ◌<◌, ◌≤◌, ◌^◌, length, take, IfErr, IfOk, IfSome, if◌then◌else◌};
+ghost use Rattle.std.specs.Prelude.{◌≡◌, ◌≢◌, ◌<◌, ◌≤◌, ◌^◌, length, take, IfErr, IfOk, IfSome, Ok, Some, if◌then◌else◌};
 ghost use Rattle.std.specs.Str.{IsCharBoundary};
 ghost use Rattle.minijinja_syntax.specs.Errors.{IsOutOfMemory, kind_of};
 ghost use Rattle.minijinja_syntax.specs.Positions.{span_at};
@@ -52,6 +52,17 @@ fn next_step<'s>(
         State::Over => Step::Over,
         State::Failed(fault, span) => Step::Failed(fault, span),
         State::NoMemory => Step::NoMemory,
+    }
+}
+
+/// Sets the result to a token. Mostly it was a token before, and then only that is written.
+#[inline(always)]
+fn give<'s>(answer: &mut Result<Option<(Token<'s>, Span)>, Error<'s>>, token: Token<'s>, span: Span)
+    ensures { answer.new ≡ Ok (Some (token.entry, span)) }
+{
+    match answer {
+        Ok(Some(slot)) => *slot = (token, span),
+        _ => *answer = Ok(Some((token, span))),
     }
 }
 
@@ -223,7 +234,7 @@ impl<'s, 'c> Tokenizer<'s, 'c> {
             &mut self.state,
         );
         match step {
-            Step::Token(token, span) => *answer = Ok(Some((token, span))),
+            Step::Token(token, span) => give(answer, token, span),
             Step::Over => finish(&mut self.state, answer),
             Step::Failed(fault, span) => {
                 refuse(fault, self.filename, span, &mut self.state, answer);
