@@ -11,7 +11,7 @@ use memchr::{memchr, memchr_iter, memrchr};
 const FAR: usize = 32;
 
 /// How many bytes ahead plain text is looked for.
-const AHEAD: usize = 64;
+const AHEAD: usize = 128;
 
 /// The line and the column after one more byte. The caller limits them.
 #[inline(always)]
