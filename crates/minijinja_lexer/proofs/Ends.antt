@@ -1,6 +1,6 @@
 -- Where no end of a tag begins.
 use Rattle.std.proofs.Common.{◌≡◌, ℕ, ◌+◌, ◌<◌, Bool, true, false, cond, length, drop, get_or, refl, ap, sym, ◌∙◌, arith, ⊎_elim, eq-eqb}
-use Rattle.std.specs.Prelude.{◌||◌, ◌&&◌, ◌==◌, Option, None, Some}
+use Rattle.std.specs.Prelude.{◌||◌, ◌&&◌, ◌==◌, None, Some}
 use Rattle.std.proofs.lemmas.Bool.{cases_Bool}
 use Rattle.std.proofs.lemmas.List.Prefix.{at_reads}
 use Rattle.minijinja_syntax.specs.Texts.{Text}
