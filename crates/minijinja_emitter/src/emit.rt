@@ -191,6 +191,7 @@ impl<'s, V: TemplateValue> Emitter<'s, V> {
     }
 
     /// Adds an instruction as it is, which comes from this span whatever is open.
+    #[inline(always)]
     pub fn push_at(
         &mut self,
         instruction: Instruction<'s, V>,
@@ -205,6 +206,7 @@ impl<'s, V: TemplateValue> Emitter<'s, V> {
     }
 
     /// Adds an instruction as it is, which has the line and the span of the one before it.
+    #[inline(always)]
     pub fn push_again(&mut self, instruction: Instruction<'s, V>) -> Result<(), OutOfMemory>
         ensures made { OnOk result (made_of V.contents self.new ≡ followed
             (made_of V.contents self.old) (instr_of V.contents instruction.entry ∷ [])) }
@@ -226,6 +228,7 @@ impl<'s, V: TemplateValue> Emitter<'s, V> {
     }
 
     /// Adds an instruction that names no place, and comes from this span whatever is open.
+    #[inline(always)]
     pub fn add_at(&mut self, instruction: Instruction<'s, V>, span: Span) -> Result<(), OutOfMemory>
         requires { place_in (instr_of V.contents instruction) ≡ None }
         ensures added { OnOk result (Adds (made_of V.contents self.old) (made_of V.contents self.new)
@@ -233,6 +236,17 @@ impl<'s, V: TemplateValue> Emitter<'s, V> {
         ensures marked { OnOk result (margin_of self.new ≡ alone_at span (margin_of self.old)) }
     {
         self.push_at(instruction, span)
+    }
+
+    /// Adds an instruction that names no place, and has the line and the span of the one before it.
+    #[inline(always)]
+    pub fn add_again(&mut self, instruction: Instruction<'s, V>) -> Result<(), OutOfMemory>
+        requires { place_in (instr_of V.contents instruction) ≡ None }
+        ensures added { OnOk result (Adds (made_of V.contents self.old) (made_of V.contents self.new)
+            (one (instr_of V.contents instruction.entry))) }
+        ensures marked { OnOk result (margin_of self.new ≡ again (margin_of self.old)) }
+    {
+        self.push_again(instruction)
     }
 
     /// Adds a jump to a place.
@@ -337,7 +351,9 @@ impl<'s, V: TemplateValue> Emitter<'s, V> {
         ensures marked { OnOk result (margin_of self.new ≡ replaced place site
             (margin_of self.old)) }
     {
-        self.cut(place);
+        if place < self.place() {
+            self.cut(place);
+        }
         self.stand_at(site);
         self.push(Instruction::LoadConst(value))
     }

@@ -54,6 +54,7 @@ impl<I: Drop> MarkedList<I> {
     }
 
     /// Adds an instruction that has the line and the span of the last one.
+    #[inline(always)]
     pub(crate) fn push_again(&mut self, item: I) -> Result<(), AllocError>
         ensures items { OnOk result (self.new.list.items ≡ self.old.list.items ++ item ∷ []) }
         ensures marks { OnOk result (marks_in self.new.marks ≡ marks_in self.old.marks ++
