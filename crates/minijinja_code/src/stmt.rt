@@ -52,6 +52,7 @@ pub fn statements<'s, V: TemplateValue>(
 
 /// Adds the code of a template, or of a statement that stands in one.
 #[cycle(stmt)]
+#[inline(always)]
 pub fn statement<'s, V: TemplateValue>(
     code: &mut Emitter<'s, V>,
     enclosing: &mut EnclosingLoop,
