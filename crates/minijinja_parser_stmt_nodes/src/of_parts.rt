@@ -288,6 +288,7 @@ fn taken<T: Drop>(alloc: Global, list: &mut Vec<T>) -> Vec<T>
 
 /// The statement that is made of the parts, which are taken out.
 #[tactic(auto, unfolding(minijinja_parser_stmt::specs::internal::Made::HasParts, minijinja_parser_stmt::specs::internal::Made::statement_tree))]
+#[inline(never)]
 pub fn statement<'s, V: TemplateValue>(
     alloc: Global,
     parts: &mut StatementParts<&'s str, Expr<'s, V>, Stmt<'s, V>>,

@@ -62,6 +62,8 @@ pub trait OfParts<'s, V: TemplateValue>: Drop {
 impl<'s, V: TemplateValue> OfParts<'s, V> for Stmt<'s, V> {
     ghost node = { λ C contents s. stmt_node contents s };
 
+    // Where it is inlined, it is known which parts they are, and no room for the others is made.
+    #[inline(always)]
     fn of_parts(
         alloc: Global,
         parts: AnyParts<&'s str, Expr<'s, V>, Stmt<'s, V>>,
