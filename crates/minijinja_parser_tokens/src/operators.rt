@@ -1,5 +1,6 @@
 //! Operators of two sides that group to the left, and how tightly they bind.
-ghost use Rattle.std.specs.Prelude.{◌≡◌};
+ghost use Rattle.std.specs.Prelude.{◌≡◌, None};
+ghost use Rattle.std.specs.Bool.{OnTrue};
 ghost use Rattle.minijinja_syntax.specs.Tokens.{tok_of};
 ghost use Rattle.minijinja_parser_tokens.specs.internal.Levels as spec;
 ghost use Rattle.minijinja_parser_tokens.specs.internal.Levels.{level_of_operator};
@@ -103,10 +104,29 @@ fn word_operator(token: &Token<'_>) -> Option<Operator>
     None
 }
 
+/// Whether the token is one of those that most often come after an expression, none of which is an
+/// operator.
+fn ends_operand(token: &Token<'_>) -> bool
+    ensures { OnTrue result (spec.operator_of (tok_of token.now) ≡ None) }
+{
+    matches!(
+        token,
+        Token::VariableEnd
+            | Token::BlockEnd
+            | Token::Comma
+            | Token::ParenClose
+            | Token::BracketClose
+            | Token::Assign
+    )
+}
+
 /// The operator that the token is or begins.
 pub fn operator_of(token: &Token<'_>) -> Option<Operator>
     ensures { result ≡ spec.operator_of (tok_of token.now) }
 {
+    if ends_operand(token) {
+        return None;
+    }
     let (op, level) = match token {
         Token::Plus => (BinOpKind::Add, Level::Sum),
         Token::Minus => (BinOpKind::Sub, Level::Sum),
