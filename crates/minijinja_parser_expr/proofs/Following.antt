@@ -1,19 +1,20 @@
 -- Subscripts, groups, tests and arguments, a step at a time.
-use Rattle.std.proofs.Common.{◌≡◌, ◌∙◌, false, [], ◌∷◌, if◌then◌else◌, Option, Some, None, Err, refl, ap}
+use Rattle.std.proofs.Common.{◌≡◌, ◌∙◌, false, List, [], ◌∷◌, if◌then◌else◌, Option, Some, None, Err, refl, ap}
 use Rattle.minijinja_value.specs.Values.{Functions}
-use Rattle.minijinja_syntax.specs.Tokens.{Tok, brace_close, bracket_close, bracket_open, colon, comma, dot, paren_close, paren_open}
+use Rattle.minijinja_syntax.specs.Tokens.{Tok, brace_close, bracket_close, bracket_open, colon, comma, dot, paren_close, paren_open, pipe}
+use Rattle.minijinja_syntax.specs.Streams.{SpannedTok}
 use Rattle.minijinja_syntax.specs.declared.tokens.Span.{Span}
 use Rattle.minijinja_tree.specs.Tree.{logical_not}
 use Rattle.minijinja_tree.specs.SpannedTrees as tree
 use Rattle.minijinja_tree.specs.SpannedTrees.{Expr, positional, present, args_of, exprs_of, optional_of}
 use Rattle.minijinja_grammar.specs.Words.{begins_bare, is, not_word}
 use Rattle.minijinja_grammar.specs.Places.{Place}
-use Rattle.minijinja_grammar.specs.internal.Forms.{Form, pure, nothing, start, either, start_at, got, read_then, reads, ◌>>=◌, ◌>>◌}
+use Rattle.minijinja_grammar.specs.internal.Forms.{Form, pure, nothing, one, start, either, start_at, Read, got, read_then, read_one, after, reads, ◌>>=◌, ◌>>◌}
 use Rattle.minijinja_grammar.specs.Ahead.{comes}
 use Rattle.minijinja_grammar.specs.internal.ExprForms as form
 use Rattle.minijinja_grammar.specs.internal.ExprForms.{Below, next, behind, expanded}
 use Rattle.minijinja_parser_tokens.specs.declared.refusal.Refusal.{Refusal}
-use Rattle.minijinja_parser_tokens.specs.internal.Reads.{Reads, eaten}
+use Rattle.minijinja_parser_tokens.specs.internal.Reads.{Reads, eaten, skipped}
 use Rattle.minijinja_parser_expr.proofs.Refused.{refused}
 use Rattle.minijinja_parser_tokens.proofs.Turned.{behind_is}
 
@@ -92,15 +93,44 @@ module _ {C : Type 0} (expr : Form (Expr C)) where
     unfolding form.member
     member_same e from p = refl
 
-    -- after any other token stand arguments
-    pub postfix_call : (t : Tok) (e : Expr C) (from : Span) (p : Place) → is dot t ≡ false → is bracket_open t ≡ false →
-        reads (form.postfix expr f e from t) p ≡ read_then (reads (form.args expr) p) (λ xs q. got (tree.call e (args_of xs) (expanded from q.last)) q)
+    -- a postfix, by its first token: after a token that is no dot and no bracket stand arguments
+    pub postfix_is : (e : Expr C) (from : Span) (p : Place) → read_then (reads (one Some) p) (λ t q. reads (form.postfix expr f e from t.0) q) ≡
+        read_then (skipped p) (λ s q. if comes (is dot) p.tokens then reads (form.member expr f e from) q
+        else if comes (is bracket_open) p.tokens then reads (form.subscript expr e from) q
+        else read_then (reads (form.args expr) q) (λ xs r. got (tree.call e (args_of xs) (expanded from r.last)) r))
     unfolding reads
-    postfix_call dot e from p h i = cc
-    postfix_call bracket_open e from p h i = cc
-    postfix_call _ e from p h i = refl
+    postfix_is e from p = go p.tokens
+      where
+        call : Place → Read (Expr C)
+        call q = read_then (reads (form.args expr) q) (λ xs r. got (tree.call e (args_of xs) (expanded from r.last)) r)
+
+        at_token : (t : Tok) (q : Place) → reads (form.postfix expr f e from t) q ≡
+            (if is dot t then reads (form.member expr f e from) q else if is bracket_open t then reads (form.subscript expr e from) q else call q)
+        at_token dot q = refl
+        at_token bracket_open q = refl
+        at_token _ q = refl
+
+        go : (ts : List SpannedTok) → read_then (read_one Some p ts) (λ t q. reads (form.postfix expr f e from t.0) q) ≡
+            read_then (read_one (λ t. Some t.1) p ts) (λ s q. if comes (is dot) ts then reads (form.member expr f e from) q else if comes (is bracket_open) ts then reads (form.subscript expr e from) q else call q)
+        go [] = refl
+        go (t ∷ ts) = at_token t.0 (after p t ts)
 
 module _ {C F : Type 0} (f : Functions C F) (b : Below C) where
+  -- a suffix, by its first token
+  pub suffix_is : (e : Expr C) (p : Place) → read_then (reads (one Some) p) (λ t q. reads (form.suffix f b e t.0) q) ≡
+      read_then (skipped p) (λ s q. if comes (is pipe) p.tokens then reads (form.filtered f b e) q else reads (form.any_test f b e) q)
+  unfolding reads
+  suffix_is e p = go p.tokens
+    where
+      at_token : (t : Tok) (q : Place) → reads (form.suffix f b e t) q ≡ (if is pipe t then reads (form.filtered f b e) q else reads (form.any_test f b e) q)
+      at_token pipe q = refl
+      at_token _ q = refl
+
+      go : (ts : List SpannedTok) → read_then (read_one Some p ts) (λ t q. reads (form.suffix f b e t.0) q) ≡
+          read_then (read_one (λ t. Some t.1) p ts) (λ s q. if comes (is pipe) ts then reads (form.filtered f b e) q else reads (form.any_test f b e) q)
+      go [] = refl
+      go (t ∷ ts) = at_token t.0 (after p t ts)
+
   pub filter_is : (e : Expr C) (p : Place) → reads (form.filtered f b e) p ≡
       read_then (reads form.name p) (λ x q. read_then (reads (form.maybe_args b.expr) q) (λ xs r. got (tree.filter (present e) x (args_of xs) (expanded (start_at p) r.last)) r))
   unfolding reads form.filtered

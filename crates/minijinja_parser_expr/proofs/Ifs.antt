@@ -8,9 +8,10 @@ use Rattle.minijinja_grammar.specs.Places.{Place}
 use Rattle.minijinja_grammar.specs.internal.Forms.{Form, go_on, pure, many, Read, got, short, wrong, read_then, read_turn, reads, ◌>>=◌}
 use Rattle.minijinja_grammar.specs.Ahead.{comes}
 use Rattle.minijinja_grammar.specs.internal.ExprForms.{if_turn, cond, cond_level, else_part, or_level, not_level, below, expr_at, next, span_of_mark, expanded}
-use Rattle.minijinja_parser_tokens.specs.internal.Reads.{eaten}
+use Rattle.minijinja_parser_tokens.specs.internal.Reads.{eaten, skipped}
 use Rattle.minijinja_parser_tokens.specs.declared.operators.Level.TheVariants as level
-use Rattle.minijinja_parser_tokens.proofs.Turned.{behind_is, eaten_shorter, read_no_longer}
+use Rattle.minijinja_parser_tokens.proofs.Taking.{eaten_is}
+use Rattle.minijinja_parser_tokens.proofs.Turned.{behind_is, skip_shorter, read_no_longer}
 use Rattle.minijinja_parser_expr.specs.private.Levels.{level_at}
 use Rattle.minijinja_parser_expr.proofs.Repeated.{many_done, many_more}
 
@@ -70,6 +71,22 @@ module _ {C : Type 0} (or nested : Form (Expr C)) where
       go true k = rw (many_more (is if_word) (λ t. t.1) (if_turn or nested) (e, from) p k) (taken (reads (next if_word) p))
       go false k = rw (many_done (is if_word) (λ t. t.1) (if_turn or nested) (e, from) p k) refl
 
+  -- by whether an if comes
+  pub ifs_more : (e : Expr C) (from : Span) (p : Place) → comes (is if_word) p.tokens ≡ true → ifs e from p ≡ read_then (skipped p) (λ s q.
+      read_then (reads or q) (λ t r. read_then (reads (else_part nested) r) (λ o s. ifs (also e from t o s) s.last s)))
+  ifs_more e from p k = ifs_are e from p ∙ rw (eaten_is if_word p, k) (go (skipped p))
+    where
+      rest : Place → Read (Expr C)
+      rest q = read_then (reads or q) (λ t r. read_then (reads (else_part nested) r) (λ o s. ifs (also e from t o s) s.last s))
+
+      go : (o : Read Span) → read_then (read_then o (λ s q. got true q)) (λ b q. if b then rest q else got e q) ≡ read_then o (λ s q. rest q)
+      go (got s q) = refl
+      go (short q) = refl
+      go (wrong q) = refl
+
+  pub ifs_done : (e : Expr C) (from : Span) (p : Place) → comes (is if_word) p.tokens ≡ false → ifs e from p ≡ got e p
+  ifs_done e from p k = ifs_are e from p ∙ rw (eaten_is if_word p, k) refl
+
   pub else_part_is : (p : Place) → reads (else_part nested) p ≡ read_then (eaten else_word p) (λ b q. if b then read_then (reads nested q) (λ e r. got (Some e) r) else got None q)
   unfolding reads
   else_part_is p = behind_is else_word (nested >>= (λ e. pure (Some e))) (pure None) p
@@ -85,6 +102,6 @@ module _ {C F : Type 0} (f : Functions C F) (depth : ℕ) where
   cond_level_is p = cond_is (level_at f depth level.Or) (expr_at f depth) p
 
   -- an if takes a token
-  pub if_shorter : (p q r s : Place) (t : Expr C) (o : Option (Expr C)) → eaten if_word p ≡ got true q → reads (level_at f depth level.Or) q ≡ got t r →
+  pub if_shorter : (p q r s : Place) (u : Span) (t : Expr C) (o : Option (Expr C)) → skipped p ≡ got u q → reads (level_at f depth level.Or) q ≡ got t r →
       reads (else_part (expr_at f depth)) r ≡ got o s → length s.tokens < length p.tokens
-  if_shorter p q r s t o h i j = omega (arith, eaten_shorter if_word p q h, read_no_longer (level_at f depth level.Or) q r t i, read_no_longer (else_part (expr_at f depth)) r s o j)
+  if_shorter p q r s u t o h i j = omega (arith, skip_shorter p q u h, read_no_longer (level_at f depth level.Or) q r t i, read_no_longer (else_part (expr_at f depth)) r s o j)

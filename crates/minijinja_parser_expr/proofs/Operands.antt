@@ -1,5 +1,5 @@
 -- Operands with their postfixes and suffixes, a turn at a time, and the operators that nest them.
-use Rattle.std.proofs.Common.{◌≡◌, ◌∙◌, ◌<◌, ◌≤◌, arith, length, Bool, true, false, List, [], ◌∷◌, if◌then◌else◌, Some, None, refl, ap}
+use Rattle.std.proofs.Common.{◌≡◌, ◌∙◌, ◌<◌, ◌≤◌, arith, length, Bool, true, false, List, [], ◌∷◌, if◌then◌else◌, Some, None, refl, sym, ap}
 use Rattle.minijinja_value.specs.Values.{Functions}
 use Rattle.minijinja_syntax.specs.Tokens.{Tok, minus, pow}
 use Rattle.minijinja_syntax.specs.declared.tokens.Span.{Span}
@@ -13,9 +13,10 @@ use Rattle.minijinja_grammar.specs.internal.Forms.{Turn, go_on, Form, pure, one,
 use Rattle.minijinja_grammar.specs.Ahead.{comes}
 use Rattle.minijinja_grammar.specs.internal.ExprForms as form
 use Rattle.minijinja_grammar.specs.internal.ExprForms.{Below, expanded, next, of_kind}
+use Rattle.minijinja_grammar.proofs.Forms.{read_then_got}
 use Rattle.minijinja_grammar.proofs.Unrolled.{many_is}
-use Rattle.minijinja_parser_tokens.specs.internal.Reads.{eaten}
-use Rattle.minijinja_parser_tokens.proofs.Turned.{behind_is, read_no_longer, take_shorter, under}
+use Rattle.minijinja_parser_tokens.specs.internal.Reads.{skipped}
+use Rattle.minijinja_parser_tokens.proofs.Turned.{behind_comes, read_no_longer, take_shorter, under}
 
 -- ---- turns that a kind of token begins, each a part
 
@@ -80,10 +81,10 @@ module _ {C F : Type 0} (f : Functions C F) (b : Below C) where
   unfolding postfixes
   postfixed_done e from p h = ap (λ o. read_then o (λ x q. got x.0 q)) (turns_done begins_postfix postfix_part postfix_added (e, from) p h)
 
-  pub postfixed_more : (e : Expr C) (from : Span) (p : Place) → comes begins_postfix p.tokens ≡ true →
+  by_token : (e : Expr C) (from : Span) (p : Place) → comes begins_postfix p.tokens ≡ true →
       postfixes e from p ≡ read_then (reads (one Some) p) (λ t q. read_then (reads (form.postfix b.expr f e from t.0) q) (λ x r. postfixes x t.1 r))
   unfolding postfixes
-  postfixed_more e from p h =
+  by_token e from p h =
       ap (λ o. read_then o (λ x q. got x.0 q)) (turns_more begins_postfix postfix_part postfix_added (e, from) p h) ∙ go (reads (one Some) p)
     where
       inner : (t : SpannedTok) (o : Read (Expr C)) →
@@ -99,6 +100,21 @@ module _ {C F : Type 0} (f : Functions C F) (b : Below C) where
       go (short q) = refl
       go (wrong q) = refl
 
+  -- a postfix, and those that follow it, the first of which begins where this one began
+  pub postfixed_more : (e : Expr C) (from : Span) (p : Place) → comes begins_postfix p.tokens ≡ true →
+      postfixes e from p ≡ read_then (read_then (reads (one Some) p) (λ t q. reads (form.postfix b.expr f e from t.0) q)) (λ x r. postfixes x (start_at p) r)
+  unfolding reads
+  postfixed_more e from p h = by_token e from p h ∙ go p.tokens refl
+    where
+      starts : (q : Place) (t : SpannedTok) (ts : List SpannedTok) → q.tokens ≡ t ∷ ts → start_at q ≡ t.1
+      starts q t ts i = rw i refl
+
+      go : (ts : List SpannedTok) → p.tokens ≡ ts →
+          read_then (read_one Some p ts) (λ t q. read_then (reads (form.postfix b.expr f e from t.0) q) (λ x r. postfixes x t.1 r)) ≡
+          read_then (read_then (read_one Some p ts) (λ t q. reads (form.postfix b.expr f e from t.0) q)) (λ x r. postfixes x (start_at p) r)
+      go [] i = refl
+      go (t ∷ ts) i = ap (λ s. read_then (reads (form.postfix b.expr f e from t.0) (after p t ts)) (λ x r. postfixes x s r)) (sym (starts p t ts i))
+
   -- ---- suffixes: filters and tests
 
   -- the suffixes that follow, after those so far
@@ -113,8 +129,14 @@ module _ {C F : Type 0} (f : Functions C F) (b : Below C) where
   suffixed_done e p h = turns_done begins_suffix (λ x t. form.suffix f b x t.0) (λ x t y. y) e p h
 
   pub suffixed_more : (e : Expr C) (p : Place) → comes begins_suffix p.tokens ≡ true →
-      reads (suffixes e) p ≡ read_then (reads (one Some) p) (λ t q. read_then (reads (form.suffix f b e t.0) q) (λ x r. reads (suffixes x) r))
-  suffixed_more e p h = turns_more begins_suffix (λ x t. form.suffix f b x t.0) (λ x t y. y) e p h
+      reads (suffixes e) p ≡ read_then (read_then (reads (one Some) p) (λ t q. reads (form.suffix f b e t.0) q)) (λ x r. reads (suffixes x) r)
+  suffixed_more e p h = turns_more begins_suffix (λ x t. form.suffix f b x t.0) (λ x t y. y) e p h ∙ go (reads (one Some) p)
+    where
+      go : (o : Read SpannedTok) → read_then o (λ t q. read_then (reads (form.suffix f b e t.0) q) (λ x r. reads (suffixes x) r)) ≡
+          read_then (read_then o (λ t q. reads (form.suffix f b e t.0) q)) (λ x r. reads (suffixes x) r)
+      go (got t q) = refl
+      go (short q) = refl
+      go (wrong q) = refl
 
 -- ---- operators that nest their operand
 
@@ -129,16 +151,15 @@ module _ {C F : Type 0} (f : Functions C F) (b : Below C) where
   unfolding reads form.operand
   operand_is p = refl
 
-  pub power_is : (p : Place) → reads (form.pow_level f b) p ≡ read_then (reads (form.unary_level f b) p) (λ l q. read_then (eaten pow q) (λ c s.
-      if c then read_then (reads b.power s) (λ r u. got (binary bin.pow l r (expanded (start_at p) u.last)) u) else got l s))
+  pub power_is : (p : Place) → reads (form.pow_level f b) p ≡ read_then (reads (form.unary_level f b) p) (λ l q. if comes (is pow) q.tokens
+      then read_then (skipped q) (λ s u. read_then (reads b.power u) (λ r v. got (binary bin.pow l r (expanded (start_at p) v.last)) v)) else got l q)
   unfolding reads form.pow_level
-  power_is p = under (reads (form.unary_level f b) p) _ _ (λ l q. behind_is pow (b.power >>= (λ r. form.spanned (start_at p) (binary bin.pow l r))) (pure l) q)
+  power_is p = under (reads (form.unary_level f b) p) _ _ (λ l q. behind_comes pow (b.power >>= (λ r. form.spanned (start_at p) (binary bin.pow l r))) (pure l) q)
 
 -- ---- how many tokens are left
 
 -- a token, and what is read after it
-pub taken_shorter : {A : Type 0} (f : Form A) (p q r : Place) (t : SpannedTok) (x : A) →
-    reads (one Some) p ≡ got t q → reads f q ≡ got x r → length r.tokens < length p.tokens
-taken_shorter f p q r t x e h =
-    let a : length q.tokens < length p.tokens = take_shorter p q t e in
-    let b : length r.tokens ≤ length q.tokens = read_no_longer f q r x h in omega arith
+pub turn_shorter : {A : Type 0} (f : SpannedTok → Form A) (p r : Place) (x : A) → read_then (reads (one Some) p) (λ t q. reads (f t) q) ≡ got x r → length r.tokens < length p.tokens
+turn_shorter f p r x e =
+    let i : (t : SpannedTok) × (q : Place) × (reads (one Some) p ≡ got t q) × (reads (f t) q ≡ got x r) = read_then_got _ _ _ _ e in
+    omega (arith, take_shorter p i.1 i.0 i.2, read_no_longer (f i.0) i.1 r x i.3)

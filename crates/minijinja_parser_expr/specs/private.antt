@@ -4,3 +4,4 @@ pub mod Nests
 pub mod Levels
 pub mod Primaries
 pub mod Texts
+pub mod Turns

@@ -10,6 +10,7 @@ use Rattle.minijinja_grammar.specs.Ahead.{comes}
 use Rattle.minijinja_grammar.specs.internal.ExprForms.{next, items, behind, span_of_mark}
 use Rattle.minijinja_parser_tokens.specs.internal.Reads.{eaten, skipped}
 use Rattle.minijinja_grammar.proofs.Unrolled.{many_is}
+use Rattle.minijinja_parser_tokens.proofs.Taking.{eaten_is}
 use Rattle.minijinja_grammar.proofs.Forms.{left, sound, no_longer, takes_shorter, same_read}
 
 pub under : {A B : Type 0} (o : Read A) (f g : A → Place → Read B) → ((x : A) (q : Place) → f x q ≡ g x q) → read_then o f ≡ read_then o g
@@ -23,6 +24,17 @@ behind_is {A = A} m f g p = go (comes (is m) p.tokens) (read_one (span_of_mark m
   where
     go : (b : Bool) (o : Read Span) →
         (if b then read_then o (λ s. reads f) else reads g p) ≡ read_then (if b then read_then o (λ s q. got true q) else got false p) (λ c q. if c then reads f q else reads g q)
+    go true (got s q) = refl
+    go true (short q) = refl
+    go true (wrong q) = refl
+    go false o = refl
+
+-- by whether the token comes
+pub behind_comes : {A : Type 0} (m : Tok) (f g : Form A) (p : Place) → reads (behind m f g) p ≡ (if comes (is m) p.tokens then read_then (skipped p) (λ s q. reads f q) else reads g p)
+behind_comes {A = A} m f g p = behind_is m f g p ∙ rw (eaten_is m p) (go (comes (is m) p.tokens) (skipped p))
+  where
+    go : (b : Bool) (o : Read Span) →
+        read_then (if b then read_then o (λ s q. got true q) else got false p) (λ c q. if c then reads f q else reads g q) ≡ (if b then read_then o (λ s q. reads f q) else reads g p)
     go true (got s q) = refl
     go true (short q) = refl
     go true (wrong q) = refl

@@ -8,7 +8,7 @@ use crate::builder::{ExprBuilder, Node};
 use crate::rules::{ExprRules, Nest};
 use minijinja_parser_tokens::marks::Mark;
 use minijinja_parser_tokens::operators::Level;
-use minijinja_parser_tokens::refusal::Refusal;
+use minijinja_parser_tokens::refusal::{Refusal, Wanted};
 use minijinja_parser_tokens::tokens::Tokens;
 use std::marker::PhantomData;
 
@@ -32,7 +32,8 @@ impl<
     {
         let mut from = tokens.last_span();
         let mut expr = self.level(tokens, Level::Or)?;
-        while tokens.eat(Mark::If)? {
+        while tokens.at(Mark::If) {
+            tokens.skip(Wanted::Mark(Mark::If))?;
             let test_expr = self.level(tokens, Level::Or)?;
             let false_expr = self.else_part(tokens)?;
             let node = Node::IfExpr(test_expr, expr, false_expr);

@@ -78,9 +78,10 @@ impl<
     {
         let from = tokens.current_span();
         let left = self.suffixed(tokens)?;
-        if !tokens.eat(Mark::Pow)? {
+        if !tokens.at(Mark::Pow) {
             return Ok(left);
         }
+        tokens.skip(Wanted::Mark(Mark::Pow))?;
         let right = self.inner(tokens, Nest::Power)?;
         self.spanned(tokens, from, Node::BinOp(BinOpKind::Pow, left, right))
     }

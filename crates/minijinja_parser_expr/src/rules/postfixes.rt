@@ -4,6 +4,8 @@ ghost use Rattle.minijinja_grammar.specs.internal.Forms.{reads};
 ghost use Rattle.minijinja_grammar.specs.internal.ExprForms as form;
 ghost use Rattle.minijinja_grammar.specs.internal.ExprForms.{below, expr_at};
 ghost use Rattle.minijinja_parser_expr.specs.private.Nests.{Nests, Parses};
+ghost use Rattle.minijinja_parser_expr.specs.private.Turns.{postfix_at};
+ghost use Rattle.minijinja_parser_tokens.specs.internal.Reads.{Reads};
 
 use crate::builder::{ExprBuilder, Node};
 use crate::rules::{ExprRules, Nest};
@@ -26,7 +28,7 @@ impl<
         ) -> Result<N::Expr, Refusal>,
 > ExprRules<N, F> {
     /// Reads a primary and its postfixes.
-    #[tactic(auto, using(crate::proofs::Operands::postfixed_is, crate::proofs::Operands::postfixed_more, crate::proofs::Operands::postfixed_done, crate::proofs::Operands::taken_shorter))]
+    #[tactic(auto, using(crate::proofs::Operands::postfixed_is, crate::proofs::Operands::postfixed_more, crate::proofs::Operands::postfixed_done))]
     pub(crate) fn postfixed(&self, tokens: &mut N::Input) -> Result<N::Expr, Refusal>
         requires { Nests N.Input.place N.tree N.functions self.now.depth F.pre F.post
             self.now.parser }
@@ -35,31 +37,27 @@ impl<
         let mut from = tokens.current_span();
         let mut expr = self.primary(tokens)?;
         while tokens.begins(Part::Postfix) {
-            let (token, begin) = tokens.take(Wanted::Part(Expected::Expression))?;
-            expr = self.postfix(tokens, expr, from, &token)?;
+            let begin = tokens.current_span();
+            expr = self.postfix(tokens, expr, from)?;
             from = begin;
         }
         Ok(expr)
     }
 
-    /// Reads an attribute, an item, a slice or a call, after its first token.
-    #[tactic(auto, using(crate::proofs::Following::member_same))]
-    fn postfix(
-        &self,
-        tokens: &mut N::Input,
-        expr: N::Expr,
-        from: Span,
-        token: &<N::Input as Tokens>::Token,
-    ) -> Result<N::Expr, Refusal>
+    /// Reads an attribute, an item, a slice or a call.
+    fn postfix(&self, tokens: &mut N::Input, expr: N::Expr, from: Span) -> Result<N::Expr, Refusal>
         requires { Nests N.Input.place N.tree N.functions self.now.depth F.pre F.post
             self.now.parser }
-        ensures { Parses N.Input.place N.tree (form.postfix (expr_at N.functions self.now.depth)
-            N.functions (N.tree expr) from (N.Input.tok token.now)) tokens.old result tokens.new }
+        ensures { Reads N.tree (postfix_at N.functions self.now.depth (N.tree expr) from
+            (N.Input.place tokens.old)) result (N.Input.place tokens.new) }
     {
-        if <N::Input as Tokens>::is(token, Mark::Dot) {
+        let is_attribute = tokens.at(Mark::Dot);
+        let is_subscript = tokens.at(Mark::BracketOpen);
+        tokens.skip(Wanted::Part(Expected::Expression))?;
+        if is_attribute {
             return self.builder.member(tokens, expr, from);
         }
-        if <N::Input as Tokens>::is(token, Mark::BracketOpen) {
+        if is_subscript {
             return self.subscript(tokens, expr, from);
         }
         let args = self.args(tokens)?;

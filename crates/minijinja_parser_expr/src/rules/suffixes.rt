@@ -3,6 +3,8 @@ ghost use Rattle.std.specs.Prelude.{map};
 ghost use Rattle.minijinja_grammar.specs.internal.ExprForms as form;
 ghost use Rattle.minijinja_grammar.specs.internal.ExprForms.{below};
 ghost use Rattle.minijinja_parser_expr.specs.private.Nests.{Nests, Parses};
+ghost use Rattle.minijinja_parser_expr.specs.private.Turns.{suffix_at};
+ghost use Rattle.minijinja_parser_tokens.specs.internal.Reads.{Reads};
 
 use crate::builder::{Argument, ExprBuilder, Node};
 use crate::rules::{ExprRules, Nest};
@@ -25,7 +27,7 @@ impl<
         ) -> Result<N::Expr, Refusal>,
 > ExprRules<N, F> {
     /// Reads an operand and its suffixes.
-    #[tactic(auto, using(crate::proofs::Operands::suffixed_is, crate::proofs::Operands::suffixed_more, crate::proofs::Operands::suffixed_done, crate::proofs::Operands::taken_shorter))]
+    #[tactic(auto, using(crate::proofs::Operands::suffixed_is, crate::proofs::Operands::suffixed_more, crate::proofs::Operands::suffixed_done))]
     pub(crate) fn suffixed(&self, tokens: &mut N::Input) -> Result<N::Expr, Refusal>
         requires { Nests N.Input.place N.tree N.functions self.now.depth F.pre F.post
             self.now.parser }
@@ -33,25 +35,21 @@ impl<
     {
         let mut expr = self.operand(tokens)?;
         while tokens.begins(Part::Suffix) {
-            let (token, _) = tokens.take(Wanted::Part(Expected::Expression))?;
-            expr = self.suffix(tokens, expr, &token)?;
+            expr = self.suffix(tokens, expr)?;
         }
         Ok(expr)
     }
 
-    /// Reads a filter or a test, after its first token.
-    fn suffix(
-        &self,
-        tokens: &mut N::Input,
-        expr: N::Expr,
-        token: &<N::Input as Tokens>::Token,
-    ) -> Result<N::Expr, Refusal>
+    /// Reads a filter or a test.
+    fn suffix(&self, tokens: &mut N::Input, expr: N::Expr) -> Result<N::Expr, Refusal>
         requires { Nests N.Input.place N.tree N.functions self.now.depth F.pre F.post
             self.now.parser }
-        ensures { Parses N.Input.place N.tree (form.suffix N.functions (below N.functions self.now.depth) (N.tree expr) (N.Input.tok
-            token.now)) tokens.old result tokens.new }
+        ensures { Reads N.tree (suffix_at N.functions self.now.depth (N.tree expr)
+            (N.Input.place tokens.old)) result (N.Input.place tokens.new) }
     {
-        if <N::Input as Tokens>::is(token, Mark::Pipe) {
+        let is_filter = tokens.at(Mark::Pipe);
+        tokens.skip(Wanted::Part(Expected::Expression))?;
+        if is_filter {
             return self.filter(tokens, expr);
         }
         self.any_test(tokens, expr)
