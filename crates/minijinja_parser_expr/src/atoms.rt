@@ -1,12 +1,14 @@
 //! Reads names, constants and other parts in which no expression is nested.
-ghost use Rattle.std.specs.Prelude.{◌≡◌, IfOk};
+ghost use Rattle.std.specs.Prelude.{◌≡◌, IfOk, false, if◌then◌else◌, true};
 ghost use Rattle.std.specs.String.{string_bytes};
 ghost use Rattle.minijinja_syntax.specs.Positions.{slice};
 ghost use Rattle.minijinja_syntax.specs.Tokens.{tok_of};
 ghost use Rattle.minijinja_lexer.specs.Slices.{IsBetweenChars};
+ghost use Rattle.minijinja_grammar.specs.Words as words;
 ghost use Rattle.minijinja_grammar.specs.internal.Forms.{reads};
 ghost use Rattle.minijinja_grammar.specs.internal.ExprForms as form;
 ghost use Rattle.minijinja_parser_tokens.specs.internal.Reads.{Reads};
+ghost use Rattle.minijinja_parser_expr.specs.private.Primaries as primaries;
 ghost use Rattle.minijinja_parser_expr.specs.private.Texts.{Joins};
 ghost use Rattle.minijinja_tree.specs.SpannedErasure.{expr_node};
 ghost use Rattle.minijinja_tree.specs.SpannedTrees as tree;
@@ -23,6 +25,28 @@ use minijinja_tree_expr::nodes;
 use minijinja_value::value::TemplateValue;
 use std::alloc::{AllocError, Global};
 
+/// Makes the constant of a word that stands for one: true, false, or else none.
+#[inline(never)]
+fn constant_word<'s, V: TemplateValue>(
+    alloc: Global,
+    word: &str,
+    span: Span,
+) -> Result<Expr<'s, V>, AllocError>
+    ensures { IfOk result (λ e. expr_node V.contents e ≡ tree.constant
+        (if words.is_true_word word.now then V.functions.of_bool true
+        else if words.is_false_word word.now then V.functions.of_bool false
+        else V.functions.none) span) }
+{
+    let value = if is_true_word(word) {
+        V::of_bool(true)
+    } else if is_false_word(word) {
+        V::of_bool(false)
+    } else {
+        V::none()
+    };
+    nodes::constant(alloc, value, span)
+}
+
 /// Makes the constant or the variable that a word stands for.
 #[tactic(auto, unfolding(minijinja_grammar::specs::internal::ExprForms::word))]
 pub fn word<'s, V: TemplateValue>(
@@ -32,16 +56,39 @@ pub fn word<'s, V: TemplateValue>(
 ) -> Result<Expr<'s, V>, AllocError>
     ensures { IfOk result (λ e. expr_node V.contents e ≡ form.word V.functions word.now span) }
 {
-    let value = if is_true_word(word) {
-        V::of_bool(true)
-    } else if is_false_word(word) {
-        V::of_bool(false)
-    } else if is_none_word(word) {
-        V::none()
-    } else {
-        return nodes::variable(alloc, word, span);
-    };
-    nodes::constant(alloc, value, span)
+    if is_true_word(word) || is_false_word(word) || is_none_word(word) {
+        return constant_word(alloc, word, span);
+    }
+    nodes::variable(alloc, word, span)
+}
+
+/// Reads a number or a text.
+#[tactic(auto, using(crate::proofs::Primaries::literal_is))]
+#[inline(never)]
+pub fn literal<'s, V: TemplateValue>(
+    alloc: Global,
+    tokens: &mut TokenStream<'s, '_>,
+) -> Result<Expr<'s, V>, Refusal>
+    ensures { Reads (expr_node V.contents) (reads (primaries.literal V.functions) tokens.old) result
+        tokens.new }
+{
+    if let Some(value) = tokens.int_in_view() {
+        let from = tokens.skip(Wanted::Part(Expected::Expression))?;
+        return Ok(nodes::constant(alloc, V::of_u64(value), from)?);
+    }
+    if let Some(plain) = tokens.str_in_view() {
+        let from = tokens.skip(Wanted::Part(Expected::Expression))?;
+        return text(alloc, tokens, plain, from);
+    }
+    let (token, from) = tokens.take(Wanted::Part(Expected::Expression))?;
+    match token {
+        Token::String(decoded) => joined_text(alloc, tokens, decoded, from),
+        Token::Int128(value) => {
+            let value = V::of_u128(alloc, *value)?;
+            Ok(nodes::constant(alloc, value, from)?)
+        }
+        _ => Err(Refusal::Wrong(Wanted::Part(Expected::Expression))),
+    }
 }
 
 /// Makes the constant of a text.

@@ -10,10 +10,9 @@ ghost use Rattle.minijinja_tree.specs.SpannedTrees.{Arg, Expr};
 ghost use Rattle.minijinja_grammar.specs.internal.Forms.{nothing};
 ghost use Rattle.minijinja_grammar.specs.internal.ExprForms as form;
 ghost use Rattle.minijinja_grammar.specs.internal.ExprForms.{name_of_variable};
-ghost use Rattle.minijinja_parser_tokens.specs.internal.Reads.{Reads};
 ghost use Rattle.minijinja_parser_expr.specs.private.Made.{argument_of, node_tree};
 ghost use Rattle.minijinja_parser_expr.specs.private.Nests.{Parses};
-ghost use Rattle.minijinja_parser_expr.specs.private.Primaries.{atom_at};
+ghost use Rattle.minijinja_parser_expr.specs.private.Primaries as primaries;
 
 use minijinja_parser_tokens::refusal::Refusal;
 use minijinja_parser_tokens::tokens::Tokens;
@@ -93,15 +92,9 @@ pub trait ExprBuilder: Copy {
     /// Where nodes are allocated.
     fn alloc(&self) -> Global;
 
-    /// Reads the rest of a constant, a text or a variable, which begins with the token.
-    fn atom(
-        &self,
-        tokens: &mut Self::Input,
-        first: <Self::Input as Tokens>::Token,
-        from: Span,
-    ) -> Result<Self::Expr, Refusal>
-        ensures { Reads tree (atom_at functions (Self.Input.tok first, from)
-            (Self.Input.place tokens.old)) result (Self.Input.place tokens.new) };
+    /// Reads a constant, a text or a variable.
+    fn atom(&self, tokens: &mut Self::Input) -> Result<Self::Expr, Refusal>
+        ensures { Parses Self.Input.place tree (primaries.atom functions) tokens.old result tokens.new };
 
     /// Reads what follows the `.` after an operand: the name of an attribute, or the number of an
     /// item.

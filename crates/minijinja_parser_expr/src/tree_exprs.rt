@@ -1,14 +1,13 @@
 //! Makes the nodes of a tree of expressions, by the rules of the grammar.
 ghost use Rattle.std.specs.Prelude.{◌≡◌, IfOk};
 ghost use Rattle.std.specs.Option.{option_map};
-ghost use Rattle.minijinja_syntax.specs.Tokens.{tok_of};
 ghost use Rattle.minijinja_tree.specs.Erasure.{compare_op};
 ghost use Rattle.minijinja_tree.specs.SpannedErasure.{arg_view, compared, expr_node};
 ghost use Rattle.minijinja_grammar.specs.internal.Forms.{nothing, reads};
 ghost use Rattle.minijinja_grammar.specs.internal.ExprForms as form;
 ghost use Rattle.minijinja_grammar.specs.internal.ExprForms.{name_of_variable};
 ghost use Rattle.minijinja_parser_expr.specs.private.Made.{argument_of, node_tree};
-ghost use Rattle.minijinja_parser_expr.specs.private.Primaries.{atom_at};
+ghost use Rattle.minijinja_parser_expr.specs.private.Primaries as primaries;
 ghost use Rattle.minijinja_parser_tokens.specs.internal.Reads.{Reads};
 
 use crate::atoms;
@@ -81,28 +80,16 @@ impl<'s, 'c, V: TemplateValue> ExprBuilder for TreeExprs<'s, 'c, V> {
         self.alloc
     }
 
-    #[tactic(auto, unfolding(minijinja_grammar::specs::internal::Forms::reads, crate::specs::private::Primaries::atom_at))]
-    fn atom(
-        &self,
-        tokens: &mut TokenStream<'s, 'c>,
-        first: Token<'s>,
-        from: Span,
-    ) -> Result<Expr<'s, V>, Refusal>
-        ensures { Reads (expr_node V.contents) (atom_at V.functions (tok_of first.entry, from)
-            tokens.old) result tokens.new }
+    #[tactic(auto, using(crate::proofs::Primaries::atom_is))]
+    fn atom(&self, tokens: &mut TokenStream<'s, 'c>) -> Result<Expr<'s, V>, Refusal>
+        ensures { Reads (expr_node V.contents) (reads (primaries.atom V.functions) tokens.old) result
+            tokens.new }
     {
-        let alloc = self.alloc;
-        match first {
-            Token::Ident(name) => Ok(atoms::word(alloc, name, from)?),
-            Token::Str(plain) => atoms::text(alloc, tokens, plain, from),
-            Token::String(decoded) => atoms::joined_text(alloc, tokens, decoded, from),
-            Token::Int(value) => Ok(nodes::constant(alloc, V::of_u64(value), from)?),
-            Token::Int128(value) => {
-                let value = V::of_u128(alloc, *value)?;
-                Ok(nodes::constant(alloc, value, from)?)
-            }
-            _ => Err(Refusal::Wrong(Wanted::Part(Expected::Expression))),
+        if let Some(name) = tokens.ident_in_view() {
+            let from = tokens.skip(Wanted::Part(Expected::Expression))?;
+            return Ok(atoms::word(self.alloc, name, from)?);
         }
+        atoms::literal(self.alloc, tokens)
     }
 
     #[tactic(auto, using(crate::proofs::Members::name_member, crate::proofs::Members::int_member, crate::proofs::Members::large_member, crate::proofs::Members::short_member, crate::proofs::Members::wrong_member, crate::proofs::Members::no_member))]

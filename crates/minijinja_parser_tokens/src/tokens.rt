@@ -18,7 +18,7 @@ ghost use Rattle.minijinja_grammar.specs.Words.{is};
 ghost use Rattle.minijinja_parser_tokens.specs.internal.Forms.{new_ident_and_span};
 ghost use Rattle.minijinja_parser_tokens.specs.internal.Levels.{compare_op_at, next_compare, next_operator};
 ghost use Rattle.minijinja_parser_tokens.specs.internal.Marks.{begins, keyword_view, mark_tok};
-ghost use Rattle.minijinja_parser_tokens.specs.internal.Reads.{Misfits, Reads, eaten, next_ident, skipped};
+ghost use Rattle.minijinja_parser_tokens.specs.internal.Reads.{Misfits, Reads, eaten, next_ident, next_int, next_str, skipped};
 ghost use Rattle.minijinja_parser_tokens.specs.TokenStreams.{stream_at};
 ghost use Rattle.minijinja_grammar.specs.internal.StmtForms.{keyword_and_span};
 
@@ -103,10 +103,6 @@ pub trait Tokens {
     /// Takes the operator of a comparison, of one token or two.
     fn compare_operator(&mut self) -> Result<CompareOpKind, Refusal>
         ensures { Reads compare_op (compare_op_at (place self.old)) result (place self.new) };
-
-    /// Whether a token that was taken is this one.
-    fn is(token: &Self::Token, mark: Mark) -> bool
-        ensures { result ≡ is (mark_tok mark) (tok token.now) };
 }
 
 impl<'s, 'c> TokenStream<'s, 'c> {
@@ -131,11 +127,31 @@ impl<'s, 'c> TokenStream<'s, 'c> {
     }
 
     /// The next token, if it is an identifier.
-    fn ident_in_view(&self) -> Option<&'s str>
+    pub fn ident_in_view(&self) -> Option<&'s str>
         ensures { option_map (λ x. x.now) result ≡ next_ident self.now.tokens }
     {
         match &self.current {
             Ok(Some((Token::Ident(name), _))) => Some(name),
+            _ => None,
+        }
+    }
+
+    /// The next token, if it is a string without escapes.
+    pub fn str_in_view(&self) -> Option<&'s str>
+        ensures { option_map (λ x. x.now) result ≡ next_str self.now.tokens }
+    {
+        match &self.current {
+            Ok(Some((Token::Str(text), _))) => Some(text),
+            _ => None,
+        }
+    }
+
+    /// The next token, if it is a number of at most 64 bits.
+    pub fn int_in_view(&self) -> Option<u64>
+        ensures { result ≡ next_int self.now.tokens }
+    {
+        match &self.current {
+            Ok(Some((Token::Int(value), _))) => Some(*value),
             _ => None,
         }
     }
@@ -281,12 +297,6 @@ impl<'s, 'c> Tokens for TokenStream<'s, 'c> {
         }
         self.expect(Mark::In)?;
         Ok(CompareOpKind::NotIn)
-    }
-
-    fn is(token: &Token<'s>, mark: Mark) -> bool
-        ensures { result ≡ is (mark_tok mark) (tok_of token.now) }
-    {
-        is_mark(token, mark)
     }
 }
 

@@ -1,11 +1,9 @@
 //! Primaries: variables, constants, and expressions in brackets, braces or parentheses.
-ghost use Rattle.std.specs.Prelude.{[], map};
-ghost use Rattle.minijinja_grammar.specs.internal.Forms.{reads};
+ghost use Rattle.std.specs.Prelude.{◌≡◌, ◌<◌, ◌-◌, [], map};
 ghost use Rattle.minijinja_grammar.specs.internal.ExprForms as form;
 ghost use Rattle.minijinja_grammar.specs.internal.ExprForms.{expr_at};
 ghost use Rattle.minijinja_parser_expr.specs.private.Nests.{Nests, Parses};
-ghost use Rattle.minijinja_parser_tokens.specs.internal.Reads.{Reads};
-ghost use Rattle.minijinja_parser_expr.specs.private.Primaries.{begun_at, primary_at};
+ghost use Rattle.minijinja_parser_expr.specs.private.Primaries.{primary_at};
 
 use crate::builder::{ExprBuilder, Node};
 use crate::rules::{ExprRules, Nest};
@@ -39,38 +37,33 @@ impl<
         if self.depth == 0 {
             return Err(tokens.misfit(Wanted::Flatter));
         }
-        let (token, from) = tokens.take(Wanted::Part(Expected::Expression))?;
-        let inner = ExprRules {
+        if tokens.at(Mark::ParenOpen) {
+            let from = tokens.skip(Wanted::Part(Expected::Expression))?;
+            return self.within().group(tokens, from);
+        }
+        if tokens.at(Mark::BracketOpen) {
+            let from = tokens.skip(Wanted::Part(Expected::Expression))?;
+            return self.within().list(tokens, from);
+        }
+        if tokens.at(Mark::BraceOpen) {
+            let from = tokens.skip(Wanted::Part(Expected::Expression))?;
+            return self.within().map(tokens, from);
+        }
+        self.builder.atom(tokens)
+    }
+
+    /// The rules of what stands in a primary.
+    fn within(&self) -> Self
+        requires { 0 < self.now.depth }
+        ensures builder { result.builder ≡ self.now.builder }
+        ensures depth { result.depth ≡ self.now.depth - 1 }
+        ensures parser { result.parser ≡ self.now.parser }
+    {
+        ExprRules {
             builder: self.builder,
             depth: self.depth - 1,
             parser: self.parser,
-        };
-        inner.begun(tokens, token, from)
-    }
-
-    /// Reads the rest of a primary that begins with the token.
-    #[tactic(auto, unfolding(minijinja_grammar::specs::internal::Forms::reads))]
-    fn begun(
-        &self,
-        tokens: &mut N::Input,
-        token: <N::Input as Tokens>::Token,
-        from: Span,
-    ) -> Result<N::Expr, Refusal>
-        requires { Nests N.Input.place N.tree N.functions self.now.depth F.pre F.post
-            self.now.parser }
-        ensures { Reads N.tree (begun_at N.functions self.now.depth (N.Input.tok token, from)
-            (N.Input.place tokens.old)) result (N.Input.place tokens.new) }
-    {
-        if <N::Input as Tokens>::is(&token, Mark::ParenOpen) {
-            return self.group(tokens, from);
         }
-        if <N::Input as Tokens>::is(&token, Mark::BracketOpen) {
-            return self.list(tokens, from);
-        }
-        if <N::Input as Tokens>::is(&token, Mark::BraceOpen) {
-            return self.map(tokens, from);
-        }
-        self.builder.atom(tokens, token, from)
     }
 
     /// Reads an expression or a tuple in parentheses, after the opening one.

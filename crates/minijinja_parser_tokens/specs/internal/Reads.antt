@@ -1,9 +1,9 @@
 -- What a function of the parser returns: what reading a form comes to, unless memory is refused.
-use Rattle.std.specs.Prelude.{◌≡◌, List, [], ◌∷◌, Bool, true, false, if◌then◌else◌, Option, Some, None, Result, Ok, Err}
+use Rattle.std.specs.Prelude.{◌≡◌, ℕ, List, [], ◌∷◌, Bool, true, false, if◌then◌else◌, Option, Some, None, Result, Ok, Err}
 use Rattle.std.specs.Option.{option_map}
 use Rattle.minijinja_syntax.specs.Texts.{Text}
 use Rattle.minijinja_syntax.specs.declared.tokens.Span.{Span}
-use Rattle.minijinja_syntax.specs.Tokens.{Tok}
+use Rattle.minijinja_syntax.specs.Tokens.{Tok, int, str}
 use Rattle.minijinja_syntax.specs.Streams.{SpannedTok}
 use Rattle.minijinja_grammar.specs.Words.{is}
 use Rattle.minijinja_grammar.specs.internal.ExprForms.{ident_and_span, next}
@@ -37,3 +37,21 @@ skipped p = reads (one (λ t. Some t.1)) p
 abbrev pub next_ident : List SpannedTok → Option Text
 next_ident [] = None
 next_ident (t ∷ ts) = option_map (λ x. x.0) (ident_and_span t)
+
+-- the string without escapes that comes next
+abbrev pub next_str : List SpannedTok → Option Text
+next_str [] = None
+next_str (t ∷ ts) = str_of t.0
+  where
+    str_of : Tok → Option Text
+    str_of (str x) = Some x
+    str_of _ = None
+
+-- the number of at most 64 bits that comes next
+abbrev pub next_int : List SpannedTok → Option ℕ
+next_int [] = None
+next_int (t ∷ ts) = int_of t.0
+  where
+    int_of : Tok → Option ℕ
+    int_of (int n) = Some n
+    int_of _ = None
