@@ -18,7 +18,9 @@ pub mod ChainTurns
 pub mod FilterChains
 pub mod Finishing
 pub mod LiteralNodes
+pub mod NoArguments
 pub mod InOrder
+pub mod OperationNodes
 pub mod OperatorCode
 pub mod Outputs
 pub mod Results

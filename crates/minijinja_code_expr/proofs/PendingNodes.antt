@@ -71,7 +71,3 @@ module _ {V K C F : Type 0} (f : Functions C F) (c : V → C) (old : Made C) (wh
 
   pub rest_size : (ws : List (PendingNode V K)) (w : PendingNode V K) (now : Made C) → Rest (reverse (ws ++ w ∷ [])) now → size-Expr V K w.node.now ≤ bound
   rest_size ws w now r = let k = subst (λ l. Rest l now) (reverse-append ws (w ∷ [])) r in k.3
-
-  -- the operand at the end, by itself
-  pub rest_leaf : (ws : List (PendingNode V K)) (e : Expr C) (now next : Made C) (place : ℕ) → is_some (leading e) ≡ false → place ≡ length now.code → Finishes f e place now next → ((later : Made C) → Adds now later (expr f e) → Rest ws later) → Rest ws next
-  rest_leaf ws e now next place h at finishes rest = rest next (finishes now (leaf_ready f e now place h at))

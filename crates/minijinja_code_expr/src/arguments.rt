@@ -88,6 +88,9 @@ pub(crate) fn arguments<'s, V: TemplateValue>(
     ensures marked { OnOk result (margin_of code.new ≡ given_marks V.functions
         (node.args_of V.contents args.now) front (margin_of code.old)) }
 {
+    if args.is_empty() {
+        return Ok(Some(front as u16));
+    }
     let count = positional_arguments(code, args, front)?;
     if load_keywords(code, args)? {
         return spread(code, count, 1);

@@ -1,5 +1,5 @@
 //! Instructions of expressions.
-ghost use Rattle.std.specs.Prelude.{◌≡◌, ◌≤◌, ℕ, OnOk};
+ghost use Rattle.std.specs.Prelude.{◌≡◌, ◌≤◌, ℕ, OnOk, false, is_some};
 ghost use Rattle.minijinja_tree.specs.Callees.{callee};
 ghost use Rattle.minijinja_tree.specs.Erasure.{expr_tree, optional_of, args_of, bin_op};
 ghost use Rattle.minijinja_tree.specs.WellFormed.{IsWhole, IsWholeIfAny, AreArguments, arg_count, most_arguments};
@@ -10,7 +10,7 @@ ghost use Rattle.minijinja_tree.specs.Tree as tree;
 ghost use Rattle.minijinja_semantics.specs.Layout as layout;
 ghost use Rattle.minijinja_semantics.specs.Marks as marks;
 ghost use Rattle.minijinja_code_expr.specs.internal.Calling.{captured};
-ghost use Rattle.minijinja_code_expr.specs.internal.Leading.{Finishes, IsLiteral};
+ghost use Rattle.minijinja_code_expr.specs.internal.Leading.{Finishes, IsLiteral, IsOperation, leading};
 ghost use Rattle.minijinja_code_expr.specs.internal.NodeMarks.{FinishesMarks, begun, call_ending, ending, given_marks};
 ghost use Rattle.minijinja_emitter.specs.internal.AtEmitter.{made_of, margin_of};
 ghost use Rattle.minijinja_emitter.specs.internal.Making.{Adds};
@@ -29,11 +29,30 @@ use minijinja_syntax::tokens::Span;
 use minijinja_tree::ast::{BinOp, Call, CallType, Expr};
 use minijinja_value::value::TemplateValue;
 
-/// Adds the code of an expression. A loop goes down the operands that nodes begin with, so that a
-/// row of operators, attributes, filters or calls takes no more stack than one of them. Before the
-/// leading operand of an if expression stand its test and the reserved place of the test's jump.
+/// Adds the code of an expression.
 #[cycle(expr)]
 pub fn expression<'s, V: TemplateValue>(
+    code: &mut Emitter<'s, V>,
+    expr: &Expr<'s, V>,
+) -> Result<(), OutOfMemory>
+    requires { IsWhole (expr_tree V.contents expr.now) }
+    ensures added { OnOk result (Adds (made_of V.contents code.old) (made_of V.contents code.new)
+        (layout.expr V.functions (expr_tree V.contents expr.now))) }
+    ensures marked { OnOk result (margin_of code.new ≡ marks.expr V.functions
+        (expr_node V.contents expr.now) (margin_of code.old)) }
+{
+    if has_leading_operand(expr) {
+        return nested(code, expr);
+    }
+    leaf(code, expr)
+}
+
+/// Adds the code of an expression that begins with that of an operand. A loop goes down the operands
+/// that nodes begin with, so that a row of operators, attributes, filters or calls takes no more stack
+/// than one of them. Before the leading operand of an if expression stand its test and the reserved
+/// place of the test's jump.
+#[cycle(expr)]
+fn nested<'s, V: TemplateValue>(
     code: &mut Emitter<'s, V>,
     expr: &Expr<'s, V>,
 ) -> Result<(), OutOfMemory>
@@ -61,15 +80,46 @@ pub fn expression<'s, V: TemplateValue>(
         })?;
         part = leading_operand(part);
     }
-    let outer = begin(code, part);
-    let place = code.place();
-    finish(code, part, place, outer)?;
-    code.close(outer);
+    leaf(code, part)?;
     while let Some(last) = pending.pop() {
         finish(code, last.node, last.place, last.outer)?;
         code.close(last.outer);
     }
     Ok(())
+}
+
+/// Adds the code of an expression that does not begin with that of an operand. Most are variables
+/// and constants, which open no span.
+#[cycle(expr)]
+#[inline(always)]
+fn leaf<'s, V: TemplateValue>(
+    code: &mut Emitter<'s, V>,
+    expr: &Expr<'s, V>,
+) -> Result<(), OutOfMemory>
+    requires whole { IsWhole (expr_tree V.contents expr.now) }
+    requires leads { is_some (leading (expr_tree V.contents expr.now)) ≡ false }
+    ensures added { OnOk result (Adds (made_of V.contents code.old) (made_of V.contents code.new)
+        (layout.expr V.functions (expr_tree V.contents expr.now))) }
+    ensures marked { OnOk result (margin_of code.new ≡ marks.expr V.functions
+        (expr_node V.contents expr.now) (margin_of code.old)) }
+{
+    match expr {
+        Expr::Var(variable) => {
+            code.on_line(variable.span());
+            code.add(Instruction::Lookup(variable.node().id))
+        }
+        Expr::Const(constant) => {
+            code.on_line(constant.span());
+            load_constant(code, constant.node())
+        }
+        _ => {
+            let outer = begin(code, expr);
+            let place = code.place();
+            finish(code, expr, place, outer)?;
+            code.close(outer);
+            Ok(())
+        }
+    }
 }
 
 /// Adds what comes after the leading operand of a node, or all of its code if it has none. `outer`
@@ -94,6 +144,48 @@ fn finish<'s, V: TemplateValue>(
         Expr::List(_) => literal(code, node),
         Expr::Tuple(_) => literal(code, node),
         Expr::Map(_) => literal(code, node),
+        Expr::Filter(filter) => {
+            let filter = filter.node();
+            let count = arguments(code, &filter.args, 1)?;
+            apply_filter(code, filter.name, count)
+        }
+        Expr::Test(test) => {
+            let test = test.node();
+            let count = arguments(code, &test.args, 1)?;
+            perform_test(code, test.name, count)
+        }
+        Expr::GetAttr(attribute) => code.add(Instruction::GetAttr(attribute.node().name)),
+        Expr::GetItem(item) => {
+            expression(code, &item.node().subscript_expr)?;
+            code.add(Instruction::GetItem)
+        }
+        Expr::Call(call) => finish_call(code, call.node()),
+        Expr::Slice(_) => finish_operation(code, node, place, outer),
+        Expr::UnaryOp(_) => finish_operation(code, node, place, outer),
+        Expr::BinOp(_) => finish_operation(code, node, place, outer),
+        Expr::Compare(_) => finish_operation(code, node, place, outer),
+        Expr::IfExpr(_) => finish_operation(code, node, place, outer),
+    }
+}
+
+/// Adds what comes after the leading operand of an operation: a slice, an operator, a chain of
+/// comparisons or an if expression. `outer` is the span that was open before it.
+#[cycle(expr)]
+fn finish_operation<'s, V: TemplateValue>(
+    code: &mut Emitter<'s, V>,
+    node: &Expr<'s, V>,
+    place: usize,
+    outer: Span,
+) -> Result<(), OutOfMemory>
+    requires operation { IsOperation (expr_tree V.contents node.now) }
+    requires whole { IsWhole (expr_tree V.contents node.now) }
+    ensures added { OnOk result (Finishes V.functions (expr_tree V.contents node.now) place
+        (made_of V.contents code.old) (made_of V.contents code.new)) }
+    ensures marked { OnOk result (FinishesMarks V.functions (expr_tree V.contents node.now)
+        (expr_node V.contents node.now) place outer (made_of V.contents code.old)
+        (margin_of code.old) (margin_of code.new)) }
+{
+    match node {
         Expr::Slice(slice) => {
             let slice = slice.node();
             optional(code, &slice.start, V::none())?;
@@ -119,22 +211,7 @@ fn finish<'s, V: TemplateValue>(
             end_else(code, end);
             Ok(())
         }
-        Expr::Filter(filter) => {
-            let filter = filter.node();
-            let count = arguments(code, &filter.args, 1)?;
-            apply_filter(code, filter.name, count)
-        }
-        Expr::Test(test) => {
-            let test = test.node();
-            let count = arguments(code, &test.args, 1)?;
-            perform_test(code, test.name, count)
-        }
-        Expr::GetAttr(attribute) => code.add(Instruction::GetAttr(attribute.node().name)),
-        Expr::GetItem(item) => {
-            expression(code, &item.node().subscript_expr)?;
-            code.add(Instruction::GetItem)
-        }
-        Expr::Call(call) => finish_call(code, call.node()),
+        _ => unreachable!(),
     }
 }
 

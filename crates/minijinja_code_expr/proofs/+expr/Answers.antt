@@ -4,7 +4,7 @@ use Rattle.minijinja_tree.specs.Erasure.{bin_op, expr_tree, args_of, optional_of
 use Rattle.minijinja_tree.specs.WellFormed.{IsWhole, AreArguments, arg_count, most_arguments}
 use Rattle.minijinja_tree_expr.specs.declared.ast.Expr.{size-Expr, the_lemmas}
 use Rattle.minijinja_semantics.specs.Pieces.{one}
-use Rattle.minijinja_code_expr.specs.internal.Leading.{IsLiteral, test_in}
+use Rattle.minijinja_code_expr.specs.internal.Leading.{IsLiteral, IsOperation, test_in}
 use Rattle.minijinja_emitter.specs.internal.AtEmitter.{made_of}
 use Rattle.minijinja_code_expr.specs.private.PendingNodes.{pending_of}
 use Rattle.minijinja_tree.specs.SpannedErasure as node
@@ -16,20 +16,23 @@ use Rattle.minijinja_semantics.proofs.Runs.{append_nil}
 use Rattle.minijinja_emitter.specs.internal.AtEmitter.{margin_of}
 use Rattle.minijinja_emitter.specs.internal.Margins.{closed}
 use Rattle.minijinja_emitter.proofs.Counting.{as_many}
-use Rattle.minijinja_code_expr.specs.internal.Leading.{Finishes}
+use Rattle.minijinja_emitter.specs.internal.Making.{Adds}
 use Rattle.minijinja_code_expr.specs.internal.NodeMarks.{finished}
 use Rattle.minijinja_code_expr.proofs.ChainMarking.{ahead_marks, ahead_next, later_comparison}
 use Rattle.minijinja_code_expr.proofs.NodeMarking.{Later, expr_later, later_then, whole_leaf}
 use Rattle.minijinja_code_expr.proofs.PendingMarks.{after, after_more, no_leading, with_one_more, waits_plain, waits_tested}
 use Rattle.minijinja_emitter.proofs.Adding.{adds_as}
+use Rattle.minijinja_tree.specs.Nodes.{node_of}
+use Rattle.minijinja_tree_expr.proofs.SpannedNodes.{compare_is}
 use Rattle.minijinja_code_expr.proofs.Arms.{whole_if_false, compare_arm, attribute_arm, item_arm, whole_slice_start, whole_left, whole_right, whole_key, whole_compare, slice_arm, unary_arm, binary_arm, if_arm, filter_arm, test_arm, call_arm, list_arm, tuple_arm, map_arm, whole_slice_stop, whole_slice_step, whole_filter, whole_test_args, whole_test_few, whole_call_args, whole_call_few}
 use Rattle.minijinja_code_expr.proofs.Finishing.{constant_finishes, variable_finishes, attribute_finishes, item_finishes, block_finishes, finishes_as, slice_finishes, binary_finishes, binary_joined, binary_unjoined, filter_finishes, filter_arguments, test_finishes, function_finishes, method_finishes, object_finishes, leading_whole, test_whole}
-use Rattle.minijinja_code_expr.proofs.PendingNodes.{Begins, begun_none, begun_test, Rest, rest_more, rest_less, rest_whole, rest_size, leaf_ready, rest_leaf, rest_ready}
+use Rattle.minijinja_code_expr.proofs.OperationNodes.{no_operation}
+use Rattle.minijinja_code_expr.proofs.PendingNodes.{Begins, begun_none, begun_test, Rest, rest_more, rest_less, rest_whole, rest_size, leaf_ready, rest_ready}
 use Rattle.minijinja_tree_expr.specs.declared.ast.Compare.{out-Compare}
 use Rattle.minijinja_code_expr.specs.private.Comparing.{places_of}
 use Rattle.minijinja_code_expr.proofs.ChainTurns.{turning_first, turn, turn_held, turn_holds, turn_stops}
 use Rattle.minijinja_code_expr.proofs.ChainEnds.{whole_parts, compare_fails, compare_holds, compare_closes}
-use Rattle.minijinja_code_expr.proofs.+expr.Goals.{expr::expression-in-Some+in_ok-expression-in-Some+in_ok-place-in-Some, expr::expression-in-None, chain::compare-in-Some-true, chain::compare-in-None}
+use Rattle.minijinja_code_expr.proofs.+expr.Goals.{expr::nested-in-Some+in_ok-expression-in-Some+in_ok-place-in-Some, expr::nested-in-None, chain::compare-in-Some-true, chain::compare-in-None}
 use Rattle.minijinja_tree_expr.specs.declared.ast.Call.{the_lemmas as call_lemmas}
 use Rattle.minijinja_tree_expr.specs.declared.ast.BinOp.{the_lemmas as binary_lemmas}
 use Rattle.minijinja_code_expr.proofs.Branching.{if_finishes}
@@ -46,44 +49,95 @@ mod Arguments
 mod Literals
 mod Marked
 
-pub expr::expression-expression-requires : goal.expr::expression-expression-requires
-expr::expression-expression-requires g t c =
+pub expr::nested-expression-requires : goal.expr::nested-expression-requires
+expr::nested-expression-requires g t c =
     let v = g.V.TemplateValue.contents in
     let e = expr_tree v c.loop-code.part.now in
     let is : test_in e ≡ Some (expr_tree v c.in-Some.test.now) = sym c.in-Some.ensures.test in
     let small = c.loop-code.invariant.small in
     λ κs live. (omega (arith, c.in-Some.ensures.smaller, small, c.decreases), (search rules, (search rules, test_whole e (expr_tree v c.in-Some.test.now) is c.loop-code.invariant.whole)))
 
-pub expr::expression-finish-requires : goal.expr::expression-finish-requires
-expr::expression-finish-requires g t c =
-    let small = c.loop-code.invariant.small in
-    λ κs live. (omega (arith, small, c.decreases), (search rules, (search rules, c.loop-code.invariant.whole)))
+pub expr::expression-nested-requires : goal.expr::expression-nested-requires
+expr::expression-nested-requires g t c = λ κs live. (omega (arith, c.decreases), (search rules, (search rules, c.requires)))
 
-pub expr::expression-finish-requires-in-Some-pop : goal.expr::expression-finish-requires-in-Some-pop
-expr::expression-finish-requires-in-Some-pop g t c =
+pub expr::expression-leaf-requires : goal.expr::expression-leaf-requires
+expr::expression-leaf-requires g t c =
+    λ κs live. (omega (arith, c.decreases), (search rules, (search rules, (c.requires, sym c.has_leading_operand.ensures ∙ c.if-has_leading_operand.false))))
+
+pub expr::nested-leaf-requires : goal.expr::nested-leaf-requires
+expr::nested-leaf-requires g t c =
+    let small = c.loop-code.invariant.small in
+    λ κs live. (omega (arith, small, c.decreases), (search rules, (search rules, (c.loop-code.invariant.whole, sym c.has_leading_operand.ensures ∙ c.loop-code-test.false))))
+
+pub expr::leaf-finish-requires : goal.expr::leaf-finish-requires
+expr::leaf-finish-requires g t c = λ κs live. (omega (arith, c.decreases), (search rules, (search rules, c.requires.whole)))
+
+pub expr::leaf-returns-in-Var-clause-added : goal.expr::leaf-returns-in-Var-clause-added
+expr::leaf-returns-in-Var-clause-added g t c =
+    let v = g.V.TemplateValue.contents in
+    let f = g.V.TemplateValue.functions in
+    let is : expr_tree v c.args.expr.now ≡ tree.variable c.node.result.now.id.now = rw (c.in-Var.is, c.node.ensures) refl in
+    ok_gives c.add.result (λ s. adds_as (sym (ap (layout.expr f) is)) (subst (λ m. Adds m (made_of v c.add.new.self) (one (code.Do event.Lookup c.node.result.now.id.now 0))) c.on_line.ensures.made s)) c.add.ensures.added
+
+pub expr::leaf-returns-in-Const-clause-added : goal.expr::leaf-returns-in-Const-clause-added
+expr::leaf-returns-in-Const-clause-added g t c =
+    let v = g.V.TemplateValue.contents in
+    let f = g.V.TemplateValue.functions in
+    let n = c.node-in-Const.result.now in
+    let is : expr_tree v c.args.expr.now ≡ tree.constant (v n.value) = rw (c.in-Const.is, c.node-in-Const.ensures) refl in
+    ok_gives c.load_constant.result (λ s. adds_as (sym (ap (layout.expr f) is)) (subst (λ m. Adds m (made_of v c.load_constant.new.code) (one (code.Load (v n.value)))) c.on_line-in-Const.ensures.made s)) c.load_constant.ensures.added
+
+pub expr::leaf-returns-in_ok-finish-in_default-clause-added : goal.expr::leaf-returns-in_ok-finish-in_default-clause-added
+expr::leaf-returns-in_ok-finish-in_default-clause-added g t c =
+    let v = g.V.TemplateValue.contents in
+    let f = g.V.TemplateValue.functions in
+    let e = expr_tree v c.args.expr.now in
+    let from = made_of v c.begin-outer.new.code in
+    let added = c.in_ok-finish-in_default.ensures.added from (leaf_ready f e from c.place-place.result c.requires.leads c.place-place.ensures) in
+    subst (λ m. Adds (made_of v c.args.code.now) m (layout.expr f e)) (sym c.close.ensures.made) (subst (λ m. Adds m (made_of v c.finish.new.code) (layout.expr f e)) c.begin-outer.ensures.made added)
+
+pub expr::leaf-returns-in-Var-clause-marked : goal.expr::leaf-returns-in-Var-clause-marked
+expr::leaf-returns-in-Var-clause-marked = marked.expr::leaf-returns-in-Var-clause-marked
+
+pub expr::leaf-returns-in-Const-clause-marked : goal.expr::leaf-returns-in-Const-clause-marked
+expr::leaf-returns-in-Const-clause-marked = marked.expr::leaf-returns-in-Const-clause-marked
+
+pub expr::leaf-returns-in_ok-finish-in_default-clause-marked : goal.expr::leaf-returns-in_ok-finish-in_default-clause-marked
+expr::leaf-returns-in_ok-finish-in_default-clause-marked g t c =
+    let v = g.V.TemplateValue.contents in
+    let f = g.V.TemplateValue.functions in
+    let e = expr_tree v c.args.expr.now in
+    let node = expr_node v c.args.expr.now in
+    let from = made_of v c.begin-outer.new.code in
+    c.close.ensures.marked ∙ c.in_ok-finish-in_default.ensures.marked from (leaf_ready f e from c.place-place.result c.requires.leads c.place-place.ensures)
+    ∙ ap₂ (λ o u. finished f node c.place-place.result o u) c.begin-outer.ensures.outer c.begin-outer.ensures.marked
+    ∙ whole_leaf f node (margin_of c.args.code.now) c.place-place.result (no_leading v c.args.expr.now c.requires.leads)
+
+pub expr::nested-finish-requires : goal.expr::nested-finish-requires
+expr::nested-finish-requires g t c =
     let v = g.V.TemplateValue.contents in
     let f = g.V.TemplateValue.functions in
     let r = subst (λ l. Rest f v (made_of v c.args.code.now) (expr_tree v c.args.expr.now) (size-Expr g.row.V.Denot g.row.V-Fault.Denot c.args.expr.now) (reverse l) (made_of v c.loop-last.code)) c.in-Some-pop.ensures.last c.loop-last.invariant.rest in
     let n = rest_size f v (made_of v c.args.code.now) (expr_tree v c.args.expr.now) _ (pending_of c.pop.new.self) c.in-Some-pop.last (made_of v c.loop-last.code) r in
     λ κs live. (omega (arith, n, c.decreases), (search rules, (search rules, rest_whole f v (made_of v c.args.code.now) (expr_tree v c.args.expr.now) _ (pending_of c.pop.new.self) c.in-Some-pop.last (made_of v c.loop-last.code) r)))
 
-pub expr::expression-loop-code-preserved : goal.expr::expression-loop-code-preserved
-expr::expression-loop-code-preserved g t c =
+pub expr::nested-loop-code-preserved : goal.expr::nested-loop-code-preserved
+expr::nested-loop-code-preserved g t c =
     let v = g.V.TemplateValue.contents in
     let f = g.V.TemplateValue.functions in
     let e = expr_tree v c.loop-code.part.now in
     let leads = c.leading_operand-part.ensures.operand in
     let held : Begins f e c.match-test_of.place (made_of v c.begin-outer.new.code) (made_of v c.match-test_of.code) = elim c.match-test_of.branch [
-      | expr::expression-in-Some+in_ok-expression-in-Some+in_ok-place-in-Some w ↦ rw (w.code-is, w.place-is) (begun_test f e (expr_tree v w.in-Some.test.now) (sym w.in-Some.ensures.test) w.in_ok-expression-in-Some.ensures.added w.in_ok-place-in-Some.ensures.place w.in_ok-place-in-Some.ensures.added)
-      | expr::expression-in-None w ↦ rw (w.code-is, w.place-is) (begun_none f e (sym w.in-None.ensures.test) w.place-place.ensures)
+      | expr::nested-in-Some+in_ok-expression-in-Some+in_ok-place-in-Some w ↦ rw (w.code-is, w.place-is) (begun_test f e (expr_tree v w.in-Some.test.now) (sym w.in-Some.ensures.test) w.in_ok-expression-in-Some.ensures.added w.in_ok-place-in-Some.ensures.place w.in_ok-place-in-Some.ensures.added)
+      | expr::nested-in-None w ↦ rw (w.code-is, w.place-is) (begun_none f e (sym w.in-None.ensures.test) w.place-place.ensures)
     ] in
     let begun = subst (λ m. Begins f e c.match-test_of.place m (made_of v c.match-test_of.code)) c.begin-outer.ensures.made held in
     let t = margin_of c.loop-code.code in
     let left : with_one_more f v (pending_of c.loop-code.pending) c.loop-code.part c.match-test_of.place c.begin-outer.result (marks.expr f (expr_node v c.leading_operand-part.result.now) (margin_of c.match-test_of.code)) ≡ marks.expr f (expr_node v c.args.expr.now) (margin_of c.args.code.now) = elim c.match-test_of.branch [
-      | expr::expression-in-Some+in_ok-expression-in-Some+in_ok-place-in-Some w ↦ rw (w.code-is, w.place-is)
+      | expr::nested-in-Some+in_ok-expression-in-Some+in_ok-place-in-Some w ↦ rw (w.code-is, w.place-is)
           (waits_tested f v (pending_of c.loop-code.pending) (record { node = c.loop-code.part; place = w.in_ok-place-in-Some.place; outer = c.begin-outer.result }) c.leading_operand-part.result.now t (margin_of w.reserve.new.self) _ w.in-Some.test.now (sym w.in-Some.ensures.node) c.leading_operand-part.ensures.node c.begin-outer.ensures.outer
           (w.in_ok-place-in-Some.ensures.marked ∙ ap (here 1) (w.in_ok-expression-in-Some.ensures.marked ∙ ap (marks.expr f (expr_node v w.in-Some.test.now)) c.begin-outer.ensures.marked)) c.loop-code.invariant.marks)
-      | expr::expression-in-None w ↦ rw (w.code-is, w.place-is)
+      | expr::nested-in-None w ↦ rw (w.code-is, w.place-is)
           (waits_plain f v (pending_of c.loop-code.pending) (record { node = c.loop-code.part; place = w.place-place.result; outer = c.begin-outer.result }) c.leading_operand-part.result.now t (margin_of c.begin-outer.new.code) _ (sym w.in-None.ensures.node) c.leading_operand-part.ensures.node
           (w.place-place.ensures ∙ ap (λ m. length m.code) c.begin-outer.ensures.made ∙ sym (as_many v c.loop-code.code)) c.begin-outer.ensures.outer c.begin-outer.ensures.marked c.loop-code.invariant.marks)
     ] in
@@ -95,29 +149,17 @@ expr::expression-loop-code-preserved g t c =
           (rest_more f v (made_of v c.args.code.now) (expr_tree v c.args.expr.now) _ (pending_of c.loop-code.pending) (record { node = c.loop-code.part; place = c.match-test_of.place; outer = c.begin-outer.result }) (expr_tree v c.leading_operand-part.result.now) (made_of v c.loop-code.code) (made_of v c.match-test_of.code) begun leads c.loop-code.invariant.whole c.loop-code.invariant.small c.loop-code.invariant.rest later s);
     }
 
-pub expr::expression-loop-last-init : goal.expr::expression-loop-last-init
-expr::expression-loop-last-init g t c =
+pub expr::nested-loop-last-init : goal.expr::nested-loop-last-init
+expr::nested-loop-last-init g t c =
     let v = g.V.TemplateValue.contents in
     let f = g.V.TemplateValue.functions in
-    let e = expr_tree v c.loop-code.part.now in
-    let leaf = sym c.has_leading_operand.ensures ∙ c.loop-code-test.false in
-    let from = made_of v c.begin-outer-2.new.code in
-    let at = c.place-place-2.ensures in
-    let begun = c.begin-outer-2.ensures in
-    let rest = rest_leaf f v (made_of v c.args.code.now) (expr_tree v c.args.expr.now) _ (reverse (pending_of c.loop-code.pending)) e (made_of v c.loop-code.code) (made_of v c.finish.new.code) c.place-place-2.result leaf
-    (at ∙ ap (λ m. length m.code) begun.made) (subst (λ m. Finishes f e c.place-place-2.result m (made_of v c.finish.new.code)) begun.made c.in_ok-finish.ensures.added) c.loop-code.invariant.rest in
-    let node = expr_node v c.loop-code.part.now in
     record {
-      rest = subst (Rest f v (made_of v c.args.code.now) (expr_tree v c.args.expr.now) _ (reverse (pending_of c.loop-code.pending))) (sym c.close.ensures.made) rest;
-      marks = ap (after f v (reverse (pending_of c.loop-code.pending)))
-          (c.close.ensures.marked ∙ c.in_ok-finish.ensures.marked from (leaf_ready f e from c.place-place-2.result leaf at)
-          ∙ ap₂ (λ o u. finished f node c.place-place-2.result o u) begun.outer begun.marked
-          ∙ whole_leaf f node (margin_of c.loop-code.code) c.place-place-2.result (no_leading v c.loop-code.part.now leaf))
-          ∙ c.loop-code.invariant.marks;
+      rest = c.loop-code.invariant.rest (made_of v c.leaf.new.code) c.in_ok-leaf.ensures.added;
+      marks = ap (after f v (reverse (pending_of c.loop-code.pending))) c.in_ok-leaf.ensures.marked ∙ c.loop-code.invariant.marks;
     }
 
-pub expr::expression-loop-last-preserved : goal.expr::expression-loop-last-preserved
-expr::expression-loop-last-preserved g t c =
+pub expr::nested-loop-last-preserved : goal.expr::nested-loop-last-preserved
+expr::nested-loop-last-preserved g t c =
     let v = g.V.TemplateValue.contents in
     let f = g.V.TemplateValue.functions in
     let w = c.in-Some-pop.last in
@@ -126,48 +168,48 @@ expr::expression-loop-last-preserved g t c =
     let now = made_of v c.loop-last.code in
     let before = subst (λ l. Rest f v (made_of v c.args.code.now) (expr_tree v c.args.expr.now) n (reverse l) now) c.in-Some-pop.ensures.last c.loop-last.invariant.rest in
     let ready = rest_ready f v (made_of v c.args.code.now) (expr_tree v c.args.expr.now) n ws w now before in
-    let rest = rest_less f v (made_of v c.args.code.now) (expr_tree v c.args.expr.now) n ws w now (made_of v c.finish-in-Some-pop.new.code) c.in_ok-finish-2.ensures.added before in
+    let rest = rest_less f v (made_of v c.args.code.now) (expr_tree v c.args.expr.now) n ws w now (made_of v c.finish.new.code) c.in_ok-finish.ensures.added before in
     record {
-      rest = subst (Rest f v (made_of v c.args.code.now) (expr_tree v c.args.expr.now) n (reverse ws)) (sym c.close-in-Some-pop.ensures.made) rest;
-      marks = ap (after f v (reverse ws)) (c.close-in-Some-pop.ensures.marked ∙ c.in_ok-finish-2.ensures.marked ready.0 ready.1)
+      rest = subst (Rest f v (made_of v c.args.code.now) (expr_tree v c.args.expr.now) n (reverse ws)) (sym c.close.ensures.made) rest;
+      marks = ap (after f v (reverse ws)) (c.close.ensures.marked ∙ c.in_ok-finish.ensures.marked ready.0 ready.1)
           ∙ sym (after_more f v ws w (margin_of c.loop-last.code))
           ∙ ap (λ l. after f v (reverse l) (margin_of c.loop-last.code)) (sym c.in-Some-pop.ensures.last)
           ∙ c.loop-last.invariant.marks;
     }
 
-pub expr::finish-optional-requires : goal.expr::finish-optional-requires
-expr::finish-optional-requires g t c =
+pub expr::finish_operation-optional-requires : goal.expr::finish_operation-optional-requires
+expr::finish_operation-optional-requires g t c =
     let v = g.V.TemplateValue.contents in
-    λ κs live. (search (rules, the_lemmas), (search rules, (search rules, whole_slice_start v c.args.node.now c.in-Slice.slice c.node-slice.result.now c.in-Slice.is c.node-slice.ensures c.requires)))
+    λ κs live. (search (rules, the_lemmas), (search rules, (search rules, whole_slice_start v c.args.node.now c.in-Slice.slice c.node-slice.result.now c.in-Slice.is c.node-slice.ensures c.requires.whole)))
 
-pub expr::finish-optional-requires-in-Slice : goal.expr::finish-optional-requires-in-Slice
-expr::finish-optional-requires-in-Slice g t c =
+pub expr::finish_operation-optional-requires-in-Slice : goal.expr::finish_operation-optional-requires-in-Slice
+expr::finish_operation-optional-requires-in-Slice g t c =
     let v = g.V.TemplateValue.contents in
-    λ κs live. (search (rules, the_lemmas), (search rules, (search rules, whole_slice_stop v c.args.node.now c.in-Slice.slice c.node-slice.result.now c.in-Slice.is c.node-slice.ensures c.requires)))
+    λ κs live. (search (rules, the_lemmas), (search rules, (search rules, whole_slice_stop v c.args.node.now c.in-Slice.slice c.node-slice.result.now c.in-Slice.is c.node-slice.ensures c.requires.whole)))
 
-pub expr::finish-optional-requires-in-Slice-2 : goal.expr::finish-optional-requires-in-Slice-2
-expr::finish-optional-requires-in-Slice-2 g t c =
+pub expr::finish_operation-optional-requires-in-Slice-2 : goal.expr::finish_operation-optional-requires-in-Slice-2
+expr::finish_operation-optional-requires-in-Slice-2 g t c =
     let v = g.V.TemplateValue.contents in
-    λ κs live. (search (rules, the_lemmas), (search rules, (search rules, whole_slice_step v c.args.node.now c.in-Slice.slice c.node-slice.result.now c.in-Slice.is c.node-slice.ensures c.requires)))
+    λ κs live. (search (rules, the_lemmas), (search rules, (search rules, whole_slice_step v c.args.node.now c.in-Slice.slice c.node-slice.result.now c.in-Slice.is c.node-slice.ensures c.requires.whole)))
 
-pub expr::finish-returns-in_ok-optional-in-Slice-3-clause-added : goal.expr::finish-returns-in_ok-optional-in-Slice-3-clause-added
-expr::finish-returns-in_ok-optional-in-Slice-3-clause-added g t c =
+pub expr::finish_operation-returns-in_ok-optional-in-Slice-3-clause-added : goal.expr::finish_operation-returns-in_ok-optional-in-Slice-3-clause-added
+expr::finish_operation-returns-in_ok-optional-in-Slice-3-clause-added g t c =
     let v = g.V.TemplateValue.contents in
     let f = g.V.TemplateValue.functions in
     let n = c.node-slice.result.now in
-    ok_gives c.add-in-Slice.result (λ s. finishes_as f c.args.place (made_of v c.args.code.now) (made_of v c.add-in-Slice.new.self) (slice_arm v c.args.node.now c.in-Slice.slice n c.in-Slice.is c.node-slice.ensures)
+    ok_gives c.add.result (λ s. finishes_as f c.args.place (made_of v c.args.code.now) (made_of v c.add.new.self) (slice_arm v c.args.node.now c.in-Slice.slice n c.in-Slice.is c.node-slice.ensures)
     (slice_finishes f (expr_tree v n.expr) (optional_of v n.start) (optional_of v n.stop) (optional_of v n.step)
     (adds_as (ap (λ d. layout.optional f d (optional_of v n.start)) c.none.ensures) c.in_ok-optional-in-Slice.ensures.added)
     (adds_as (ap (λ d. layout.optional f d (optional_of v n.stop)) c.none-in-Slice.ensures) c.in_ok-optional-in-Slice-2.ensures.added)
-    (adds_as (ap (λ d. layout.optional f d (optional_of v n.step)) c.none-in-Slice-2.ensures) c.in_ok-optional-in-Slice-3.ensures.added) s)) c.add-in-Slice.ensures.added
+    (adds_as (ap (λ d. layout.optional f d (optional_of v n.step)) c.none-in-Slice-2.ensures) c.in_ok-optional-in-Slice-3.ensures.added) s)) c.add.ensures.added
 
-pub expr::finish-optional-requires-in-IfExpr : goal.expr::finish-optional-requires-in-IfExpr
-expr::finish-optional-requires-in-IfExpr g t c =
+pub expr::finish_operation-optional-requires-in-IfExpr : goal.expr::finish_operation-optional-requires-in-IfExpr
+expr::finish_operation-optional-requires-in-IfExpr g t c =
     let v = g.V.TemplateValue.contents in
-    λ κs live. (search (rules, the_lemmas), (search rules, (search rules, whole_if_false v c.args.node.now c.in-IfExpr.choice c.node-in-IfExpr.result.now c.in-IfExpr.is c.node-in-IfExpr.ensures c.requires)))
+    λ κs live. (search (rules, the_lemmas), (search rules, (search rules, whole_if_false v c.args.node.now c.in-IfExpr.choice c.node-in-IfExpr.result.now c.in-IfExpr.is c.node-in-IfExpr.ensures c.requires.whole)))
 
-pub expr::finish-returns-in_ok-optional-in-IfExpr-clause-added : goal.expr::finish-returns-in_ok-optional-in-IfExpr-clause-added
-expr::finish-returns-in_ok-optional-in-IfExpr-clause-added g t c =
+pub expr::finish_operation-returns-in_ok-optional-in-IfExpr-clause-added : goal.expr::finish_operation-returns-in_ok-optional-in-IfExpr-clause-added
+expr::finish_operation-returns-in_ok-optional-in-IfExpr-clause-added g t c =
     let v = g.V.TemplateValue.contents in
     let f = g.V.TemplateValue.functions in
     let n = c.node-in-IfExpr.result.now in
@@ -191,13 +233,13 @@ expr::finish_binary-returns-then-joined-clause-added g t c =
     let n = c.args.operation.now in
     binary_joined f (bin_op n.op) (expr_tree v n.left) (expr_tree v n.right) c.in_ok-joined.joined c.if-joined.true c.requires.left c.in_ok-joined.ensures.added
 
-pub expr::finish-returns-in-UnaryOp-clause-added : goal.expr::finish-returns-in-UnaryOp-clause-added
-expr::finish-returns-in-UnaryOp-clause-added g t c =
+pub expr::finish_operation-returns-in-UnaryOp-clause-added : goal.expr::finish_operation-returns-in-UnaryOp-clause-added
+expr::finish_operation-returns-in-UnaryOp-clause-added g t c =
     let v = g.V.TemplateValue.contents in
     let f = g.V.TemplateValue.functions in
-    let n = c.node-in-UnaryOp.result.now in
-    let is = unary_arm v c.args.node.now c.in-UnaryOp.operation n c.in-UnaryOp.is c.node-in-UnaryOp.ensures in
-    ok_gives c.end_unary.result (λ ends. finishes_as f c.args.place (made_of v c.args.code.now) (made_of v c.end_unary.new.code) is (ends (expr_tree v n.expr) (subst IsWhole is c.requires))) c.end_unary.ensures.added
+    let n = c.node.result.now in
+    let is = unary_arm v c.args.node.now c.in-UnaryOp.operation n c.in-UnaryOp.is c.node.ensures in
+    ok_gives c.end_unary.result (λ ends. finishes_as f c.args.place (made_of v c.args.code.now) (made_of v c.end_unary.new.code) is (ends (expr_tree v n.expr) (subst IsWhole is c.requires.whole))) c.end_unary.ensures.added
 
 pub expr::finish-returns-in_ok-count-in-Filter-clause-added : goal.expr::finish-returns-in_ok-count-in-Filter-clause-added
 expr::finish-returns-in_ok-count-in-Filter-clause-added g t c =
@@ -246,6 +288,34 @@ expr::finish_call-returns-in_ok-count-in-Object-clause-added g t c =
     ok_gives c.add-in-Object.result (λ s place. finishes_as f place (made_of v c.args.code.now) (made_of v c.add-in-Object.new.self) (ap (λ xs. tree.call e (args_of v xs)) (sym c.deref-in-Object.ensures.value))
     (object_finishes f e args (expr_tree v c.in-Object.field-0.now) (sym c.in-Object.ensures.callee) c.in_ok-count-in-Object.ensures.added
     (adds_as (ap (λ m. one (code.Call event.CallObject [] m)) c.in_ok-count-in-Object.ensures.count) s))) c.add-in-Object.ensures.added
+
+pub expr::finish-finish_operation-requires : goal.expr::finish-finish_operation-requires
+expr::finish-finish_operation-requires g t c =
+    let is = slice_arm g.V.TemplateValue.contents c.args.node.now c.in-Slice.field-0 _ c.in-Slice.is refl in
+    λ κs live. (omega (arith, c.decreases), (search rules, (search rules, (subst IsOperation (sym is) tt, c.requires))))
+
+pub expr::finish-finish_operation-requires-in-UnaryOp : goal.expr::finish-finish_operation-requires-in-UnaryOp
+expr::finish-finish_operation-requires-in-UnaryOp g t c =
+    let is = unary_arm g.V.TemplateValue.contents c.args.node.now c.in-UnaryOp.field-0 _ c.in-UnaryOp.is refl in
+    λ κs live. (omega (arith, c.decreases), (search rules, (search rules, (subst IsOperation (sym is) tt, c.requires))))
+
+pub expr::finish-finish_operation-requires-in-BinOp : goal.expr::finish-finish_operation-requires-in-BinOp
+expr::finish-finish_operation-requires-in-BinOp g t c =
+    let is = binary_arm g.V.TemplateValue.contents c.args.node.now c.in-BinOp.field-0 _ c.in-BinOp.is refl in
+    λ κs live. (omega (arith, c.decreases), (search rules, (search rules, (subst IsOperation (sym is) tt, c.requires))))
+
+pub expr::finish-finish_operation-requires-in-Compare : goal.expr::finish-finish_operation-requires-in-Compare
+expr::finish-finish_operation-requires-in-Compare g t c =
+    let is = compare_arm g.V.TemplateValue.contents c.args.node.now c.in-Compare.field-0 (node_of c.in-Compare.field-0) c.in-Compare.is refl ∙ compare_is g.V.TemplateValue.contents (node_of c.in-Compare.field-0) in
+    λ κs live. (omega (arith, c.decreases), (search rules, (search rules, (subst IsOperation (sym is) tt, c.requires))))
+
+pub expr::finish-finish_operation-requires-in-IfExpr : goal.expr::finish-finish_operation-requires-in-IfExpr
+expr::finish-finish_operation-requires-in-IfExpr g t c =
+    let is = if_arm g.V.TemplateValue.contents c.args.node.now c.in-IfExpr.field-0 _ c.in-IfExpr.is refl in
+    λ κs live. (omega (arith, c.decreases), (search rules, (search rules, (subst IsOperation (sym is) tt, c.requires))))
+
+pub expr::finish_operation-unreachable-requires : goal.expr::finish_operation-unreachable-requires
+expr::finish_operation-unreachable-requires g t c = no_operation g.V.TemplateValue.contents c.args.node.now c.in_default.not-Slice c.in_default.not-UnaryOp c.in_default.not-BinOp c.in_default.not-Compare c.in_default.not-IfExpr c.requires.operation
 
 pub expr::finish-literal-requires : goal.expr::finish-literal-requires
 expr::finish-literal-requires g t c =
@@ -396,6 +466,15 @@ arguments::arguments-spread-requires-clause-batches = of_arguments.arguments::ar
 pub arguments::arguments-spread-requires-clause-waiting : goal.arguments::arguments-spread-requires-clause-waiting
 arguments::arguments-spread-requires-clause-waiting = of_arguments.arguments::arguments-spread-requires-clause-waiting
 
+pub arguments::arguments-returns-then-is_empty-clause-count : goal.arguments::arguments-returns-then-is_empty-clause-count
+arguments::arguments-returns-then-is_empty-clause-count = of_arguments.arguments::arguments-returns-then-is_empty-clause-count
+
+pub arguments::arguments-returns-then-is_empty-clause-added : goal.arguments::arguments-returns-then-is_empty-clause-added
+arguments::arguments-returns-then-is_empty-clause-added = of_arguments.arguments::arguments-returns-then-is_empty-clause-added
+
+pub arguments::arguments-returns-then-is_empty-clause-marked : goal.arguments::arguments-returns-then-is_empty-clause-marked
+arguments::arguments-returns-then-is_empty-clause-marked = of_arguments.arguments::arguments-returns-then-is_empty-clause-marked
+
 pub arguments::arguments-returns-then-branch-clause-count : goal.arguments::arguments-returns-then-branch-clause-count
 arguments::arguments-returns-then-branch-clause-count = of_arguments.arguments::arguments-returns-then-branch-clause-count
 
@@ -506,15 +585,15 @@ expr::finish_call-arguments-requires-in-Object g t c =
     let v = g.V.TemplateValue.contents in
     λ κs live. (search (rules, call_lemmas), (search rules, (search rules, (subst (λ xs. AreArguments (args_of v xs)) (sym c.deref-in-Object.ensures.value) c.requires.whole, (subst (λ xs. arg_count (args_of v xs) ≤ most_arguments) (sym c.deref-in-Object.ensures.value) c.requires.few, omega arith)))))
 
-pub expr::finish-finish_binary-requires : goal.expr::finish-finish_binary-requires
-expr::finish-finish_binary-requires g t c =
+pub expr::finish_operation-finish_binary-requires : goal.expr::finish_operation-finish_binary-requires
+expr::finish_operation-finish_binary-requires g t c =
     let v = g.V.TemplateValue.contents in
     let e = c.args.node.now in
     let n = c.node-in-BinOp.result.now in
-    λ κs live. (search (rules, the_lemmas), (search rules, (search rules, (whole_left v e c.in-BinOp.operation n c.in-BinOp.is c.node-in-BinOp.ensures c.requires, whole_right v e c.in-BinOp.operation n c.in-BinOp.is c.node-in-BinOp.ensures c.requires))))
+    λ κs live. (search (rules, the_lemmas), (search rules, (search rules, (whole_left v e c.in-BinOp.operation n c.in-BinOp.is c.node-in-BinOp.ensures c.requires.whole, whole_right v e c.in-BinOp.operation n c.in-BinOp.is c.node-in-BinOp.ensures c.requires.whole))))
 
-pub expr::finish-returns-in-BinOp-clause-added : goal.expr::finish-returns-in-BinOp-clause-added
-expr::finish-returns-in-BinOp-clause-added g t c =
+pub expr::finish_operation-returns-in-BinOp-clause-added : goal.expr::finish_operation-returns-in-BinOp-clause-added
+expr::finish_operation-returns-in-BinOp-clause-added g t c =
     let v = g.V.TemplateValue.contents in
     ok_gives c.finish_binary.result (finishes_as g.V.TemplateValue.functions c.args.place (made_of v c.args.code.now) (made_of v c.finish_binary.new.code) (binary_arm v c.args.node.now c.in-BinOp.operation c.node-in-BinOp.result.now c.in-BinOp.is c.node-in-BinOp.ensures)) c.finish_binary.ensures.added
 
@@ -527,13 +606,13 @@ expr::finish-expression-requires g t c =
     let v = g.V.TemplateValue.contents in
     λ κs live. (search (rules, the_lemmas), (search rules, (search rules, whole_key v c.args.node.now c.in-GetItem.item c.node-in-GetItem.result.now c.in-GetItem.is c.node-in-GetItem.ensures c.requires)))
 
-pub expr::finish-compare-requires : goal.expr::finish-compare-requires
-expr::finish-compare-requires g t c =
+pub expr::finish_operation-compare-requires : goal.expr::finish_operation-compare-requires
+expr::finish_operation-compare-requires g t c =
     let v = g.V.TemplateValue.contents in
-    λ κs live. (search (rules, the_lemmas), (search rules, (search rules, whole_compare v c.args.node.now c.in-Compare.chain c.node-in-Compare.result.now c.in-Compare.is c.node-in-Compare.ensures c.requires)))
+    λ κs live. (search (rules, the_lemmas), (search rules, (search rules, whole_compare v c.args.node.now c.in-Compare.chain c.node-in-Compare.result.now c.in-Compare.is c.node-in-Compare.ensures c.requires.whole)))
 
-pub expr::finish-returns-in-Compare-clause-added : goal.expr::finish-returns-in-Compare-clause-added
-expr::finish-returns-in-Compare-clause-added g t c =
+pub expr::finish_operation-returns-in-Compare-clause-added : goal.expr::finish_operation-returns-in-Compare-clause-added
+expr::finish_operation-returns-in-Compare-clause-added g t c =
     let v = g.V.TemplateValue.contents in
     let f = g.V.TemplateValue.functions in
     ok_gives c.compare.result (finishes_as f c.args.place (made_of v c.args.code.now) (made_of v c.compare.new.code) (compare_arm v c.args.node.now c.in-Compare.chain c.node-in-Compare.result.now c.in-Compare.is c.node-in-Compare.ensures)) c.compare.ensures.added
@@ -593,11 +672,11 @@ expr::finish-returns-in-Var-clause-marked = marked.expr::finish-returns-in-Var-c
 pub expr::finish-returns-in-Const-clause-marked : goal.expr::finish-returns-in-Const-clause-marked
 expr::finish-returns-in-Const-clause-marked = marked.expr::finish-returns-in-Const-clause-marked
 
-pub expr::finish-returns-in_ok-optional-in-Slice-3-clause-marked : goal.expr::finish-returns-in_ok-optional-in-Slice-3-clause-marked
-expr::finish-returns-in_ok-optional-in-Slice-3-clause-marked = marked.expr::finish-returns-in_ok-optional-in-Slice-3-clause-marked
+pub expr::finish_operation-returns-in_ok-optional-in-Slice-3-clause-marked : goal.expr::finish_operation-returns-in_ok-optional-in-Slice-3-clause-marked
+expr::finish_operation-returns-in_ok-optional-in-Slice-3-clause-marked = marked.expr::finish_operation-returns-in_ok-optional-in-Slice-3-clause-marked
 
-pub expr::finish-returns-in_ok-optional-in-IfExpr-clause-marked : goal.expr::finish-returns-in_ok-optional-in-IfExpr-clause-marked
-expr::finish-returns-in_ok-optional-in-IfExpr-clause-marked = marked.expr::finish-returns-in_ok-optional-in-IfExpr-clause-marked
+pub expr::finish_operation-returns-in_ok-optional-in-IfExpr-clause-marked : goal.expr::finish_operation-returns-in_ok-optional-in-IfExpr-clause-marked
+expr::finish_operation-returns-in_ok-optional-in-IfExpr-clause-marked = marked.expr::finish_operation-returns-in_ok-optional-in-IfExpr-clause-marked
 
 pub expr::finish-returns-in_ok-count-in-Filter-clause-marked : goal.expr::finish-returns-in_ok-count-in-Filter-clause-marked
 expr::finish-returns-in_ok-count-in-Filter-clause-marked = marked.expr::finish-returns-in_ok-count-in-Filter-clause-marked
@@ -623,14 +702,14 @@ expr::finish-returns-in-Tuple-clause-marked = marked.expr::finish-returns-in-Tup
 pub expr::finish-returns-in-Map-clause-marked : goal.expr::finish-returns-in-Map-clause-marked
 expr::finish-returns-in-Map-clause-marked = marked.expr::finish-returns-in-Map-clause-marked
 
-pub expr::finish-returns-in-UnaryOp-clause-marked : goal.expr::finish-returns-in-UnaryOp-clause-marked
-expr::finish-returns-in-UnaryOp-clause-marked = marked.expr::finish-returns-in-UnaryOp-clause-marked
+pub expr::finish_operation-returns-in-UnaryOp-clause-marked : goal.expr::finish_operation-returns-in-UnaryOp-clause-marked
+expr::finish_operation-returns-in-UnaryOp-clause-marked = marked.expr::finish_operation-returns-in-UnaryOp-clause-marked
 
-pub expr::finish-returns-in-BinOp-clause-marked : goal.expr::finish-returns-in-BinOp-clause-marked
-expr::finish-returns-in-BinOp-clause-marked = marked.expr::finish-returns-in-BinOp-clause-marked
+pub expr::finish_operation-returns-in-BinOp-clause-marked : goal.expr::finish_operation-returns-in-BinOp-clause-marked
+expr::finish_operation-returns-in-BinOp-clause-marked = marked.expr::finish_operation-returns-in-BinOp-clause-marked
 
-pub expr::finish-returns-in-Compare-clause-marked : goal.expr::finish-returns-in-Compare-clause-marked
-expr::finish-returns-in-Compare-clause-marked = marked.expr::finish-returns-in-Compare-clause-marked
+pub expr::finish_operation-returns-in-Compare-clause-marked : goal.expr::finish_operation-returns-in-Compare-clause-marked
+expr::finish_operation-returns-in-Compare-clause-marked = marked.expr::finish_operation-returns-in-Compare-clause-marked
 
 pub expr::finish_binary-returns-clause-marked : goal.expr::finish_binary-returns-clause-marked
 expr::finish_binary-returns-clause-marked = marked.expr::finish_binary-returns-clause-marked

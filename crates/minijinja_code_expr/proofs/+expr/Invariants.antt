@@ -25,8 +25,8 @@ use Rattle.minijinja_code_expr.proofs.CallArguments.{Taken}
 use Rattle.minijinja_code_expr.proofs.+expr.Given as goal
 
 -- whoever makes the part makes the whole, with the nodes that wait
-abbrev pub invariant-expr::expression-loop-code : goal.invariant-expr::expression-loop-code
-invariant-expr::expression-loop-code g l =
+abbrev pub invariant-expr::nested-loop-code : goal.invariant-expr::nested-loop-code
+invariant-expr::nested-loop-code g l =
     let c = g.V.TemplateValue.contents in
     let f = g.V.TemplateValue.functions in
     let n = size-Expr g.row.V.Denot g.row.V-Fault.Denot l.fn.expr in
@@ -38,11 +38,11 @@ invariant-expr::expression-loop-code g l =
       marks : after f c (reverse (pending_of l.pending)) (marks.expr f (expr_node c l.part) (margin_of l.code)) ≡ marks.expr f (expr_node c l.fn.expr) (margin_of l.fn.code);
     }
 
-abbrev pub decreases-expr::expression-loop-code : goal.decreases-expr::expression-loop-code
-decreases-expr::expression-loop-code g l = size-Expr g.row.V.Denot g.row.V-Fault.Denot l.part
+abbrev pub decreases-expr::nested-loop-code : goal.decreases-expr::nested-loop-code
+decreases-expr::nested-loop-code g l = size-Expr g.row.V.Denot g.row.V-Fault.Denot l.part
 
-abbrev pub invariant-expr::expression-loop-last : goal.invariant-expr::expression-loop-last
-invariant-expr::expression-loop-last g l =
+abbrev pub invariant-expr::nested-loop-last : goal.invariant-expr::nested-loop-last
+invariant-expr::nested-loop-last g l =
     let c = g.V.TemplateValue.contents in
     let f = g.V.TemplateValue.functions in
     record {
@@ -50,8 +50,8 @@ invariant-expr::expression-loop-last g l =
       marks : after f c (reverse (pending_of l.pending)) (margin_of l.code) ≡ marks.expr f (expr_node c l.fn.expr) (margin_of l.fn.code);
     }
 
-abbrev pub decreases-expr::expression-loop-last : goal.decreases-expr::expression-loop-last
-decreases-expr::expression-loop-last g l = length (pending_of l.pending)
+abbrev pub decreases-expr::nested-loop-last : goal.decreases-expr::nested-loop-last
+decreases-expr::nested-loop-last g l = length (pending_of l.pending)
 
 abbrev pub invariant-expr::literal-loop-item : goal.invariant-expr::literal-loop-item
 invariant-expr::literal-loop-item g l =

@@ -47,6 +47,15 @@ IsLiteral (tuple es) = Unit {0}
 IsLiteral (map ks vs) = Unit {0}
 IsLiteral e = ⊥
 
+-- a slice, an operator, a chain of comparisons or an if expression
+abbrev pub IsOperation : {C : Type 0} → Expr C → Type 0
+IsOperation (slice e start stop step) = Unit {0}
+IsOperation (unary o e) = Unit {0}
+IsOperation (binary o a b) = Unit {0}
+IsOperation (compare e cs) = Unit {0}
+IsOperation (if_expr t a b) = Unit {0}
+IsOperation e = ⊥
+
 -- the code of an expression, if there is one
 abbrev pub piece_of : {C F : Type 0} → Functions C F → Option (Expr C) → Piece C
 piece_of f None = nothing

@@ -1,4 +1,4 @@
-use Rattle.std.proofs.Common.{rules, true, false, arith, ◌≡◌, ◌+◌, ◌<◌, ◌∙◌, drop, refl, sym, ap, ap₂, subst}
+use Rattle.std.proofs.Common.{rules, true, false, arith, ◌≡◌, ◌+◌, ◌<◌, ◌∙◌, drop, length, refl, sym, ap, ap₂, subst}
 use Rattle.std.specs.Prelude.{IfOk}
 use Rattle.minijinja_tree.specs.Erasure.{args_of}
 use Rattle.minijinja_tree_expr.specs.declared.ast.Expr.{size-Expr, the_lemmas}
@@ -14,6 +14,7 @@ use Rattle.minijinja_code_expr.proofs.InOrder.{pairs}
 use Rattle.minijinja_code_expr.proofs.+expr.Goals.{arguments::positional_arguments-in-Pos+in_ok-expression-in-Pos, arguments::positional_arguments-in-PosSplat+in_ok-close_list-in-PosSplat+in_ok-expression-in-PosSplat, arguments::keyword_pairs-in-Kwarg+in_ok-load_name-in-Kwarg+in_ok-expression-in-Kwarg, arguments::keyword_pairs-in-KwargSplat+in_ok-close_map-in-KwargSplat+in_ok-expression-in-KwargSplat}
 use Rattle.minijinja_tree_expr.specs.declared.ast.CallArg.{size-CallArg}
 use Rattle.minijinja_code_expr.proofs.CallArguments.{positional_bound, keyword_bound, map_count_few, keywords_loaded, keywords_merged, counted_all, adds_given, element_size, args_length, taken_none, taken_all, positional_walk, pos_whole, pos_splat_whole, taken_pos, taken_pos_splat, passed_keyword, keyword_walk, kwarg_whole, kwarg_splat_whole, taken_kwarg, taken_kwarg_splat, passed_positional}
+use Rattle.minijinja_code_expr.proofs.NoArguments.{adds_none, counts_none, marks_none}
 use Rattle.minijinja_semantics.specs.Code as code
 use Rattle.minijinja_code_expr.proofs.+expr.Goals as goal
 
@@ -24,6 +25,22 @@ arguments::arguments-spread-requires-clause-batches g t c =
 pub arguments::arguments-spread-requires-clause-waiting : goal.arguments::arguments-spread-requires-clause-waiting
 arguments::arguments-spread-requires-clause-waiting g t c =
     omega (arith, positional_bound (args_of g.V.TemplateValue.contents c.args.args.now) c.args.front (count_of c.in_ok-count.count) c.requires.few c.requires.front c.in_ok-count.ensures.counted)
+
+pub arguments::arguments-returns-then-is_empty-clause-count : goal.arguments::arguments-returns-then-is_empty-clause-count
+arguments::arguments-returns-then-is_empty-clause-count g t c =
+    let none : length c.args.args.now ≡ 0 = grind (arith, c.is_empty.ensures, c.if-is_empty.true) in
+    counts_none g.V.TemplateValue.functions g.V.TemplateValue.contents c.args.args.now c.args.front none
+
+pub arguments::arguments-returns-then-is_empty-clause-added : goal.arguments::arguments-returns-then-is_empty-clause-added
+arguments::arguments-returns-then-is_empty-clause-added g t c =
+    let v = g.V.TemplateValue.contents in
+    let none : length c.args.args.now ≡ 0 = grind (arith, c.is_empty.ensures, c.if-is_empty.true) in
+    adds_none g.V.TemplateValue.functions v c.args.args.now (made_of v c.args.code.now) c.args.front none
+
+pub arguments::arguments-returns-then-is_empty-clause-marked : goal.arguments::arguments-returns-then-is_empty-clause-marked
+arguments::arguments-returns-then-is_empty-clause-marked g t c =
+    let none : length c.args.args.now ≡ 0 = grind (arith, c.is_empty.ensures, c.if-is_empty.true) in
+    marks_none g.V.TemplateValue.functions g.V.TemplateValue.contents c.args.args.now c.args.front (margin_of c.args.code.now) none
 
 pub arguments::arguments-returns-then-branch-clause-count : goal.arguments::arguments-returns-then-branch-clause-count
 arguments::arguments-returns-then-branch-clause-count g t c =

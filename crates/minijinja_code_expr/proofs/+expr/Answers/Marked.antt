@@ -82,6 +82,22 @@ pub arguments::keyword_pairs-returns-clause-marked : goal.arguments::keyword_pai
 arguments::keyword_pairs-returns-clause-marked g t c =
     sym (keyword_marked g.V.TemplateValue.functions g.V.TemplateValue.contents c.args.args.now c.loop-arg.arg-index (count_of c.loop-arg.count).waiting (margin_of c.loop-arg.code) c.loop-arg-test.false) ∙ c.loop-arg.invariant.marks
 
+pub expr::leaf-returns-in-Var-clause-marked : goal.expr::leaf-returns-in-Var-clause-marked
+expr::leaf-returns-in-Var-clause-marked g t c =
+    let v = g.V.TemplateValue.contents in
+    let f = g.V.TemplateValue.functions in
+    let old = margin_of c.args.code.now in
+    let is = spanned_variable v c.args.expr.now c.in-Var.variable c.node.result.now c.span.result c.in-Var.is c.node.ensures c.span.ensures in
+    ok_gives c.add.result (λ s. s ∙ ap (here 1) c.on_line.ensures.marked ∙ sym (ap (λ n. marks.expr f n old) is)) c.add.ensures.marked
+
+pub expr::leaf-returns-in-Const-clause-marked : goal.expr::leaf-returns-in-Const-clause-marked
+expr::leaf-returns-in-Const-clause-marked g t c =
+    let v = g.V.TemplateValue.contents in
+    let f = g.V.TemplateValue.functions in
+    let old = margin_of c.args.code.now in
+    let is = spanned_constant v c.args.expr.now c.in-Const.constant c.node-in-Const.result.now c.span-in-Const.result c.in-Const.is c.node-in-Const.ensures c.span-in-Const.ensures in
+    ok_gives c.load_constant.result (λ s. s ∙ ap (here 1) c.on_line-in-Const.ensures.marked ∙ sym (ap (λ n. marks.expr f n old) is)) c.load_constant.ensures.marked
+
 pub expr::finish-returns-in-Var-clause-marked : goal.expr::finish-returns-in-Var-clause-marked
 expr::finish-returns-in-Var-clause-marked g t c =
     let v = g.V.TemplateValue.contents in
@@ -102,18 +118,18 @@ expr::finish-returns-in-Const-clause-marked g t c =
     let is = spanned_constant v e c.in-Const.constant n (span_of c.in-Const.constant) c.in-Const.is c.node-in-Const.ensures refl in
     ok_gives c.load_constant.result (λ s. plain_marks f (expr_tree v e) c.args.place c.args.outer (made_of v c.args.code.now) old (margin_of c.load_constant.new.code) (here 1) is refl (s)) c.load_constant.ensures.marked
 
-pub expr::finish-returns-in_ok-optional-in-Slice-3-clause-marked : goal.expr::finish-returns-in_ok-optional-in-Slice-3-clause-marked
-expr::finish-returns-in_ok-optional-in-Slice-3-clause-marked g t c =
+pub expr::finish_operation-returns-in_ok-optional-in-Slice-3-clause-marked : goal.expr::finish_operation-returns-in_ok-optional-in-Slice-3-clause-marked
+expr::finish_operation-returns-in_ok-optional-in-Slice-3-clause-marked g t c =
     let v = g.V.TemplateValue.contents in
     let f = g.V.TemplateValue.functions in
     let e = c.args.node.now in
     let n = c.node-slice.result.now in
     let old = margin_of c.args.code.now in
     let is = spanned_slice v e c.in-Slice.slice n (span_of c.in-Slice.slice) c.in-Slice.is c.node-slice.ensures refl in
-    ok_gives c.add-in-Slice.result (λ s. plain_marks f (expr_tree v e) c.args.place c.args.outer (made_of v c.args.code.now) old (margin_of c.add-in-Slice.new.self) (marks.optional f (node.optional_of v n.start) ⟫ marks.optional f (node.optional_of v n.stop) ⟫ marks.optional f (node.optional_of v n.step) ⟫ here 1) is refl (s ∙ ap (here 1) (c.in_ok-optional-in-Slice-3.ensures.marked ∙ ap (marks.optional f (node.optional_of v n.step)) (c.in_ok-optional-in-Slice-2.ensures.marked ∙ ap (marks.optional f (node.optional_of v n.stop)) c.in_ok-optional-in-Slice.ensures.marked)))) c.add-in-Slice.ensures.marked
+    ok_gives c.add.result (λ s. plain_marks f (expr_tree v e) c.args.place c.args.outer (made_of v c.args.code.now) old (margin_of c.add.new.self) (marks.optional f (node.optional_of v n.start) ⟫ marks.optional f (node.optional_of v n.stop) ⟫ marks.optional f (node.optional_of v n.step) ⟫ here 1) is refl (s ∙ ap (here 1) (c.in_ok-optional-in-Slice-3.ensures.marked ∙ ap (marks.optional f (node.optional_of v n.step)) (c.in_ok-optional-in-Slice-2.ensures.marked ∙ ap (marks.optional f (node.optional_of v n.stop)) c.in_ok-optional-in-Slice.ensures.marked)))) c.add.ensures.marked
 
-pub expr::finish-returns-in_ok-optional-in-IfExpr-clause-marked : goal.expr::finish-returns-in_ok-optional-in-IfExpr-clause-marked
-expr::finish-returns-in_ok-optional-in-IfExpr-clause-marked g t c =
+pub expr::finish_operation-returns-in_ok-optional-in-IfExpr-clause-marked : goal.expr::finish_operation-returns-in_ok-optional-in-IfExpr-clause-marked
+expr::finish_operation-returns-in_ok-optional-in-IfExpr-clause-marked g t c =
     let v = g.V.TemplateValue.contents in
     let f = g.V.TemplateValue.functions in
     let e = c.args.node.now in
@@ -200,23 +216,23 @@ expr::finish-returns-in-Map-clause-marked g t c =
     let is = spanned_map v e c.in-Map.field-0 (node_of c.in-Map.field-0) (span_of c.in-Map.field-0) c.in-Map.is refl refl in
     ok_gives c.literal-in-Map.result (λ s. plain_marks f (expr_tree v e) c.args.place c.args.outer (made_of v c.args.code.now) old (margin_of c.literal-in-Map.new.code) (ending f (expr_node v e)) is (ap (λ x. closed c.args.outer (ending f x old)) is) s) c.literal-in-Map.ensures.marked
 
-pub expr::finish-returns-in-UnaryOp-clause-marked : goal.expr::finish-returns-in-UnaryOp-clause-marked
-expr::finish-returns-in-UnaryOp-clause-marked g t c =
+pub expr::finish_operation-returns-in-UnaryOp-clause-marked : goal.expr::finish_operation-returns-in-UnaryOp-clause-marked
+expr::finish_operation-returns-in-UnaryOp-clause-marked g t c =
     let v = g.V.TemplateValue.contents in
     let f = g.V.TemplateValue.functions in
     let e = c.args.node.now in
-    let n = c.node-in-UnaryOp.result.now in
+    let n = c.node.result.now in
     let s = c.span-node.result in
     let made = made_of v c.args.code.now in
     let old = margin_of c.args.code.now in
     let new = margin_of c.end_unary.new.code in
-    let bare = unary_arm v e c.in-UnaryOp.operation n c.in-UnaryOp.is c.node-in-UnaryOp.ensures in
-    let is = spanned_unary v e c.in-UnaryOp.operation n s c.in-UnaryOp.is c.node-in-UnaryOp.ensures c.span-node.ensures in
+    let bare = unary_arm v e c.in-UnaryOp.operation n c.in-UnaryOp.is c.node.ensures in
+    let is = spanned_unary v e c.in-UnaryOp.operation n s c.in-UnaryOp.is c.node.ensures c.span-node.ensures in
     ok_gives c.end_unary.result (λ ends. finishes_marks_as f c.args.place c.args.outer made old new bare is
-    (unary_marks f (unary_op n.op) (expr_node v n.expr) s (expr_tree v n.expr) c.args.place c.args.outer made old new (expr_is v n.expr) (subst IsWhole bare c.requires) ends)) c.end_unary.ensures.marked
+    (unary_marks f (unary_op n.op) (expr_node v n.expr) s (expr_tree v n.expr) c.args.place c.args.outer made old new (expr_is v n.expr) (subst IsWhole bare c.requires.whole) ends)) c.end_unary.ensures.marked
 
-pub expr::finish-returns-in-BinOp-clause-marked : goal.expr::finish-returns-in-BinOp-clause-marked
-expr::finish-returns-in-BinOp-clause-marked g t c =
+pub expr::finish_operation-returns-in-BinOp-clause-marked : goal.expr::finish_operation-returns-in-BinOp-clause-marked
+expr::finish_operation-returns-in-BinOp-clause-marked g t c =
     let v = g.V.TemplateValue.contents in
     let f = g.V.TemplateValue.functions in
     let e = c.args.node.now in
@@ -225,8 +241,8 @@ expr::finish-returns-in-BinOp-clause-marked g t c =
     let is = spanned_binary v e c.in-BinOp.operation n c.span-node-in-BinOp.result c.in-BinOp.is c.node-in-BinOp.ensures c.span-node-in-BinOp.ensures in
     ok_gives c.finish_binary.result (finishes_marks_as f c.args.place c.args.outer (made_of v c.args.code.now) (margin_of c.args.code.now) (margin_of c.finish_binary.new.code) bare is) c.finish_binary.ensures.marked
 
-pub expr::finish-returns-in-Compare-clause-marked : goal.expr::finish-returns-in-Compare-clause-marked
-expr::finish-returns-in-Compare-clause-marked g t c =
+pub expr::finish_operation-returns-in-Compare-clause-marked : goal.expr::finish_operation-returns-in-Compare-clause-marked
+expr::finish_operation-returns-in-Compare-clause-marked g t c =
     let v = g.V.TemplateValue.contents in
     let f = g.V.TemplateValue.functions in
     let e = c.args.node.now in
