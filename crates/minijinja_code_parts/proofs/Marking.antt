@@ -1,6 +1,6 @@
 -- How the parts of statements are marked while their code is being made.
-use Rattle.std.proofs.Common.{◌≡◌, ℕ, ◌+◌, ◌<◌, ◌≤◌, List, [], ◌∷◌, ◌++◌, length, map, drop, get_or, Option, Some, None, Result, Ok, Err, refl, sym, ap, ◌∙◌, subst}
-use Rattle.std.specs.Prelude.{OnOk, Bool, true, false, cond, not, reverse, bytes_eq}
+use Rattle.std.proofs.Common.{◌≡◌, ℕ, ◌+◌, ◌<◌, ◌≤◌, List, [], ◌∷◌, ◌++◌, length, map, drop, get_or, Option, Some, None, Result, Ok, Err, refl, sym, ap, ◌∙◌, subst, arith}
+use Rattle.std.specs.Prelude.{◌==◌, OnOk, Bool, true, false, cond, not, reverse, bytes_eq}
 use Rattle.std.specs.Borrow.{Bor}
 use Rattle.std.proofs.lemmas.List.{at_drop_more, at_drop_all, map-append, reverse-append}
 use Rattle.std.proofs.lemmas.List.Elements.{filter-append}
@@ -21,9 +21,10 @@ use Rattle.minijinja_tree_expr.specs.declared.ast.List.{List as ListNode}
 use Rattle.minijinja_tree_expr.specs.declared.ast.Spanned.{Spanned}
 use Rattle.minijinja_tree_expr.proofs.NodeRows.{list_is}
 use Rattle.minijinja_tree_expr.specs.declared.ast.Expr.TheVariants.{Var, Const, GetAttr', Slice', UnaryOp', BinOp', Compare', IfExpr', Filter', Test', GetItem', Call', List', Tuple', Map'}
-use Rattle.minijinja_semantics.specs.Marks.{Margin, Marking, arguments_of, closing_count, expr, here, positional, span_of, stored_as, storing_back, taking, target, targets, within}
+use Rattle.minijinja_semantics.specs.Marks.{Margin, Marking, ◌⟫◌, again, alone_at, at_span, on_line, unmarked, arguments_of, closing_count, expr, here, positional, span_of, stored_as, storing_back, taking, target, targets, within}
 use Rattle.minijinja_semantics.specs.Macros.{caller, enclosed}
 use Rattle.minijinja_semantics.specs.Pieces.{Piece, Open, OpenScope, OpenAutoEscape, OpenCapture}
+use Rattle.minijinja_instructions.proofs.Running.{last-pushed}
 use Rattle.minijinja_emitter.specs.internal.Making.{Made, Adds}
 use Rattle.minijinja_emitter.specs.internal.Margins.{closed, opened}
 use Rattle.minijinja_code_expr.specs.declared.output.Output.{Output}
@@ -82,6 +83,13 @@ module _ {V F C : Type 0} (c : V → C) where
 pub within_made : (g : Marking) (a : Margin) {s s' outer : Span} {b m z : Margin} → s' ≡ s → outer ≡ a.span → b ≡ opened s' a → m ≡ g b → z ≡ closed outer m → z ≡ within s g a
 within_made g a {s} {s'} {outer} {b} {m} es eo eb em ez =
     ez ∙ ap (λ o. closed o m) eo ∙ ap (closed a.span) (em ∙ ap g eb ∙ ap (λ x. g (opened x a)) es)
+
+same_line : (n : ℕ) → (n == n) ≡ true
+same_line n = grind arith
+
+-- two instructions within a span that begins on the line in force
+pub twice_within : (s : Span) (m : Margin) → again (alone_at s (on_line s m)) ≡ within s (on_line s ⟫ here 1 ⟫ here 1) m
+twice_within s m = rw (same_line s.start_line, last-pushed unmarked m.marks (at_span s)) refl
 
 module _ {C F : Type 0} (f : Functions C F) where
   -- the items of a loop that pass a test

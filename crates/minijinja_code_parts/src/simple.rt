@@ -1,5 +1,5 @@
 //! Instructions of text, outputs, assignments and calls that are statements.
-ghost use Rattle.std.specs.Prelude.{◌≡◌, length, OnOk};
+ghost use Rattle.std.specs.Prelude.{◌≡◌, [], length, OnOk};
 ghost use Rattle.minijinja_tree.specs.Erasure.{args_of, expr_tree};
 ghost use Rattle.minijinja_tree.specs.Nodes.{node_of, span_of};
 ghost use Rattle.minijinja_tree.specs.Tree as tree;
@@ -10,6 +10,7 @@ ghost use Rattle.minijinja_tree.specs.SpannedErasure as node;
 ghost use Rattle.minijinja_tree.specs.SpannedTrees as spanned;
 ghost use Rattle.minijinja_semantics.specs.Layout as layout;
 ghost use Rattle.minijinja_semantics.specs.Marks as marks;
+ghost use Rattle.minijinja_semantics.specs.Marks.{◌⟫◌};
 ghost use Rattle.minijinja_semantics.specs.Code as instr;
 ghost use Rattle.minijinja_semantics.specs.Code.{DiscardTop};
 ghost use Rattle.minijinja_semantics.specs.Pieces.{one, plain, ◌▸◌};
@@ -25,6 +26,7 @@ use minijinja_code_expr::output::{Output, output_of};
 use minijinja_emitter::emit::Emitter;
 use minijinja_emitter::memory::OutOfMemory;
 use minijinja_instructions::instructions::Instruction;
+use minijinja_syntax::tokens::Span;
 use minijinja_tree::ast::{Do, EmitRaw, Expr, Set};
 use minijinja_value::value::TemplateValue;
 
@@ -44,9 +46,47 @@ pub fn data_text<'s, V: TemplateValue>(
     code.add(Instruction::EmitRaw(text.raw))
 }
 
-/// Adds the code of an output. A call of `super` without arguments, of `loop` with one positional
-/// argument, and of a block have instructions of their own.
+/// Adds the code of an output.
+#[inline(always)]
 pub fn emit_expr<'s, V: TemplateValue>(
+    code: &mut Emitter<'s, V>,
+    expr: &Expr<'s, V>,
+) -> Result<(), OutOfMemory>
+    requires { IsWhole (expr_tree V.contents expr.now) }
+    ensures added { OnOk result (Adds (made_of V.contents code.old) (made_of V.contents code.new)
+        (layout.write V.functions
+        (written (expr_tree V.contents expr.now))
+        (layout.expr V.functions (expr_tree V.contents expr.now)))) }
+    ensures marked { OnOk result (margin_of code.new ≡ marks.write V.functions
+        (written (expr_tree V.contents expr.now)) (node.expr_node V.contents expr.now)
+        (margin_of code.old)) }
+{
+    match expr {
+        Expr::Var(variable) => emit_variable(code, variable.node().id, variable.span()),
+        _ => emit_computed(code, expr),
+    }
+}
+
+/// Adds the code of an output of a variable, which is what most outputs are.
+#[inline(always)]
+fn emit_variable<'s, V: TemplateValue>(
+    code: &mut Emitter<'s, V>,
+    name: &'s str,
+    span: Span,
+) -> Result<(), OutOfMemory>
+    ensures added { OnOk result (Adds (made_of V.contents code.old) (made_of V.contents code.new)
+        (one (instr.Do event.Lookup name.now 0) ▸ one (instr.Do event.Emit [] 1))) }
+    ensures marked { OnOk result (margin_of code.new ≡ marks.within span
+        (marks.on_line span ⟫ marks.here 1 ⟫ marks.here 1) (margin_of code.old)) }
+{
+    code.on_line(span);
+    code.add_at(Instruction::Lookup(name), span)?;
+    code.add_again(Instruction::Emit)
+}
+
+/// Adds the code of an output that may be a call. A call of `super` without arguments, of `loop` with
+/// one positional argument, and of a block have instructions of their own.
+fn emit_computed<'s, V: TemplateValue>(
     code: &mut Emitter<'s, V>,
     expr: &Expr<'s, V>,
 ) -> Result<(), OutOfMemory>
