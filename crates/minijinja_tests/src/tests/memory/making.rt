@@ -380,10 +380,14 @@ line_comment abcdefghijklmnopqrstuvwxyzab | {% %} {{ }} {# #} none none => {% %}
     refused_at_each::<Builds>(&rt, rt.alloc(), rows)
 }
 
+/// A copy of a syntax, by way of a builder.
+fn rebuilt(alloc: Global, syntax: &SyntaxConfig) -> Result<SyntaxConfig, Error<'static>> {
+    syntax.to_builder(alloc)?.build(alloc)
+}
+
 /// A copy of a copy of a syntax.
 fn copied(alloc: Global, syntax: &SyntaxConfig) -> Result<SyntaxConfig, Error<'static>> {
-    let copy = syntax.to_builder(alloc)?.build(alloc)?;
-    Ok(copy.try_clone()?)
+    Ok(rebuilt(alloc, syntax)?.try_clone()?)
 }
 
 /// Whether a matcher finds a marker of the syntax.

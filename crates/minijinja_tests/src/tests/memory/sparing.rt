@@ -141,6 +141,33 @@ fn push_found(
     write!(words, "{} {}", found.is_some(), same.is_some())
 }
 
+/// Appends what the default syntax has.
+fn push_default(words: &mut String) -> Result<(), AllocError> {
+    push_syntax(words, &SyntaxConfig::default())
+}
+
+/// Appends what a syntax and the default one have, and whether the first and its matcher find a
+/// marker.
+fn push_both(
+    words: &mut String,
+    syntax: &SyntaxConfig,
+    matcher: &StartMarkerMatcher,
+) -> Result<(), AllocError> {
+    push_syntax(words, syntax)?;
+    push_default(words)?;
+    push_found(words, syntax, matcher)
+}
+
+/// Appends what the syntax of a builder has.
+fn push_built(
+    alloc: Global,
+    words: &mut String,
+    builder: &SyntaxConfigBuilder,
+) -> Result<(), Error<'static>> {
+    let syntax = builder.build(alloc)?;
+    Ok(push_syntax(words, &syntax)?)
+}
+
 /// A builder that has set each flag.
 fn flagged() -> SyntaxConfigBuilder {
     let mut builder = SyntaxConfig::builder();
@@ -150,7 +177,33 @@ fn flagged() -> SyntaxConfigBuilder {
     builder
 }
 
-/// Syntaxes: what they have, and where they find a marker.
+/// Appends what the syntax of a builder has that has set each flag. To build it takes memory.
+fn push_flagged(
+    alloc: Global,
+    words: &mut String,
+    ballast: &mut Ballast,
+) -> Result<(), Error<'static>> {
+    let builder = flagged();
+    ballast.give_back();
+    push_built(alloc, words, &builder)
+}
+
+/// Appends what a syntax, the default one and that of a builder have, and whether the first and its
+/// matcher find a marker. To make the matcher takes memory.
+fn push_syntaxes(
+    alloc: Global,
+    words: &mut String,
+    ballast: &mut Ballast,
+    syntax: &SyntaxConfig,
+) -> Result<(), Error<'static>> {
+    let matcher = StartMarkerMatcher::new(alloc, syntax)?;
+    ballast.narrow();
+    push_both(words, syntax, &matcher)?;
+    push_flagged(alloc, words, ballast)
+}
+
+/// Syntaxes: what they have, and where they find a marker. Each function above owns one of them: the
+/// proof of one that owns them all takes minutes.
 enum Syntaxes {}
 
 impl Refusable for Syntaxes {
@@ -161,15 +214,7 @@ impl Refusable for Syntaxes {
         words: &mut String,
     ) -> Result<(), Error<'t>> {
         let syntax = syntax_of(alloc, text)?;
-        let matcher = StartMarkerMatcher::new(alloc, &syntax)?;
-        ballast.narrow();
-        push_syntax(words, &syntax)?;
-        push_syntax(words, &SyntaxConfig::default())?;
-        push_found(words, &syntax, &matcher)?;
-        let builder = flagged();
-        ballast.give_back();
-        push_syntax(words, &builder.build(alloc)?)?;
-        Ok(())
+        push_syntaxes(alloc, words, ballast, &syntax)
     }
 }
 
