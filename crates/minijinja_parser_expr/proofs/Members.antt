@@ -1,18 +1,16 @@
--- What follows the `.` after an operand, by the token taken.
-use Rattle.std.proofs.Common.{◌≡◌, ℕ, Option, Some, refl, ap, ◌∙◌}
+-- What follows the `.` after an operand, by whether it is a name.
+use Rattle.std.proofs.Common.{◌≡◌, List, [], ◌∷◌, Option, Some, None, refl}
 use Rattle.minijinja_syntax.specs.Texts.{Text}
-use Rattle.minijinja_syntax.specs.Tokens.{tok_of, ident, int, int128}
+use Rattle.minijinja_syntax.specs.Tokens.{Tok, ident, int, int128}
 use Rattle.minijinja_syntax.specs.Streams.{SpannedTok}
 use Rattle.minijinja_syntax.specs.declared.tokens.Span.{Span}
-use Rattle.minijinja_syntax.specs.declared.tokens.Token.{Token}
-use Rattle.minijinja_syntax.specs.declared.tokens.Token.TheVariants as token
 use Rattle.minijinja_value.specs.Values.{Functions}
-use Rattle.minijinja_tree.specs.SpannedTrees.{Expr, attribute, item, constant}
+use Rattle.minijinja_tree.specs.SpannedTrees.{Expr, attribute}
 use Rattle.minijinja_grammar.specs.Places.{Place}
-use Rattle.minijinja_grammar.specs.internal.Forms.{nothing, one, Read, got, short, wrong, read_then, held_or_wrong, reads}
+use Rattle.minijinja_grammar.specs.internal.Forms.{nothing, after, Read, got, read_one, read_then, held_or_wrong, reads}
 use Rattle.minijinja_grammar.specs.internal.ExprForms.{expanded, of_kind, begins_member, member_of, member}
-use Rattle.minijinja_grammar.proofs.Climbing.{after_after}
-use Rattle.minijinja_parser_tokens.proofs.Taking.{one_is}
+use Rattle.minijinja_parser_tokens.specs.internal.Reads.{next_ident, skipped}
+use Rattle.minijinja_parser_expr.specs.private.Turns.{item_at, item_of}
 
 module _ {C F : Type 0} (f : Functions C F) (e : Expr C) (from : Span) where
   abbrev held : SpannedTok → Option SpannedTok
@@ -21,38 +19,39 @@ module _ {C F : Type 0} (f : Functions C F) (e : Expr C) (from : Span) where
   abbrev part_of : SpannedTok → Place → Read (Expr C)
   part_of u r = reads (member_of nothing f e from u) r
 
-  member_is : (p : Place) → reads (member nothing f e from) p ≡ read_then (reads (one Some) p) (λ t q. read_then (held_or_wrong (held t) q) part_of)
+  named : (p : Place) (x : Text) → next_ident p.tokens ≡ Some x → reads (member nothing f e from) p ≡ read_then (skipped p) (λ s q. got (attribute e x (expanded from q.last)) q)
   unfolding reads member
-  member_is p = ap (λ o. read_then o part_of) (one_is held p) ∙ after_after (reads (one Some) p) (λ t q. held_or_wrong (held t) q) part_of
+  named p x h = go p.tokens h
+    where
+      go : (ts : List SpannedTok) → next_ident ts ≡ Some x →
+          read_then (read_one held p ts) part_of ≡ read_then (read_one (λ t. Some t.1) p ts) (λ s q. got (attribute e x (expanded from q.last)) q)
+      go [] k = cc
+      go ((ident y, s) ∷ ts) k = cc
+      go (t ∷ ts) k = cc
 
-  pub name_member : (p q : Place) (x : Text) (s : Span) → reads (one Some) p ≡ got (ident x, s) q → reads (member nothing f e from) p ≡ got (attribute e x (expanded from q.last)) q
-  unfolding reads
-  name_member p q x s h = member_is p ∙ ap (λ o. read_then o (λ t r. read_then (held_or_wrong (held t) r) part_of)) h
+  unnamed : (p : Place) → next_ident p.tokens ≡ None → reads (member nothing f e from) p ≡ item_at f e from p
+  unfolding reads member
+  unnamed p h = go p.tokens h
+    where
+      at_token : (t : Tok) (s : Span) (q : Place) (ts : List SpannedTok) → next_ident ((t, s) ∷ ts) ≡ None →
+          read_then (held_or_wrong (held (t, s)) q) part_of ≡ item_of f e from (t, s) q
+      at_token (ident y) s q ts k = cc
+      at_token (int n) s q ts k = refl
+      at_token (int128 n) s q ts k = refl
+      at_token _ s q ts k = refl
 
-  pub int_member : (p q : Place) (n : ℕ) (s : Span) → reads (one Some) p ≡ got (int n, s) q →
-      reads (member nothing f e from) p ≡ got (item e (constant (f.of_u64 n) s) (expanded from q.last)) q
-  unfolding reads
-  int_member p q n s h = member_is p ∙ ap (λ o. read_then o (λ t r. read_then (held_or_wrong (held t) r) part_of)) h
+      go : (ts : List SpannedTok) → next_ident ts ≡ None → read_then (read_one held p ts) part_of ≡ read_then (read_one Some p ts) (item_of f e from)
+      go [] k = refl
+      go (t ∷ ts) k = at_token t.0 t.1 (after p t ts) ts k
 
-  pub large_member : (p q : Place) (n : ℕ) (s : Span) → reads (one Some) p ≡ got (int128 n, s) q →
-      reads (member nothing f e from) p ≡ got (item e (constant (f.of_u128 n) s) (expanded from q.last)) q
-  unfolding reads
-  large_member p q n s h = member_is p ∙ ap (λ o. read_then o (λ t r. read_then (held_or_wrong (held t) r) part_of)) h
+  abbrev by_name : Option Text → Place → Read (Expr C)
+  by_name (Some x) p = read_then (skipped p) (λ s q. got (attribute e x (expanded from q.last)) q)
+  by_name None p = item_at f e from p
 
-  pub short_member : (p q : Place) → reads (one Some) p ≡ short q → reads (member nothing f e from) p ≡ short q
-  short_member p q h = member_is p ∙ ap (λ o. read_then o (λ t r. read_then (held_or_wrong (held t) r) part_of)) h
-
-  pub wrong_member : (p q : Place) → reads (one Some) p ≡ wrong q → reads (member nothing f e from) p ≡ wrong q
-  wrong_member p q h = member_is p ∙ ap (λ o. read_then o (λ t r. read_then (held_or_wrong (held t) r) part_of)) h
-
-  other_held : (t : Token) (s : Span) (q : Place) → ((x : _) → t ≡ token.Ident x → ⊥) → ((n : _) → t ≡ token.Int n → ⊥) → ((n : _) → t ≡ token.Int128 n → ⊥) →
-      read_then (held_or_wrong (held (tok_of t, s)) q) part_of ≡ wrong q
-  other_held (token.Ident x) s q h i j = absurd (h x refl)
-  other_held (token.Int n) s q h i j = absurd (i n refl)
-  other_held (token.Int128 n) s q h i j = absurd (j n refl)
-  other_held _ s q h i j = refl
-
-  -- any other token
-  pub no_member : (p q : Place) (t : Token) (s : Span) → reads (one Some) p ≡ got (tok_of t, s) q →
-      ((x : _) → t ≡ token.Ident x → ⊥) → ((n : _) → t ≡ token.Int n → ⊥) → ((n : _) → t ≡ token.Int128 n → ⊥) → reads (member nothing f e from) p ≡ wrong q
-  no_member p q t s k h i j = member_is p ∙ ap (λ o. read_then o (λ u r. read_then (held_or_wrong (held u) r) part_of)) k ∙ other_held t s q h i j
+  -- a name, or else a number
+  pub member_is : (p : Place) → reads (member nothing f e from) p ≡ by_name (next_ident p.tokens) p
+  member_is p = go (next_ident p.tokens) refl
+    where
+      go : (o : Option Text) → next_ident p.tokens ≡ o → reads (member nothing f e from) p ≡ by_name o p
+      go (Some x) h = named p x h
+      go None h = unnamed p h

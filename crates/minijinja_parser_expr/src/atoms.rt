@@ -10,6 +10,7 @@ ghost use Rattle.minijinja_grammar.specs.internal.ExprForms as form;
 ghost use Rattle.minijinja_parser_tokens.specs.internal.Reads.{Reads};
 ghost use Rattle.minijinja_parser_expr.specs.private.Primaries as primaries;
 ghost use Rattle.minijinja_parser_expr.specs.private.Texts.{Joins};
+ghost use Rattle.minijinja_parser_expr.specs.private.Turns.{item_at};
 ghost use Rattle.minijinja_tree.specs.SpannedErasure.{expr_node};
 ghost use Rattle.minijinja_tree.specs.SpannedTrees as tree;
 
@@ -89,6 +90,27 @@ pub fn literal<'s, V: TemplateValue>(
         }
         _ => Err(Refusal::Wrong(Wanted::Part(Expected::Expression))),
     }
+}
+
+/// Reads the number of an item, after its operand and the `.` behind that.
+#[inline(never)]
+pub fn numbered<'s, V: TemplateValue>(
+    alloc: Global,
+    tokens: &mut TokenStream<'s, '_>,
+    expr: Expr<'s, V>,
+    from: Span,
+) -> Result<Expr<'s, V>, Refusal>
+    ensures { Reads (expr_node V.contents) (item_at V.functions (expr_node V.contents expr.entry)
+        from tokens.old) result tokens.new }
+{
+    let (token, at) = tokens.take(Wanted::Part(Expected::Identifier))?;
+    let index = match token {
+        Token::Int(value) => V::of_u64(value),
+        Token::Int128(value) => V::of_u128(alloc, *value)?,
+        _ => return Err(Refusal::Wrong(Wanted::Part(Expected::Identifier))),
+    };
+    let index = nodes::constant(alloc, index, at)?;
+    Ok(nodes::item(alloc, expr, index, tokens.expand_span(from))?)
 }
 
 /// Makes the constant of a text.

@@ -18,7 +18,7 @@ use minijinja_parser_tokens::token_stream::TokenStream;
 use minijinja_parser_tokens::tokens::{Tokens, ident};
 use minijinja_syntax::error::Expected;
 use minijinja_syntax::syntax::SyntaxConfig;
-use minijinja_syntax::tokens::{Span, Token};
+use minijinja_syntax::tokens::Span;
 use minijinja_tree::ast::{CallArg, CompareOp, CompareOpKind, Expr};
 use minijinja_tree_expr::nodes;
 use minijinja_value::value::TemplateValue;
@@ -92,7 +92,7 @@ impl<'s, 'c, V: TemplateValue> ExprBuilder for TreeExprs<'s, 'c, V> {
         atoms::literal(self.alloc, tokens)
     }
 
-    #[tactic(auto, using(crate::proofs::Members::name_member, crate::proofs::Members::int_member, crate::proofs::Members::large_member, crate::proofs::Members::short_member, crate::proofs::Members::wrong_member, crate::proofs::Members::no_member))]
+    #[tactic(auto, using(crate::proofs::Members::member_is))]
     fn member(
         &self,
         tokens: &mut TokenStream<'s, 'c>,
@@ -102,19 +102,12 @@ impl<'s, 'c, V: TemplateValue> ExprBuilder for TreeExprs<'s, 'c, V> {
         ensures { Reads (expr_node V.contents) (reads (form.member nothing V.functions
             (expr_node V.contents expr.entry) from) tokens.old) result tokens.new }
     {
-        let alloc = self.alloc;
-        let (token, at) = tokens.take(Wanted::Part(Expected::Identifier))?;
-        let index = match token {
-            Token::Ident(name) => {
-                let span = tokens.expand_span(from);
-                return Ok(nodes::attribute(alloc, expr, name, span)?);
-            }
-            Token::Int(value) => V::of_u64(value),
-            Token::Int128(value) => V::of_u128(alloc, *value)?,
-            _ => return Err(Refusal::Wrong(Wanted::Part(Expected::Identifier))),
+        let Some(name) = tokens.ident_in_view() else {
+            return atoms::numbered(self.alloc, tokens, expr, from);
         };
-        let index = nodes::constant(alloc, index, at)?;
-        Ok(nodes::item(alloc, expr, index, tokens.expand_span(from))?)
+        tokens.skip(Wanted::Part(Expected::Identifier))?;
+        let span = tokens.expand_span(from);
+        Ok(nodes::attribute(self.alloc, expr, name, span)?)
     }
 
     /// The text from the first part of the name to its last.

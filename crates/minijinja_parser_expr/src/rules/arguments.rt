@@ -15,6 +15,9 @@ use minijinja_parser_tokens::tokens::Tokens;
 use minijinja_tree::ast::MOST_ARGUMENTS;
 use std::marker::PhantomData;
 
+/// The capacity of a list of arguments before its first one is read. Most lists have no more.
+const ROOM_AT_FIRST: usize = 3;
+
 /// Whether the argument is a keyword argument or a `**`.
 fn is_named<N: ExprBuilder>(arg: &Argument<N::Name, N::Expr>) -> bool
     ensures { result ≡ form.is_named (argument_of N.text N.tree arg.now) }
@@ -81,7 +84,10 @@ impl<
         ensures { Parses N.Input.place (λ v. map N.arg v.items) (form.arg_items (expr_at N.functions
             self.now.depth) []) tokens.old result tokens.new }
     {
-        let mut args = Vec::new(self.builder.alloc());
+        if !tokens.begins(Part::Arg) {
+            return Ok(Vec::new(self.builder.alloc()));
+        }
+        let mut args = Vec::with_capacity(self.builder.alloc(), ROOM_AT_FIRST)?;
         let mut named = false;
         while tokens.begins(Part::Arg) {
             let arg = self.arg(tokens)?;

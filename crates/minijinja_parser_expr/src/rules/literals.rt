@@ -68,6 +68,7 @@ impl<
 
     /// Reads an expression or a tuple in parentheses, after the opening one.
     #[tactic(auto, using(crate::proofs::Following::group_is))]
+    #[inline(never)]
     fn group(&self, tokens: &mut N::Input, from: Span) -> Result<N::Expr, Refusal>
         requires { Nests N.Input.place N.tree N.functions self.now.depth F.pre F.post
             self.now.parser }
@@ -125,6 +126,7 @@ impl<
 
     /// Reads a list, after its bracket.
     #[tactic(auto, using(crate::proofs::Following::in_brackets_is))]
+    #[inline(never)]
     fn list(&self, tokens: &mut N::Input, from: Span) -> Result<N::Expr, Refusal>
         requires { Nests N.Input.place N.tree N.functions self.now.depth F.pre F.post
             self.now.parser }
@@ -160,6 +162,7 @@ impl<
 
     /// Reads a map, after its brace.
     #[tactic(auto, using(crate::proofs::Following::in_braces_is))]
+    #[inline(never)]
     fn map(&self, tokens: &mut N::Input, from: Span) -> Result<N::Expr, Refusal>
         requires { Nests N.Input.place N.tree N.functions self.now.depth F.pre F.post
             self.now.parser }

@@ -112,6 +112,7 @@ impl<
 
     /// Reads the comparisons that come, which are one or more.
     #[cycle(level)]
+    #[inline(never)]
     fn comparisons(
         &self,
         tokens: &mut N::Input,

@@ -66,6 +66,7 @@ impl<
 
     /// Reads an item or a slice, after its bracket.
     #[tactic(auto, using(crate::proofs::Following::subscript_is))]
+    #[inline(never)]
     fn subscript(
         &self,
         tokens: &mut N::Input,

@@ -56,6 +56,7 @@ impl<
     }
 
     /// Reads a filter, after its `|`.
+    #[inline(never)]
     fn filter(&self, tokens: &mut N::Input, expr: N::Expr) -> Result<N::Expr, Refusal>
         requires { Nests N.Input.place N.tree N.functions self.now.depth F.pre F.post
             self.now.parser }
@@ -70,6 +71,7 @@ impl<
 
     /// Reads a test, after the word `is`.
     #[tactic(auto, using(crate::proofs::Following::any_test_is))]
+    #[inline(never)]
     fn any_test(&self, tokens: &mut N::Input, expr: N::Expr) -> Result<N::Expr, Refusal>
         requires { Nests N.Input.place N.tree N.functions self.now.depth F.pre F.post
             self.now.parser }
