@@ -20,6 +20,9 @@ use minijinja_syntax::error::Expected;
 use minijinja_syntax::tokens::Span;
 use std::marker::PhantomData;
 
+/// The capacity of the arguments of a macro before the first one is read. Most macros have no more.
+const ROOM_AT_FIRST: usize = 3;
+
 /// The default of an argument, if it has one. After an argument with a default each has to have
 /// one.
 #[tactic(auto, using(minijinja_parser_tokens::proofs::Turned::behind_is), unfolding(minijinja_grammar::specs::internal::Forms::reads))]
@@ -66,7 +69,7 @@ fn param_items<S: StmtBuilder>(
     ensures { Parses S.Input.place (λ v. map (param_of S.tree) v.items) (param_items (expr_at
         S.functions depth) []) tokens.old result tokens.new }
 {
-    let mut params = Vec::new(builder.alloc());
+    let mut params = Vec::with_capacity(builder.alloc(), ROOM_AT_FIRST)?;
     let mut has_default = false;
     while tokens.begins(Part::Name) {
         let param = param(builder, tokens, depth, has_default)?;

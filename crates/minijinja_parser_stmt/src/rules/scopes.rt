@@ -17,6 +17,9 @@ use minijinja_parser_tokens::tokens::Tokens;
 use minijinja_syntax::tokens::Span;
 use std::marker::PhantomData;
 
+/// The capacity of the targets of a `with` before the first one is read. Most have no more.
+const ROOM_AT_FIRST: usize = 3;
+
 /// A name, or targets in parentheses.
 #[tactic(auto, using(crate::proofs::Targets::bound_is, crate::proofs::Targets::nested_is))]
 fn bound_target<S: StmtBuilder>(
@@ -63,7 +66,7 @@ fn bindings<S: StmtBuilder>(
     ensures { Parses S.Input.place (λ v. map (binding_of S.tree) v.items)
         (form.bindings (form.bound_target depth) (expr_at S.functions depth)) tokens.old result tokens.new }
 {
-    let mut bindings = Vec::new(builder.alloc());
+    let mut bindings = Vec::with_capacity(builder.alloc(), ROOM_AT_FIRST)?;
     if tokens.at(Mark::BlockEnd) {
         return Ok(bindings);
     }

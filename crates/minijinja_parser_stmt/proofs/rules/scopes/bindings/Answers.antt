@@ -39,7 +39,7 @@ returns-then-at g c =
     let expr = expr_at g.S.StmtBuilder.functions c.args.depth in
     let p = g.S.Input.Tokens.place c.args.tokens.now in
     let e : comes (is block_end) p.tokens ≡ true = sym c.at.ensures ∙ c.if-at.true in
-    rw (bindings_none (form.bound_target c.args.depth) expr p e, c.new-bindings.ensures.items) refl
+    rw (bindings_none (form.bound_target c.args.depth) expr p e, c.in_ok-bindings.ensures.items) refl
 
 pub returns-in_err-binding : goal.returns-in_err-binding
 returns-in_err-binding g c =
@@ -58,7 +58,7 @@ loop-bindings-init g c =
     let w = v c.in_ok-binding.field-0 in
     let none : comes (is block_end) p.tokens ≡ false = sym c.at.ensures ∙ c.if-at.false in
     let h : reads (form.binding (form.bound_target c.args.depth) expr) p ≡ got w q = c.in_ok-binding.ensures in
-    let pushed : w ∷ [] ≡ map v c.push.new.self.items = rw (c.in_ok-push.ensures.items, c.new-bindings.ensures.items) refl in
+    let pushed : w ∷ [] ≡ map v c.push.new.self.items = rw (c.in_ok-push.ensures.items, c.in_ok-bindings.ensures.items) refl in
     bindings_some (form.bound_target c.args.depth) expr p none ∙ rw h refl ∙ ap (λ xs. more_bindings (form.bound_target c.args.depth) expr xs q) pushed
 
 pub returns-in_err-eat : goal.returns-in_err-eat
