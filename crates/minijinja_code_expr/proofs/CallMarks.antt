@@ -2,14 +2,14 @@
 use Rattle.std.proofs.Common.{◌≡◌, ℕ, sym, ap, ◌∙◌}
 use Rattle.minijinja_syntax.specs.Texts.{Text}
 use Rattle.minijinja_value.specs.Values.{Functions}
-use Rattle.minijinja_tree.specs.Callees.{Callee, function, method, object}
+use Rattle.minijinja_tree.specs.Callees.{Callee, method, object}
 use Rattle.minijinja_tree.specs.Nodes.{node_of}
 use Rattle.minijinja_tree.specs.SpannedErasure.{expr_node}
 use Rattle.minijinja_tree_expr.specs.declared.ast.Expr.{Expr as Node}
 use Rattle.minijinja_tree.specs.Tree.{Expr}
 use Rattle.minijinja_tree_expr.specs.declared.ast.Expr.TheVariants as expr
 use Rattle.minijinja_semantics.specs.Marks as marks
-use Rattle.minijinja_semantics.specs.Marks.{Margin, Marking, here, call_of}
+use Rattle.minijinja_semantics.specs.Marks.{Margin, Marking}
 use Rattle.minijinja_code_expr.specs.internal.NodeMarks.{call_begin}
 
 module _ {V K C F : Type 0} (f : Functions C F) (c : V → C) where
@@ -20,20 +20,8 @@ module _ {V K C F : Type 0} (f : Functions C F) (c : V → C) where
   pub called_object : (called operand : Node V K) → operand ≡ called → marks.expr f (expr_node c operand) ≡ marks.expr f (expr_node c called)
   called_object called operand h = ap (λ e. marks.expr f (expr_node c e)) h
 
--- a call of this, whose arguments are these
+-- a call of this up to the macro that it takes along, whose arguments are these
 module _ {C Y : Type 0} (k : Callee C) (base value : Marking) (given : Y → ℕ → Marking) (args : Y) (old : Margin) where
-  pub function_marks : (x : Text) (ys : Y) {a new : Margin} → function x ≡ k → ys ≡ args → a ≡ given ys 0 old → new ≡ here 1 a → new ≡ call_of k base value (given args) old
-  function_marks x ys is same s t = t ∙ ap (here 1) (s ∙ ap (λ zs. given zs 0 old) same) ∙ ap (λ j. call_of j base value (given args) old) is
-
-  pub method_marks : (o : Expr C) (x : Text) (ys : Y) (on : Marking) {a b new : Margin} → method o x ≡ k → ys ≡ args → on ≡ base → a ≡ on old → b ≡ given ys 1 a → new ≡ here 1 b → new ≡ call_of k base value (given args) old
-  method_marks o x ys on {a} is same same_on r s t =
-      t ∙ ap (here 1) (s ∙ ap (λ zs. given zs 1 a) same ∙ ap (given args 1) (r ∙ ap (λ (g : Marking). g old) same_on)) ∙ ap (λ j. call_of j base value (given args) old) is
-
-  pub object_marks : (o : Expr C) (ys : Y) (on : Marking) {a b new : Margin} → object o ≡ k → ys ≡ args → on ≡ value → a ≡ on old → b ≡ given ys 1 a → new ≡ here 1 b → new ≡ call_of k base value (given args) old
-  object_marks o ys on {a} is same same_on r s t =
-      t ∙ ap (here 1) (s ∙ ap (λ zs. given zs 1 a) same ∙ ap (given args 1) (r ∙ ap (λ (g : Marking). g old) same_on)) ∙ ap (λ j. call_of j base value (given args) old) is
-
-  -- the same up to a macro that it takes along
   pub method_begun_marks : (o : Expr C) (x : Text) (ys : Y) (on : Marking) {a new : Margin} → method o x ≡ k → ys ≡ args → on ≡ base → a ≡ on old → new ≡ given ys 1 a → new ≡ call_begin k base value (given args) old
   method_begun_marks o x ys on {a} is same same_on r s =
       s ∙ ap (λ zs. given zs 1 a) same ∙ ap (given args 1) (r ∙ ap (λ (g : Marking). g old) same_on) ∙ ap (λ j. call_begin j base value (given args) old) is

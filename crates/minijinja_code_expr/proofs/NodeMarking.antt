@@ -80,14 +80,14 @@ module _ {C F : Type 0} (f : Functions C F) where
   based e x u h = absurd (cc)
 
   -- a call on its operand
-  called_whole : (k : Callee C) (e x : Expr C) (g : ℕ → Marking) (u : Margin) → called_on_node k e ≡ Some x → call_ending k g (expr f x u) ≡ call_of k (base f e) (expr f e) g u
+  pub called_whole : (k : Callee C) (e x : Expr C) (g : ℕ → Marking) (u : Margin) → called_on_node k e ≡ Some x → call_ending k g (expr f x u) ≡ call_of k (base f e) (expr f e) g u
   called_whole (function y) e x g u h = absurd (cc)
   called_whole (block y) e x g u h = absurd (cc)
   called_whole (method o y) e x g u h = ap (λ w. here 1 (g 1 w)) (sym (based e x u h))
   called_whole (object o) e x g u h = let same : e ≡ x = cc in ap (λ z. here 1 (g 1 (expr f z u))) (sym same)
 
   -- and one on none
-  called_alone : (k : Callee C) (e : Expr C) (g : ℕ → Marking) (u : Margin) → callee (bare_expr e) ≡ k → called_on_node k e ≡ None → call_ending k g u ≡ call_of k (base f e) (expr f e) g u
+  pub called_alone : (k : Callee C) (e : Expr C) (g : ℕ → Marking) (u : Margin) → callee (bare_expr e) ≡ k → called_on_node k e ≡ None → call_ending k g u ≡ call_of k (base f e) (expr f e) g u
   called_alone (function y) e g u same h = refl
   called_alone (block y) e g u same h = refl
   called_alone (method o y) (attribute a z s) g u same h = absurd (cc)

@@ -1,7 +1,10 @@
--- What is no slice, no operator, no chain of comparisons and no if expression is no operation.
-use Rattle.std.proofs.Common.{◌≡◌, sym, ◌∙◌}
+-- A slice, an operator, a chain of comparisons and an if expression are operations, and nothing else is;
+-- only an if expression has a test.
+use Rattle.std.proofs.Common.{◌≡◌, ◌⊎◌, inl, inr, None, refl, sym, ◌∙◌, subst}
 use Rattle.minijinja_tree.specs.Erasure.{expr_tree}
+use Rattle.minijinja_tree.specs.SpannedErasure.{expr_node}
 use Rattle.minijinja_tree_expr.specs.declared.ast.BinOp.{BinOp}
+use Rattle.minijinja_tree_expr.specs.declared.ast.CallArg.TheBlock as block
 use Rattle.minijinja_tree_expr.specs.declared.ast.CallArg.TheOpen as layer
 use Rattle.minijinja_tree_expr.specs.declared.ast.Compare.{Compare}
 use Rattle.minijinja_tree_expr.specs.declared.ast.Expr.{Expr, out-Expr, roll-Expr, roll-out-Expr}
@@ -11,7 +14,11 @@ use Rattle.minijinja_tree_expr.specs.declared.ast.IfExpr.{IfExpr}
 use Rattle.minijinja_tree_expr.specs.declared.ast.Slice.{Slice}
 use Rattle.minijinja_tree_expr.specs.declared.ast.Spanned.{Spanned}
 use Rattle.minijinja_tree_expr.specs.declared.ast.UnaryOp.{UnaryOp}
-use Rattle.minijinja_code_expr.specs.internal.Leading.{IsOperation}
+use Rattle.minijinja_tree_expr.proofs.SpannedNodes.{compare_is}
+use Rattle.minijinja_tree.specs.Nodes.{node_of}
+use Rattle.minijinja_code_expr.specs.internal.Leading.{IsOperation, test_in}
+use Rattle.minijinja_code_expr.specs.internal.NodeMarks.{test_node}
+use Rattle.minijinja_code_expr.proofs.Arms.{slice_arm, unary_arm, binary_arm, compare_arm, if_arm}
 
 -- what this variant does not hold
 abbrev IsNot : {V F N : Type 0} → (Spanned N → Expr V F) → Expr V F → Type 0
@@ -57,6 +64,13 @@ unfolding out-Expr denote.Hole.Carrier.out
 is_if {V} {F} p t e o s = from_if (IfExpr' p t e o s) _ (roll-out-Expr V F (IfExpr' p t e o s))
 
 module _ {V F C : Type 0} (c : V → C) where
+  pub is_operation : (e : Expr V F) → Is expr.Slice e ⊎ (Is expr.UnaryOp e ⊎ (Is expr.BinOp e ⊎ (Is expr.Compare e ⊎ Is expr.IfExpr e))) → IsOperation (expr_tree c e)
+  is_operation e (inl w) = subst IsOperation (sym (slice_arm c e w.0 _ w.1 refl)) tt
+  is_operation e (inr (inl w)) = subst IsOperation (sym (unary_arm c e w.0 _ w.1 refl)) tt
+  is_operation e (inr (inr (inl w))) = subst IsOperation (sym (binary_arm c e w.0 _ w.1 refl)) tt
+  is_operation e (inr (inr (inr (inl w)))) = subst IsOperation (sym (compare_arm c e w.0 (node_of w.0) w.1 refl ∙ compare_is c (node_of w.0))) tt
+  is_operation e (inr (inr (inr (inr w)))) = subst IsOperation (sym (if_arm c e w.0 _ w.1 refl)) tt
+
   pub no_operation : (e : Expr V F) → IsNot expr.Slice e → IsNot expr.UnaryOp e → IsNot expr.BinOp e → IsNot expr.Compare e → IsNot expr.IfExpr e → IsOperation (expr_tree c e) → ⊥
   no_operation (Slice' p e start stop step s) a b d k i w = let n = is_slice p e start stop step s in a n.0 n.1
   no_operation (UnaryOp' p op e s) a b d k i w = let n = is_unary p op e s in b n.0 n.1
@@ -64,3 +78,14 @@ module _ {V F C : Type 0} (c : V → C) where
   no_operation (Compare' p q s) a b d k i w = let n = is_compare p q s in k n.0 n.1
   no_operation (IfExpr' p t e o s) a b d k i w = let n = is_if p t e o s in i n.0 n.1
   no_operation _ a b d k i w = w
+
+  -- what is no if expression has no test
+  pub no_test : (e : Expr V F) → IsNot expr.IfExpr e → test_in (expr_tree c e) ≡ None
+  no_test (IfExpr' p t e o s) i = let n = is_if p t e o s in absurd (i n.0 n.1)
+  no_test (Compare' p (block.struct-Compare e k ops) s) i = refl
+  no_test _ i = refl
+
+  pub no_test_node : (e : Expr V F) → IsNot expr.IfExpr e → test_node (expr_node c e) ≡ None
+  no_test_node (IfExpr' p t e o s) i = let n = is_if p t e o s in absurd (i n.0 n.1)
+  no_test_node (Compare' p (block.struct-Compare e k ops) s) i = refl
+  no_test_node _ i = refl

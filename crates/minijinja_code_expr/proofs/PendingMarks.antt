@@ -34,26 +34,36 @@ module _ {V K C F : Type 0} (f : Functions C F) (c : V → C) where
       let w : PendingNode V K = record { node = node; place = place; outer = outer } in
       after (reverse (ws ++ w ∷ [])) t
 
+  module _ (e operand : Expr V K) (place : ℕ) (outer : Span) (t u : Margin) where
+    -- a node whose operand comes next
+    pub one_plain : test_node (expr_node c e) ≡ None → leading_node (expr_node c e) ≡ Some (expr_node c operand) → place ≡ length t.marks → outer ≡ t.span → u ≡ begun (expr_node c e) t →
+        finished f (expr_node c e) place outer (expr f (expr_node c operand) u) ≡ expr f (expr_node c e) t
+    one_plain n h at eo eu =
+        ap₂ (λ o v. finished f (expr_node c e) place o (expr f (expr_node c operand) v)) eo eu ∙ whole_plain f (expr_node c e) (expr_node c operand) t place n h at
+
+    -- or its test and the test's jump before that
+    pub one_tested : (condition : Expr V K) → test_node (expr_node c e) ≡ Some (expr_node c condition) → leading_node (expr_node c e) ≡ Some (expr_node c operand) → outer ≡ t.span → u ≡ here 1 (expr f (expr_node c condition) (begun (expr_node c e) t)) →
+        finished f (expr_node c e) place outer (expr f (expr_node c operand) u) ≡ expr f (expr_node c e) t
+    one_tested condition n h eo eu =
+        ap₂ (λ o v. finished f (expr_node c e) place o (expr f (expr_node c operand) v)) eo eu ∙ whole_tested f (expr_node c e) (expr_node c condition) (expr_node c operand) t place n h
+
   module _ (ws : List (PendingNode V K)) (w : PendingNode V K) (operand : Expr V K) (t u whole : Margin) where
-    -- its operand comes next
+    -- one more waits
     pub waits_plain : test_node (expr_node c w.node.now) ≡ None → leading_node (expr_node c w.node.now) ≡ Some (expr_node c operand) → w.place ≡ length t.marks → w.outer ≡ t.span → u ≡ begun (expr_node c w.node.now) t →
         after (reverse ws) (expr f (expr_node c w.node.now) t) ≡ whole → after (reverse (ws ++ w ∷ [])) (expr f (expr_node c operand) u) ≡ whole
     waits_plain n h at eo eu rest =
         after_more ws w (expr f (expr_node c operand) u)
-        ∙ ap (after (reverse ws))
-        (ap₂ (λ o v. finished f (expr_node c w.node.now) w.place o (expr f (expr_node c operand) v)) eo eu ∙ whole_plain f (expr_node c w.node.now) (expr_node c operand) t w.place n h at)
+        ∙ ap (after (reverse ws)) (one_plain w.node.now operand w.place w.outer t u n h at eo eu)
         ∙ rest
 
-    -- or its test and the test's jump before that
     pub waits_tested : (condition : Expr V K) → test_node (expr_node c w.node.now) ≡ Some (expr_node c condition) → leading_node (expr_node c w.node.now) ≡ Some (expr_node c operand) → w.outer ≡ t.span → u ≡ here 1 (expr f (expr_node c condition) (begun (expr_node c w.node.now) t)) →
         after (reverse ws) (expr f (expr_node c w.node.now) t) ≡ whole → after (reverse (ws ++ w ∷ [])) (expr f (expr_node c operand) u) ≡ whole
     waits_tested condition n h eo eu rest =
         after_more ws w (expr f (expr_node c operand) u)
-        ∙ ap (after (reverse ws))
-        (ap₂ (λ o v. finished f (expr_node c w.node.now) w.place o (expr f (expr_node c operand) v)) eo eu ∙ whole_tested f (expr_node c w.node.now) (expr_node c condition) (expr_node c operand) t w.place n h)
+        ∙ ap (after (reverse ws)) (one_tested w.node.now operand w.place w.outer t u condition n h eo eu)
         ∙ rest
 
-bare_called : {C : Type 0} (k : Callee C) (e : spanned.Expr C) → is_some (called_on k) ≡ false → called_on_node k e ≡ None
+pub bare_called : {C : Type 0} (k : Callee C) (e : spanned.Expr C) → is_some (called_on k) ≡ false → called_on_node k e ≡ None
 bare_called (function x) e h = refl
 bare_called (block x) e h = refl
 bare_called (method o x) e h = absurd (cc)

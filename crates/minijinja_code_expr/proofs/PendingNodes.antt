@@ -28,6 +28,10 @@ module _ {C F : Type 0} (f : Functions C F) where
   abbrev pub Begins : Expr C → (place : ℕ) (old new : Made C) → Type 0
   Begins e place old new = (later : Made C) → Adds new later (piece_of f (leading e)) → Ready f e place old later
 
+  -- and then the leading operand
+  pub begins_ready : (e operand : Expr C) (place : ℕ) (old held now : Made C) → Begins e place old held → leading e ≡ Some operand → Adds held now (expr f operand) → Ready f e place old now
+  begins_ready e operand place old held now begins leads s = begins now (subst (λ o. Adds held now (piece_of f o)) (sym leads) s)
+
   -- of an if expression its test, and a hole for the jump of the test
   pub begun_test : (e t : Expr C) {place : ℕ} {old tested held : Made C} → test_in e ≡ Some t → Adds old tested (expr f t) → place ≡ length tested.code → Adds tested held (one hole) → Begins e place old held
   begun_test (if_expr t' a b) t is s at h later more =
@@ -53,7 +57,7 @@ module _ {V K C F : Type 0} (f : Functions C F) (c : V → C) (old : Made C) (wh
       ((later : Made C) → Adds now later (expr f (expr_tree c w.node.now)) → Rest (reverse ws) later) → (later : Made C) → Adds held later (expr f operand) → Rest (reverse (ws ++ w ∷ [])) later
   rest_more ws w operand now held begins leads is_whole small rest later s =
       subst (λ l. Rest l later) (sym (reverse-append ws (w ∷ [])))
-      (now, begins later (subst (λ o. Adds held later (piece_of f o)) (sym leads) s), is_whole, small, rest)
+      (now, begins_ready f (expr_tree c w.node.now) operand w.place now held later begins leads s, is_whole, small, rest)
 
   -- the one that waited least is made
   pub rest_less : (ws : List (PendingNode V K)) (w : PendingNode V K) (now next : Made C) → Finishes f (expr_tree c w.node.now) w.place now next → Rest (reverse (ws ++ w ∷ [])) now → Rest (reverse ws) next

@@ -1,4 +1,5 @@
 -- What the crate says of its own private functions.
+pub mod AbsentParts
 pub mod Comparing
 pub mod ChainMarks
 pub mod Filtering

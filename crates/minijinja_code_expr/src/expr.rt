@@ -10,15 +10,19 @@ ghost use Rattle.minijinja_tree.specs.Tree as tree;
 ghost use Rattle.minijinja_semantics.specs.Layout as layout;
 ghost use Rattle.minijinja_semantics.specs.Marks as marks;
 ghost use Rattle.minijinja_code_expr.specs.internal.Calling.{captured};
+ghost use Rattle.minijinja_code_expr.specs.private.AbsentParts.{value_of};
 ghost use Rattle.minijinja_code_expr.specs.internal.Leading.{Finishes, IsLiteral, IsOperation, leading};
 ghost use Rattle.minijinja_code_expr.specs.internal.NodeMarks.{FinishesMarks, begun, call_ending, ending, given_marks};
 ghost use Rattle.minijinja_emitter.specs.internal.AtEmitter.{made_of, margin_of};
 ghost use Rattle.minijinja_emitter.specs.internal.Making.{Adds};
 
+use crate::absent::{Absent, load_absent};
 use crate::arguments::arguments;
 use crate::branches::{begin_else, end_else};
 use crate::chain::compare;
-use crate::leading::{begin, has_leading_operand, leading_operand, test_of};
+use crate::leading::{
+    begin, called_operand, has_leading_operand, is_called_on, leading_operand, test_of,
+};
 use crate::literals::{load_constant, load_list, load_map, load_tuple};
 use crate::operators::{begin_right, end_binary, end_unary, join_constant};
 use crate::pending::{PendingNode, PendingNodes};
@@ -29,7 +33,9 @@ use minijinja_syntax::tokens::Span;
 use minijinja_tree::ast::{BinOp, Call, CallType, Expr};
 use minijinja_value::value::TemplateValue;
 
-/// Adds the code of an expression.
+/// Adds the code of an expression. Before the leading operand of an if expression stand its test and
+/// the reserved place of the test's jump. Most leading operands begin with no operand themselves, so
+/// for one of them nothing is kept in a list.
 #[cycle(expr)]
 pub fn expression<'s, V: TemplateValue>(
     code: &mut Emitter<'s, V>,
@@ -41,17 +47,32 @@ pub fn expression<'s, V: TemplateValue>(
     ensures marked { OnOk result (margin_of code.new ≡ marks.expr V.functions
         (expr_node V.contents expr.now) (margin_of code.old)) }
 {
-    if has_leading_operand(expr) {
-        return nested(code, expr);
+    if !has_leading_operand(expr) {
+        return leaf(code, expr);
     }
-    leaf(code, expr)
+    let outer = begin(code, expr);
+    let place = match test_of(expr) {
+        Some(test) => {
+            expression(code, test)?;
+            code.reserve()?
+        }
+        None => code.place(),
+    };
+    let operand = leading_operand(expr);
+    if has_leading_operand(operand) {
+        nested(code, operand)?;
+    } else {
+        leaf(code, operand)?;
+    }
+    finish(code, expr, place, outer)?;
+    code.close(outer);
+    Ok(())
 }
 
-/// Adds the code of an expression that begins with that of an operand. A loop goes down the operands
-/// that nodes begin with, so that a row of operators, attributes, filters or calls takes no more stack
-/// than one of them. Before the leading operand of an if expression stand its test and the reserved
-/// place of the test's jump.
+/// Adds the code of an expression. A loop goes down the operands that nodes begin with, so that a row
+/// of operators, attributes, filters or calls takes no more stack than one of them.
 #[cycle(expr)]
+#[inline(never)]
 fn nested<'s, V: TemplateValue>(
     code: &mut Emitter<'s, V>,
     expr: &Expr<'s, V>,
@@ -160,11 +181,8 @@ fn finish<'s, V: TemplateValue>(
             code.add(Instruction::GetItem)
         }
         Expr::Call(call) => finish_call(code, call.node()),
-        Expr::Slice(_) => finish_operation(code, node, place, outer),
-        Expr::UnaryOp(_) => finish_operation(code, node, place, outer),
-        Expr::BinOp(_) => finish_operation(code, node, place, outer),
-        Expr::Compare(_) => finish_operation(code, node, place, outer),
-        Expr::IfExpr(_) => finish_operation(code, node, place, outer),
+        Expr::Slice(_) | Expr::UnaryOp(_) | Expr::BinOp(_) | Expr::Compare(_) | Expr::IfExpr(_) =>
+            finish_operation(code, node, place, outer),
     }
 }
 
@@ -188,9 +206,9 @@ fn finish_operation<'s, V: TemplateValue>(
     match node {
         Expr::Slice(slice) => {
             let slice = slice.node();
-            optional(code, &slice.start, V::none())?;
-            optional(code, &slice.stop, V::none())?;
-            optional(code, &slice.step, V::none())?;
+            optional(code, &slice.start, Absent::None)?;
+            optional(code, &slice.stop, Absent::None)?;
+            optional(code, &slice.step, Absent::None)?;
             code.add(Instruction::Slice)
         }
         Expr::UnaryOp(operation) => {
@@ -207,7 +225,7 @@ fn finish_operation<'s, V: TemplateValue>(
         }
         Expr::IfExpr(choice) => {
             let end = begin_else(code, place)?;
-            optional(code, &choice.node().false_expr, V::silent_undefined())?;
+            optional(code, &choice.node().false_expr, Absent::SilentUndefined)?;
             end_else(code, end);
             Ok(())
         }
@@ -332,17 +350,17 @@ fn literal<'s, V: TemplateValue>(
 fn optional<'s, V: TemplateValue>(
     code: &mut Emitter<'s, V>,
     expr: &Option<Expr<'s, V>>,
-    absent: V,
+    absent: Absent,
 ) -> Result<(), OutOfMemory>
     requires { IsWholeIfAny (optional_of V.contents expr.now) }
     ensures added { OnOk result (Adds (made_of V.contents code.old) (made_of V.contents code.new)
-        (layout.optional V.functions (V.contents absent) (optional_of V.contents expr.now))) }
+        (layout.optional V.functions (value_of V.functions absent) (optional_of V.contents expr.now))) }
     ensures marked { OnOk result (margin_of code.new ≡ marks.optional V.functions
         (node.optional_of V.contents expr.now) (margin_of code.old)) }
 {
     match expr {
         Some(expr) => expression(code, expr),
-        None => code.add(Instruction::LoadConst(absent)),
+        None => load_absent(code, absent),
     }
 }
 
@@ -384,23 +402,11 @@ fn parts_of_call<'s, V: TemplateValue>(
         (given_marks V.functions (node.args_of V.contents call.now.args.items))
         (margin_of code.old)) }
 {
-    match call.identify_call() {
-        CallType::Function(name) => {
-            let count = arguments(code, &call.args, 0)?;
-            code.add(Instruction::CallFunction(name, count))
-        }
-        CallType::Method(object, name) => {
-            expression(code, object)?;
-            let count = arguments(code, &call.args, 1)?;
-            code.add(Instruction::CallMethod(name, count))
-        }
-        CallType::Block(name) => capture_block(code, name),
-        CallType::Object(object) => {
-            expression(code, object)?;
-            let count = arguments(code, &call.args, 1)?;
-            code.add(Instruction::CallObject(count))
-        }
+    if !is_called_on(call) {
+        return finish_call(code, call);
     }
+    expression(code, called_operand(call))?;
+    finish_call(code, call)
 }
 
 /// Applies a filter, by its name, to its arguments; their number is `None` where it is on top of

@@ -70,7 +70,7 @@ pub(crate) fn has_leading_operand<V: TemplateValue>(node: &Expr<'_, V>) -> bool
 }
 
 /// Whether a call is made on something: a function and a block are called by their names.
-fn is_called_on<V: TemplateValue>(call: &Call<'_, V>) -> bool
+pub(crate) fn is_called_on<V: TemplateValue>(call: &Call<'_, V>) -> bool
     ensures { result ≡ is_some (called_on (callee (expr_tree V.contents call.now.expr))) }
 {
     match call.identify_call() {
@@ -114,7 +114,7 @@ pub(crate) fn leading_operand<'a, 's, V: TemplateValue>(node: &'a Expr<'s, V>) -
 }
 
 /// The object that a call is made on.
-fn called_operand<'a, 's, V: TemplateValue>(call: &'a Call<'s, V>) -> &'a Expr<'s, V>
+pub(crate) fn called_operand<'a, 's, V: TemplateValue>(call: &'a Call<'s, V>) -> &'a Expr<'s, V>
     requires { is_some (called_on (callee (expr_tree V.contents call.now.expr))) ≡ true }
     ensures operand { called_on (callee (expr_tree V.contents call.now.expr)) ≡ Some
         (expr_tree V.contents result.now) }
@@ -140,19 +140,6 @@ pub(crate) fn test_of<'a, 's, V: TemplateValue>(node: &'a Expr<'s, V>) -> Option
 {
     match node {
         Expr::IfExpr(choice) => Some(&choice.node().test_expr),
-        Expr::Var(_) => None,
-        Expr::Const(_) => None,
-        Expr::Slice(_) => None,
-        Expr::UnaryOp(_) => None,
-        Expr::BinOp(_) => None,
-        Expr::Compare(_) => None,
-        Expr::Filter(_) => None,
-        Expr::Test(_) => None,
-        Expr::GetAttr(_) => None,
-        Expr::GetItem(_) => None,
-        Expr::Call(_) => None,
-        Expr::List(_) => None,
-        Expr::Tuple(_) => None,
-        Expr::Map(_) => None,
+        _ => None,
     }
 }

@@ -1,6 +1,7 @@
 //! The code of expressions: from the expressions of a tree to their instructions.
 #![tactic(auto)]
 
+mod absent;
 pub mod arguments;
 pub mod branches;
 pub mod calls;

@@ -4,7 +4,7 @@ use Rattle.minijinja_tree.specs.Erasure.{bin_op, expr_tree, args_of, optional_of
 use Rattle.minijinja_tree.specs.WellFormed.{IsWhole, AreArguments, arg_count, most_arguments}
 use Rattle.minijinja_tree_expr.specs.declared.ast.Expr.{size-Expr, the_lemmas}
 use Rattle.minijinja_semantics.specs.Pieces.{one}
-use Rattle.minijinja_code_expr.specs.internal.Leading.{IsLiteral, IsOperation, test_in}
+use Rattle.minijinja_code_expr.specs.internal.Leading.{IsLiteral, test_in}
 use Rattle.minijinja_emitter.specs.internal.AtEmitter.{made_of}
 use Rattle.minijinja_code_expr.specs.private.PendingNodes.{pending_of}
 use Rattle.minijinja_tree.specs.SpannedErasure as node
@@ -20,19 +20,17 @@ use Rattle.minijinja_emitter.specs.internal.Making.{Adds}
 use Rattle.minijinja_code_expr.specs.internal.NodeMarks.{finished}
 use Rattle.minijinja_code_expr.proofs.ChainMarking.{ahead_marks, ahead_next, later_comparison}
 use Rattle.minijinja_code_expr.proofs.NodeMarking.{Later, expr_later, later_then, whole_leaf}
-use Rattle.minijinja_code_expr.proofs.PendingMarks.{after, after_more, no_leading, with_one_more, waits_plain, waits_tested}
+use Rattle.minijinja_code_expr.proofs.PendingMarks.{after, after_more, no_leading, one_plain, one_tested, with_one_more, waits_plain, waits_tested}
 use Rattle.minijinja_emitter.proofs.Adding.{adds_as}
-use Rattle.minijinja_tree.specs.Nodes.{node_of}
-use Rattle.minijinja_tree_expr.proofs.SpannedNodes.{compare_is}
 use Rattle.minijinja_code_expr.proofs.Arms.{whole_if_false, compare_arm, attribute_arm, item_arm, whole_slice_start, whole_left, whole_right, whole_key, whole_compare, slice_arm, unary_arm, binary_arm, if_arm, filter_arm, test_arm, call_arm, list_arm, tuple_arm, map_arm, whole_slice_stop, whole_slice_step, whole_filter, whole_test_args, whole_test_few, whole_call_args, whole_call_few}
 use Rattle.minijinja_code_expr.proofs.Finishing.{constant_finishes, variable_finishes, attribute_finishes, item_finishes, block_finishes, finishes_as, slice_finishes, binary_finishes, binary_joined, binary_unjoined, filter_finishes, filter_arguments, test_finishes, function_finishes, method_finishes, object_finishes, leading_whole, test_whole}
-use Rattle.minijinja_code_expr.proofs.OperationNodes.{no_operation}
-use Rattle.minijinja_code_expr.proofs.PendingNodes.{Begins, begun_none, begun_test, Rest, rest_more, rest_less, rest_whole, rest_size, leaf_ready, rest_ready}
+use Rattle.minijinja_code_expr.proofs.OperationNodes.{is_operation, no_operation}
+use Rattle.minijinja_code_expr.proofs.PendingNodes.{Begins, begins_ready, begun_none, begun_test, Rest, rest_more, rest_less, rest_whole, rest_size, leaf_ready, rest_ready}
 use Rattle.minijinja_tree_expr.specs.declared.ast.Compare.{out-Compare}
 use Rattle.minijinja_code_expr.specs.private.Comparing.{places_of}
 use Rattle.minijinja_code_expr.proofs.ChainTurns.{turning_first, turn, turn_held, turn_holds, turn_stops}
 use Rattle.minijinja_code_expr.proofs.ChainEnds.{whole_parts, compare_fails, compare_holds, compare_closes}
-use Rattle.minijinja_code_expr.proofs.+expr.Goals.{expr::nested-in-Some+in_ok-expression-in-Some+in_ok-place-in-Some, expr::nested-in-None, chain::compare-in-Some-true, chain::compare-in-None}
+use Rattle.minijinja_code_expr.proofs.+expr.Goals.{expr::nested-in-Some+in_ok-expression-in-Some+in_ok-place-in-Some, expr::nested-in-None, expr::expression-in-Some+in_ok-expression-in-Some+in_ok-place-in-Some, expr::expression-in-None, expr::expression-then-has_leading_operand+in_ok-nested, expr::expression-else-has_leading_operand+in_ok-leaf, chain::compare-in-Some-true, chain::compare-in-None}
 use Rattle.minijinja_tree_expr.specs.declared.ast.Call.{the_lemmas as call_lemmas}
 use Rattle.minijinja_tree_expr.specs.declared.ast.BinOp.{the_lemmas as binary_lemmas}
 use Rattle.minijinja_code_expr.proofs.Branching.{if_finishes}
@@ -57,12 +55,79 @@ expr::nested-expression-requires g t c =
     let small = c.loop-code.invariant.small in
     λ κs live. (omega (arith, c.in-Some.ensures.smaller, small, c.decreases), (search rules, (search rules, test_whole e (expr_tree v c.in-Some.test.now) is c.loop-code.invariant.whole)))
 
+pub expr::expression-expression-requires : goal.expr::expression-expression-requires
+expr::expression-expression-requires g t c =
+    let v = g.V.TemplateValue.contents in
+    let e = expr_tree v c.args.expr.now in
+    λ κs live. (omega (arith, c.in-Some.ensures.smaller, c.decreases), (search rules, (search rules, test_whole e (expr_tree v c.in-Some.test.now) (sym c.in-Some.ensures.test) c.requires)))
+
 pub expr::expression-nested-requires : goal.expr::expression-nested-requires
-expr::expression-nested-requires g t c = λ κs live. (omega (arith, c.decreases), (search rules, (search rules, c.requires)))
+expr::expression-nested-requires g t c =
+    let v = g.V.TemplateValue.contents in
+    let operand = c.leading_operand-operand in
+    λ κs live. (omega (arith, operand.ensures.smaller, c.decreases), (search rules, (search rules, leading_whole (expr_tree v c.args.expr.now) (expr_tree v operand.result.now) operand.ensures.operand c.requires)))
+
+pub expr::expression-leaf-requires-else-has_leading_operand : goal.expr::expression-leaf-requires-else-has_leading_operand
+expr::expression-leaf-requires-else-has_leading_operand g t c =
+    let v = g.V.TemplateValue.contents in
+    let operand = c.leading_operand-operand in
+    λ κs live. (omega (arith, operand.ensures.smaller, c.decreases), (search rules, (search rules, (leading_whole (expr_tree v c.args.expr.now) (expr_tree v operand.result.now) operand.ensures.operand c.requires, sym c.has_leading_operand-2.ensures ∙ c.if-has_leading_operand.false))))
+
+pub expr::expression-finish-requires : goal.expr::expression-finish-requires
+expr::expression-finish-requires g t c = λ κs live. (omega (arith, c.decreases), (search rules, (search rules, c.requires)))
+
+pub expr::expression-returns-clause-added : goal.expr::expression-returns-clause-added
+expr::expression-returns-clause-added g t c =
+    let v = g.V.TemplateValue.contents in
+    let f = g.V.TemplateValue.functions in
+    let e = expr_tree v c.args.expr.now in
+    let x = expr_tree v c.leading_operand-operand.result.now in
+    let begun : Begins f e c.match-test_of.place (made_of v c.begin-outer.new.code) (made_of v c.match-test_of.code) = elim c.match-test_of.branch [
+      | expr::expression-in-Some+in_ok-expression-in-Some+in_ok-place-in-Some w ↦ rw (w.code-is, w.place-is) (begun_test f e (expr_tree v w.in-Some.test.now) (sym w.in-Some.ensures.test) w.in_ok-expression-in-Some.ensures.added w.in_ok-place-in-Some.ensures.place w.in_ok-place-in-Some.ensures.added)
+      | expr::expression-in-None w ↦ rw (w.code-is, w.place-is) (begun_none f e (sym w.in-None.ensures.test) w.place-place.ensures)
+    ] in
+    let more : Adds (made_of v c.match-test_of.code) (made_of v c.if-has_leading_operand.code) (layout.expr f x) = elim c.if-has_leading_operand.branch [
+      | expr::expression-then-has_leading_operand+in_ok-nested w ↦ rw w.code-is w.in_ok-nested.ensures.added
+      | expr::expression-else-has_leading_operand+in_ok-leaf w ↦ rw w.code-is w.in_ok-leaf.ensures.added
+    ] in
+    let added = c.in_ok-finish.ensures.added (made_of v c.begin-outer.new.code) (begins_ready f e x c.match-test_of.place (made_of v c.begin-outer.new.code) (made_of v c.match-test_of.code) (made_of v c.if-has_leading_operand.code) begun c.leading_operand-operand.ensures.operand more) in
+    subst (λ m. Adds (made_of v c.args.code.now) m (layout.expr f e)) (sym c.close.ensures.made) (subst (λ m. Adds m (made_of v c.finish.new.code) (layout.expr f e)) c.begin-outer.ensures.made added)
+
+pub expr::expression-returns-clause-marked : goal.expr::expression-returns-clause-marked
+expr::expression-returns-clause-marked g t c =
+    let v = g.V.TemplateValue.contents in
+    let f = g.V.TemplateValue.functions in
+    let e = expr_tree v c.args.expr.now in
+    let node = expr_node v c.args.expr.now in
+    let operand = c.leading_operand-operand.result.now in
+    let x = expr_tree v operand in
+    let old = margin_of c.args.code.now in
+    let begun : Begins f e c.match-test_of.place (made_of v c.begin-outer.new.code) (made_of v c.match-test_of.code) = elim c.match-test_of.branch [
+      | expr::expression-in-Some+in_ok-expression-in-Some+in_ok-place-in-Some w ↦ rw (w.code-is, w.place-is) (begun_test f e (expr_tree v w.in-Some.test.now) (sym w.in-Some.ensures.test) w.in_ok-expression-in-Some.ensures.added w.in_ok-place-in-Some.ensures.place w.in_ok-place-in-Some.ensures.added)
+      | expr::expression-in-None w ↦ rw (w.code-is, w.place-is) (begun_none f e (sym w.in-None.ensures.test) w.place-place.ensures)
+    ] in
+    let more : Adds (made_of v c.match-test_of.code) (made_of v c.if-has_leading_operand.code) (layout.expr f x) = elim c.if-has_leading_operand.branch [
+      | expr::expression-then-has_leading_operand+in_ok-nested w ↦ rw w.code-is w.in_ok-nested.ensures.added
+      | expr::expression-else-has_leading_operand+in_ok-leaf w ↦ rw w.code-is w.in_ok-leaf.ensures.added
+    ] in
+    let then : margin_of c.if-has_leading_operand.code ≡ marks.expr f (expr_node v operand) (margin_of c.match-test_of.code) = elim c.if-has_leading_operand.branch [
+      | expr::expression-then-has_leading_operand+in_ok-nested w ↦ rw w.code-is w.in_ok-nested.ensures.marked
+      | expr::expression-else-has_leading_operand+in_ok-leaf w ↦ rw w.code-is w.in_ok-leaf.ensures.marked
+    ] in
+    let left : finished f node c.match-test_of.place c.begin-outer.result (marks.expr f (expr_node v operand) (margin_of c.match-test_of.code)) ≡ marks.expr f node old = elim c.match-test_of.branch [
+      | expr::expression-in-Some+in_ok-expression-in-Some+in_ok-place-in-Some w ↦ rw (w.code-is, w.place-is)
+          (one_tested f v c.args.expr.now operand w.in_ok-place-in-Some.place c.begin-outer.result old (margin_of w.reserve.new.self) w.in-Some.test.now (sym w.in-Some.ensures.node) c.leading_operand-operand.ensures.node c.begin-outer.ensures.outer
+          (w.in_ok-place-in-Some.ensures.marked ∙ ap (here 1) (w.in_ok-expression-in-Some.ensures.marked ∙ ap (marks.expr f (expr_node v w.in-Some.test.now)) c.begin-outer.ensures.marked)))
+      | expr::expression-in-None w ↦ rw (w.code-is, w.place-is)
+          (one_plain f v c.args.expr.now operand w.place-place.result c.begin-outer.result old (margin_of c.begin-outer.new.code) (sym w.in-None.ensures.node) c.leading_operand-operand.ensures.node
+          (w.place-place.ensures ∙ ap (λ m. length m.code) c.begin-outer.ensures.made ∙ sym (as_many v c.args.code.now)) c.begin-outer.ensures.outer c.begin-outer.ensures.marked)
+    ] in
+    c.close.ensures.marked ∙ c.in_ok-finish.ensures.marked (made_of v c.begin-outer.new.code) (begins_ready f e x c.match-test_of.place (made_of v c.begin-outer.new.code) (made_of v c.match-test_of.code) (made_of v c.if-has_leading_operand.code) begun c.leading_operand-operand.ensures.operand more)
+    ∙ ap (finished f node c.match-test_of.place c.begin-outer.result) then ∙ left
 
 pub expr::expression-leaf-requires : goal.expr::expression-leaf-requires
 expr::expression-leaf-requires g t c =
-    λ κs live. (omega (arith, c.decreases), (search rules, (search rules, (c.requires, sym c.has_leading_operand.ensures ∙ c.if-has_leading_operand.false))))
+    λ κs live. (omega (arith, c.decreases), (search rules, (search rules, (c.requires, sym c.has_leading_operand.ensures ∙ c.if-not-has_leading_operand.true))))
 
 pub expr::nested-leaf-requires : goal.expr::nested-leaf-requires
 expr::nested-leaf-requires g t c =
@@ -199,9 +264,9 @@ expr::finish_operation-returns-in_ok-optional-in-Slice-3-clause-added g t c =
     let n = c.node-slice.result.now in
     ok_gives c.add.result (λ s. finishes_as f c.args.place (made_of v c.args.code.now) (made_of v c.add.new.self) (slice_arm v c.args.node.now c.in-Slice.slice n c.in-Slice.is c.node-slice.ensures)
     (slice_finishes f (expr_tree v n.expr) (optional_of v n.start) (optional_of v n.stop) (optional_of v n.step)
-    (adds_as (ap (λ d. layout.optional f d (optional_of v n.start)) c.none.ensures) c.in_ok-optional-in-Slice.ensures.added)
-    (adds_as (ap (λ d. layout.optional f d (optional_of v n.stop)) c.none-in-Slice.ensures) c.in_ok-optional-in-Slice-2.ensures.added)
-    (adds_as (ap (λ d. layout.optional f d (optional_of v n.step)) c.none-in-Slice-2.ensures) c.in_ok-optional-in-Slice-3.ensures.added) s)) c.add.ensures.added
+    c.in_ok-optional-in-Slice.ensures.added
+    c.in_ok-optional-in-Slice-2.ensures.added
+    c.in_ok-optional-in-Slice-3.ensures.added s)) c.add.ensures.added
 
 pub expr::finish_operation-optional-requires-in-IfExpr : goal.expr::finish_operation-optional-requires-in-IfExpr
 expr::finish_operation-optional-requires-in-IfExpr g t c =
@@ -215,7 +280,7 @@ expr::finish_operation-returns-in_ok-optional-in-IfExpr-clause-added g t c =
     let n = c.node-in-IfExpr.result.now in
     finishes_as f c.args.place (made_of v c.args.code.now) (made_of v c.end_else.new.code) (if_arm v c.args.node.now c.in-IfExpr.choice n c.in-IfExpr.is c.node-in-IfExpr.ensures)
     (if_finishes f (expr_tree v n.test_expr) (expr_tree v n.true_expr) (optional_of v n.false_expr) c.in_ok-end-in-IfExpr.ensures.begun
-    (adds_as (ap (λ d. layout.optional f d (optional_of v n.false_expr)) c.silent_undefined.ensures) c.in_ok-optional-in-IfExpr.ensures.added) c.end_else.ensures.ended)
+    c.in_ok-optional-in-IfExpr.ensures.added c.end_else.ensures.ended)
 
 pub expr::finish_binary-returns-clause-added : goal.expr::finish_binary-returns-clause-added
 expr::finish_binary-returns-clause-added g t c =
@@ -291,28 +356,7 @@ expr::finish_call-returns-in_ok-count-in-Object-clause-added g t c =
 
 pub expr::finish-finish_operation-requires : goal.expr::finish-finish_operation-requires
 expr::finish-finish_operation-requires g t c =
-    let is = slice_arm g.V.TemplateValue.contents c.args.node.now c.in-Slice.field-0 _ c.in-Slice.is refl in
-    λ κs live. (omega (arith, c.decreases), (search rules, (search rules, (subst IsOperation (sym is) tt, c.requires))))
-
-pub expr::finish-finish_operation-requires-in-UnaryOp : goal.expr::finish-finish_operation-requires-in-UnaryOp
-expr::finish-finish_operation-requires-in-UnaryOp g t c =
-    let is = unary_arm g.V.TemplateValue.contents c.args.node.now c.in-UnaryOp.field-0 _ c.in-UnaryOp.is refl in
-    λ κs live. (omega (arith, c.decreases), (search rules, (search rules, (subst IsOperation (sym is) tt, c.requires))))
-
-pub expr::finish-finish_operation-requires-in-BinOp : goal.expr::finish-finish_operation-requires-in-BinOp
-expr::finish-finish_operation-requires-in-BinOp g t c =
-    let is = binary_arm g.V.TemplateValue.contents c.args.node.now c.in-BinOp.field-0 _ c.in-BinOp.is refl in
-    λ κs live. (omega (arith, c.decreases), (search rules, (search rules, (subst IsOperation (sym is) tt, c.requires))))
-
-pub expr::finish-finish_operation-requires-in-Compare : goal.expr::finish-finish_operation-requires-in-Compare
-expr::finish-finish_operation-requires-in-Compare g t c =
-    let is = compare_arm g.V.TemplateValue.contents c.args.node.now c.in-Compare.field-0 (node_of c.in-Compare.field-0) c.in-Compare.is refl ∙ compare_is g.V.TemplateValue.contents (node_of c.in-Compare.field-0) in
-    λ κs live. (omega (arith, c.decreases), (search rules, (search rules, (subst IsOperation (sym is) tt, c.requires))))
-
-pub expr::finish-finish_operation-requires-in-IfExpr : goal.expr::finish-finish_operation-requires-in-IfExpr
-expr::finish-finish_operation-requires-in-IfExpr g t c =
-    let is = if_arm g.V.TemplateValue.contents c.args.node.now c.in-IfExpr.field-0 _ c.in-IfExpr.is refl in
-    λ κs live. (omega (arith, c.decreases), (search rules, (search rules, (subst IsOperation (sym is) tt, c.requires))))
+    λ κs live. (omega (arith, c.decreases), (search rules, (search rules, (is_operation g.V.TemplateValue.contents c.args.node.now c.in-Slice.is, c.requires))))
 
 pub expr::finish_operation-unreachable-requires : goal.expr::finish_operation-unreachable-requires
 expr::finish_operation-unreachable-requires g t c = no_operation g.V.TemplateValue.contents c.args.node.now c.in_default.not-Slice c.in_default.not-UnaryOp c.in_default.not-BinOp c.in_default.not-Compare c.in_default.not-IfExpr c.requires.operation
