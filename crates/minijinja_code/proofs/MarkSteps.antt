@@ -10,7 +10,7 @@ use Rattle.minijinja_tree.specs.Nodes.{node_of}
 use Rattle.minijinja_tree.specs.Nodes as places
 use Rattle.minijinja_tree_expr.specs.declared.ast.Spanned.{Spanned}
 use Rattle.minijinja_tree.specs.SpannedTrees as spanned
-use Rattle.minijinja_tree.specs.SpannedTrees.{Args, Expr, Optional, absent, present, Stmt, Stmts, also, bare_expr, bare_macro}
+use Rattle.minijinja_tree.specs.SpannedTrees.{Args, Expr, Optional, Stmt, Stmts, also, bare_expr, bare_macro}
 use Rattle.minijinja_tree.specs.declared.ast.Macro.{Macro}
 use Rattle.minijinja_tree.specs.declared.ast.Stmt.{Stmt as Node}
 use Rattle.minijinja_tree_expr.specs.declared.ast.Expr.{Expr as ExprNode}
@@ -23,7 +23,6 @@ use Rattle.minijinja_emitter.specs.internal.Margins.{closed, opened}
 use Rattle.minijinja_code_expr.specs.internal.Callers.{TakesCaller}
 use Rattle.minijinja_code_expr.specs.internal.NodeMarks.{behind_caller, call_begin, call_end, up_to_caller}
 use Rattle.minijinja_code_expr.proofs.Results.{ok_gives}
-use Rattle.minijinja_code_parts.specs.internal.LoopMarks.{begun, items_marks}
 use Rattle.minijinja_code.specs.private.Statements.{call_block_marks, macro_node}
 use Rattle.minijinja_code.proofs.MarkWalks.{nodes_of}
 use Rattle.minijinja_code.proofs.SpannedArms.{bare_macro_is}
@@ -64,28 +63,19 @@ module _ {V K C F : Type 0} (f : Functions C F) (c : V → C) where
   marks_turn {os = os} a s left is eo h l = ap (stmts f os left) (h ∙ ap (λ o. stmt f o (stmt_node c s) a) eo) ∙ sym (ap (λ ss. stmts f os ss a) is) ∙ l
 
 module _ {C F : Type 0} (f : Functions C F) where
-  -- a loop up to its body
-  looping : (t e : Expr C) (only : Optional C) (m : Margin) → begun f t m.span (items_marks f t e only m) ≡ target f t (looped_over f t e only m)
-  looping t e absent m = refl
-  looping t e (present k) m = refl
-
   -- a loop without an else body, and one with it
-  loop_marked : (os : List Open) (t e : Expr C) (only : Optional C) (again : Bool) (body else_body : Stmts C) (s outer : Span) (m : Margin) → outer ≡ m.span → are_any else_body ≡ false →
-      here 1 (here 1 (stmts f [] body (begun f t outer (items_marks f t e only (on_line s m))))) ≡ stmt f os (spanned.for_loop t e only again body else_body s) m
-  loop_marked os t e only again body else_body s outer m at none =
-      ap (λ o. here 1 (here 1 (stmts f [] body (begun f t o (items_marks f t e only (on_line s m)))))) at ∙
-      ap (λ n. here 1 (here 1 (stmts f [] body n))) (looping t e only (on_line s m)) ∙
+  loop_marked : (os : List Open) (t e : Expr C) (only : Optional C) (again : Bool) (body else_body : Stmts C) (s : Span) (m : Margin) → are_any else_body ≡ false →
+      here 1 (here 1 (stmts f [] body (target f t (looped_over f t e only (on_line s m))))) ≡ stmt f os (spanned.for_loop t e only again body else_body s) m
+  loop_marked os t e only again body else_body s m none =
       ap (λ any. if_any any (stmts f os else_body) (popping any (here 1 (stmts f [] body (target f t (looped_over f t e only (on_line s m))))))) (sym none)
 
-  pub loop_done : {ran back last : Margin} (os : List Open) (t e : Expr C) (only : Optional C) (again : Bool) (body else_body : Stmts C) (s outer : Span) (m : Margin) → outer ≡ m.span → are_any else_body ≡ false →
-      ran ≡ stmts f [] body (begun f t outer (items_marks f t e only (on_line s m))) → back ≡ here 1 ran → last ≡ here 1 back → last ≡ stmt f os (spanned.for_loop t e only again body else_body s) m
-  loop_done os t e only again body else_body s outer m at none r b l = l ∙ ap (λ n. here 1 n) (b ∙ ap (λ n. here 1 n) r) ∙ loop_marked os t e only again body else_body s outer m at none
+  pub loop_done : {ran back last : Margin} (os : List Open) (t e : Expr C) (only : Optional C) (again : Bool) (body else_body : Stmts C) (s : Span) (m : Margin) → are_any else_body ≡ false →
+      ran ≡ stmts f [] body (target f t (looped_over f t e only (on_line s m))) → back ≡ here 1 ran → last ≡ here 1 back → last ≡ stmt f os (spanned.for_loop t e only again body else_body s) m
+  loop_done os t e only again body else_body s m none r b l = l ∙ ap (λ n. here 1 n) (b ∙ ap (λ n. here 1 n) r) ∙ loop_marked os t e only again body else_body s m none
 
-  pub loop_else_marked : (os : List Open) (t e : Expr C) (only : Optional C) (again : Bool) (body else_body : Stmts C) (s outer : Span) (m : Margin) → outer ≡ m.span → are_any else_body ≡ true →
-      stmts f os else_body (here 3 (here 1 (stmts f [] body (begun f t outer (items_marks f t e only (on_line s m)))))) ≡ stmt f os (spanned.for_loop t e only again body else_body s) m
-  loop_else_marked os t e only again body else_body s outer m at some =
-      ap (λ o. stmts f os else_body (here 3 (here 1 (stmts f [] body (begun f t o (items_marks f t e only (on_line s m))))))) at ∙
-      ap (λ n. stmts f os else_body (here 3 (here 1 (stmts f [] body n)))) (looping t e only (on_line s m)) ∙
+  pub loop_else_marked : (os : List Open) (t e : Expr C) (only : Optional C) (again : Bool) (body else_body : Stmts C) (s : Span) (m : Margin) → are_any else_body ≡ true →
+      stmts f os else_body (here 3 (here 1 (stmts f [] body (target f t (looped_over f t e only (on_line s m)))))) ≡ stmt f os (spanned.for_loop t e only again body else_body s) m
+  loop_else_marked os t e only again body else_body s m some =
       ap (λ any. if_any any (stmts f os else_body) (popping any (here 1 (stmts f [] body (target f t (looped_over f t e only (on_line s m))))))) (sym some)
 
   -- a true body alone, and with a false one

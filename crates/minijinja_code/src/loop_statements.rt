@@ -13,7 +13,7 @@ ghost use Rattle.minijinja_code_parts.specs.internal.EnclosingLoops.{FollowsStmt
 
 use crate::stmt::statements;
 use minijinja_code_parts::enclosing_loop::EnclosingLoop;
-use minijinja_code_parts::loop_parts::{begin, end_before_else, items, turn_back};
+use minijinja_code_parts::loop_parts::{begin, end_before_else, turn_back};
 use minijinja_emitter::emit::Emitter;
 use minijinja_emitter::memory::OutOfMemory;
 use minijinja_instructions::instructions::Instruction;
@@ -53,9 +53,7 @@ pub(crate) fn for_loop<'s, V: TemplateValue>(
         (margin_of code.old)) }
 {
     code.on_line(span);
-    let outer = items(code, &each.target, &each.iter, &each.filter_expr)?;
-    let data_bytes = enclosing.data_bytes();
-    let mut inner = begin(code, each.recursive, &each.target, data_bytes, outer)?;
+    let mut inner = begin(code, each, enclosing.data_bytes())?;
     statements(code, &mut inner, &each.body)?;
     turn_back(code, inner.iterate(), inner.breaks())?;
     enclosing.go_on(inner.data_bytes());

@@ -10,7 +10,7 @@ use Rattle.minijinja_value.specs.Values.{Functions}
 use Rattle.minijinja_tree.specs.FreeNames.{closure}
 use Rattle.minijinja_tree.specs.Tree.{Macro}
 use Rattle.minijinja_tree.specs.SpannedErasure.{expr_node, optional_of, names_of, trees}
-use Rattle.minijinja_tree.specs.SpannedTrees.{Expr, Optional, call, exprs_of, present}
+use Rattle.minijinja_tree.specs.SpannedTrees.{Expr, Optional, absent, call, exprs_of, present}
 use Rattle.minijinja_tree.specs.Nodes as nodes
 use Rattle.minijinja_tree.specs.Nodes.{node_of}
 use Rattle.minijinja_tree_expr.specs.ExprSpans.{expr_span}
@@ -21,7 +21,7 @@ use Rattle.minijinja_tree_expr.specs.declared.ast.List.{List as ListNode}
 use Rattle.minijinja_tree_expr.specs.declared.ast.Spanned.{Spanned}
 use Rattle.minijinja_tree_expr.proofs.NodeRows.{list_is}
 use Rattle.minijinja_tree_expr.specs.declared.ast.Expr.TheVariants.{Var, Const, GetAttr', Slice', UnaryOp', BinOp', Compare', IfExpr', Filter', Test', GetItem', Call', List', Tuple', Map'}
-use Rattle.minijinja_semantics.specs.Marks.{Margin, Marking, ◌⟫◌, again, alone_at, at_span, on_line, unmarked, arguments_of, closing_count, expr, here, positional, span_of, stored_as, storing_back, taking, target, targets, within}
+use Rattle.minijinja_semantics.specs.Marks.{Margin, Marking, ◌⟫◌, again, alone_at, at_span, on_line, unmarked, arguments_of, closing_count, expr, here, looped_over, positional, span_of, stored_as, storing_back, taking, target, targets, within}
 use Rattle.minijinja_semantics.specs.Macros.{caller, enclosed}
 use Rattle.minijinja_semantics.specs.Pieces.{Piece, Open, OpenScope, OpenAutoEscape, OpenCapture}
 use Rattle.minijinja_instructions.proofs.Running.{last-pushed}
@@ -32,7 +32,7 @@ use Rattle.minijinja_code_expr.specs.declared.output.Output.TheVariants.{Recursi
 use Rattle.minijinja_code_expr.specs.internal.Outputs.{ItemsAre, arguments_in}
 use Rattle.minijinja_code_parts.specs.declared.enclosing_loop.Open as kind
 use Rattle.minijinja_code_parts.specs.internal.AtEnclosingLoop.{open_of}
-use Rattle.minijinja_code_parts.specs.internal.LoopMarks.{items_marks}
+use Rattle.minijinja_code_parts.specs.internal.LoopMarks.{begun, items_marks}
 use Rattle.minijinja_code_parts.specs.internal.Macros.{before_last, left_of}
 use Rattle.minijinja_code_parts.specs.internal.MacroMarks.{TakesMarks}
 use Rattle.minijinja_code_parts.proofs.MacroParts.{gone_through, kept}
@@ -101,6 +101,18 @@ module _ {C F : Type 0} (f : Functions C F) where
       let tested : x ≡ passing (opened (span_of only) (expr f e (opened (span_of e) a))) = ex ∙ ap passing (ed ∙ ap (λ k. opened k b') es' ∙ ap (opened (span_of only)) items) in
       ap (here 3) (ez ∙ ap (λ k. closed k x) eo ∙ ap (closed a.span) tested)
       ∙ ap (λ k. here 3 (closed k.span (passing (opened (span_of only) (expr f e (opened (span_of e) k)))))) ea
+
+  began : (t e : Expr C) (only : Optional C) (m : Margin) → begun f t m.span (items_marks f t e only m) ≡ target f t (looped_over f t e only m)
+  began t e absent m = refl
+  began t e (present k) m = refl
+
+  -- a loop up to its body
+  looping : {outer : Span} (t e : Expr C) (only : Optional C) (m : Margin) → outer ≡ m.span → begun f t outer (items_marks f t e only m) ≡ target f t (looped_over f t e only m)
+  looping t e only m at = ap (λ o. begun f t o (items_marks f t e only m)) at ∙ began t e only m
+
+  pub began_over : {A E : Type 0} (r : Result A E) (t e : Expr C) (only : Optional C) (m z : Margin) {outer : Span} {x : Margin} → outer ≡ m.span → x ≡ items_marks f t e only m → OnOk r (z ≡ begun f t outer x) → OnOk r (z ≡ target f t (looped_over f t e only m))
+  began_over (Ok v) t e only m z {outer} at given is = is ∙ ap (begun f t outer) given ∙ looping t e only m at
+  began_over (Err v) t e only m z at given is = tt
 
 -- what changes nothing that was made
 

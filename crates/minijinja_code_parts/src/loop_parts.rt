@@ -13,7 +13,7 @@ ghost use Rattle.minijinja_code_parts.specs.internal.LoopMarks.{begun, items_mar
 ghost use Rattle.minijinja_semantics.specs.Meaning.{loop_flags};
 ghost use Rattle.minijinja_semantics.specs.Pieces.{one, ◌▸◌, leaving};
 ghost use Rattle.minijinja_code_parts.specs.internal.AtEnclosingLoop.{around_of, opened_in};
-ghost use Rattle.minijinja_code_parts.specs.internal.Loops.{Begins, EndsBeforeElse, closed, leading_on, turned};
+ghost use Rattle.minijinja_code_parts.specs.internal.Loops.{Begins, BeginsOver, EndsBeforeElse, closed, leading_on, turned};
 ghost use Rattle.minijinja_emitter.specs.internal.AtEmitter.{made_of, margin_of};
 ghost use Rattle.minijinja_emitter.specs.internal.Making.{Adds};
 ghost use Rattle.minijinja_code_parts.specs.internal.EnclosingLoops.{Follows};
@@ -27,13 +27,36 @@ use minijinja_instructions::instructions::{
     Instruction, LOOP_FLAG_RECURSIVE, LOOP_FLAG_WITH_LOOP_VAR,
 };
 use minijinja_syntax::tokens::Span;
-use minijinja_tree::ast::Expr;
+use minijinja_tree::ast::{Expr, ForLoop};
 use minijinja_value::value::TemplateValue;
+
+/// Adds the items of a loop, begins the loop over them, and assigns an item to its target. Returns the
+/// loop, for its body; `data_bytes` bytes of data nodes came before it.
+pub fn begin<'s, V: TemplateValue>(
+    code: &mut Emitter<'s, V>,
+    each: &ForLoop<'s, V>,
+    data_bytes: usize,
+) -> Result<EnclosingLoop, OutOfMemory>
+    requires target { IsTarget (expr_tree V.contents each.now.target) }
+    requires items { IsWhole (expr_tree V.contents each.now.iter) }
+    requires only { IsWholeIfAny (optional_of V.contents each.now.filter_expr) }
+    ensures begun { IfOk result (λ enclosing. BeginsOver V.functions
+        (expr_tree V.contents each.now.target) (expr_tree V.contents each.now.iter)
+        (optional_of V.contents each.now.filter_expr) each.now.recursive data_bytes
+        (made_of V.contents code.old) (made_of V.contents code.new) (around_of enclosing)) }
+    ensures marked { OnOk result (margin_of code.new ≡ marks.target V.functions
+        (node.expr_node V.contents each.now.target) (marks.looped_over V.functions
+        (node.expr_node V.contents each.now.target) (node.expr_node V.contents each.now.iter)
+        (node.optional_of V.contents each.now.filter_expr) (margin_of code.old))) }
+{
+    let outer = items(code, &each.target, &each.iter, &each.filter_expr)?;
+    begin_turns(code, each.recursive, &each.target, data_bytes, outer)
+}
 
 /// Adds the items of a loop. If they have to pass a test, a loop of its own collects those that do,
 /// and counts them. The span of the items stays open, for what begins the loop, unless there is a
 /// test; returns the span that was open before.
-pub fn items<'s, V: TemplateValue>(
+fn items<'s, V: TemplateValue>(
     code: &mut Emitter<'s, V>,
     target: &Expr<'s, V>,
     iterable: &Expr<'s, V>,
@@ -136,7 +159,7 @@ fn count_item<V: TemplateValue>(code: &mut Emitter<'_, V>) -> Result<(), OutOfMe
 /// Begins a loop over the items of the value on top, and assigns an item to its target. Returns the
 /// loop, for its body; `data_bytes` bytes of data nodes came before it, and `outer` is the span that
 /// was open before the items.
-pub fn begin<'s, V: TemplateValue>(
+fn begin_turns<'s, V: TemplateValue>(
     code: &mut Emitter<'s, V>,
     recursive: bool,
     target: &Expr<'s, V>,

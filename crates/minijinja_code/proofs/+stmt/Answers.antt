@@ -21,14 +21,12 @@ use Rattle.minijinja_semantics.specs.Code.{Do}
 use Rattle.minijinja_semantics.specs.Events as event
 use Rattle.minijinja_semantics.specs.Layout as layout
 use Rattle.minijinja_semantics.specs.Marks as marks
-use Rattle.minijinja_semantics.specs.Marks.{Margin, ◌⟫◌, alone_at, assignments, closing_count, expr, filters, here, on_line, target, within, span_of as span_in}
+use Rattle.minijinja_semantics.specs.Marks.{Margin, ◌⟫◌, alone_at, assignments, closing_count, expr, filters, here, looped_over, on_line, target, within, span_of as span_in}
 use Rattle.minijinja_semantics.specs.Pieces.{one, ◌▸◌, OpenScope, OpenAutoEscape, OpenCapture}
 use Rattle.minijinja_code_parts.specs.internal.AtEnclosingLoop.{around_of, open_of}
 use Rattle.minijinja_code_expr.specs.internal.Callers.{BeginsCall, WholeBlock}
 use Rattle.minijinja_code_expr.specs.internal.NodeMarks as node_marks
 use Rattle.minijinja_emitter.specs.internal.Margins as margins
-use Rattle.minijinja_code_parts.specs.internal.LoopMarks as loop_marks
-use Rattle.minijinja_code_parts.specs.internal.LoopMarks.{items_marks}
 use Rattle.minijinja_emitter.specs.internal.Making.{Made, Adds}
 use Rattle.minijinja_code_parts.specs.internal.Loops.{Begins, turned}
 use Rattle.minijinja_emitter.specs.declared.emit.Emitter.{Emitter}
@@ -265,7 +263,7 @@ stmt::statement-returns-in-Continue-clause-added g t c =
 pub loop_statements::for_loop-statements-requires : goal.loop_statements::for_loop-statements-requires
 loop_statements::for_loop-statements-requires g t c =
     let v = g.V.TemplateValue.contents in
-    λ κs live. (search (rules, for_lemmas), (search rules, (search rules, inner_in v _ _ c.deref.result.now (ap (λ (a : Around). a.in_loop) c.in_ok-inner.ensures.begun.within) (inner_as v _ c.deref.ensures.value c.requires.body))))
+    λ κs live. (search (rules, for_lemmas), (search rules, (search rules, inner_in v _ _ c.deref.result.now (ap (λ (a : Around). a.in_loop) c.in_ok-inner.ensures.begun.begins.within) (inner_as v _ c.deref.ensures.value c.requires.body))))
 
 pub loop_statements::for_loop-statements-requires-2 : goal.loop_statements::for_loop-statements-requires-2
 loop_statements::for_loop-statements-requires-2 g t c =
@@ -282,13 +280,14 @@ loop_statements::for_loop-returns-then-is_empty-clause-added g t c =
     let after = around_of c.statements.new.enclosing in
     let d = made_of v c.statements.new.code in
     let e = expr_tree v n.target in
-    let begins = subst (λ k. Begins f e n.recursive k (made_of v c.items.new.code) (made_of v c.begin.new.code) inner) c.data_bytes-data_bytes.ensures c.in_ok-inner.ensures.begun in
+    let started = c.in_ok-inner.ensures.begun in
+    let begins = subst (λ k. Begins f e n.recursive k started.given (made_of v c.begin.new.code) inner) c.data_bytes.ensures started.begins in
     let back = c.in_ok-turn_back.ensures.turned ∙ ap (λ i. turned i c.breaks.result.now d) c.iterate.ensures ∙ ap (λ ps. turned after.iterate ps d) c.breaks.ensures in
-    let on = c.go_on.ensures ∙ ap (λ k. record before { bytes = k }) c.data_bytes.ensures in
+    let on = c.go_on.ensures ∙ ap (λ k. record before { bytes = k }) c.data_bytes-2.ensures in
     let zero : length n.else_body.items ≡ 0 = grind (arith, c.is_empty.ensures, c.if-is_empty.true, n.else_body.ok.0) in
     let none = none_any v n.else_body.items zero in
     ok_gives c.add.result (loop_follows f {t = before} tt e (expr_tree v n.iter) (optional_of v n.filter_expr) n.recursive (body_of v n.body.items) (body_of v n.else_body.items)
-    (adds_from c.on_line.ensures.made c.in_ok-outer.ensures.added) begins (body_as f v inner.opened c.deref.ensures.value c.in_ok-statements.ensures.added) back on none (none_bytes (body_of v n.else_body.items) none)) c.add.ensures.added
+    (adds_from c.on_line.ensures.made started.items_added) begins (body_as f v inner.opened c.deref.ensures.value c.in_ok-statements.ensures.added) back on none (none_bytes (body_of v n.else_body.items) none)) c.add.ensures.added
 
 pub loop_statements::for_loop-returns-clause-added : goal.loop_statements::for_loop-returns-clause-added
 loop_statements::for_loop-returns-clause-added g t c =
@@ -300,12 +299,13 @@ loop_statements::for_loop-returns-clause-added g t c =
     let after = around_of c.statements.new.enclosing in
     let d = made_of v c.statements.new.code in
     let e = expr_tree v n.target in
-    let begins = subst (λ k. Begins f e n.recursive k (made_of v c.items.new.code) (made_of v c.begin.new.code) inner) c.data_bytes-data_bytes.ensures c.in_ok-inner.ensures.begun in
+    let started = c.in_ok-inner.ensures.begun in
+    let begins = subst (λ k. Begins f e n.recursive k started.given (made_of v c.begin.new.code) inner) c.data_bytes.ensures started.begins in
     let back = c.in_ok-turn_back.ensures.turned ∙ ap (λ i. turned i c.breaks.result.now d) c.iterate.ensures ∙ ap (λ ps. turned after.iterate ps d) c.breaks.ensures in
-    let on = c.go_on.ensures ∙ ap (λ k. record before { bytes = k }) c.data_bytes.ensures in
+    let on = c.go_on.ensures ∙ ap (λ k. record before { bytes = k }) c.data_bytes-2.ensures in
     let some = some_any v n.else_body.items (λ zero. absurd (grind (arith, c.is_empty.ensures, c.if-is_empty.false, n.else_body.ok.0, zero))) in
     loop_else_follows f {t = before} tt e (expr_tree v n.iter) (optional_of v n.filter_expr) n.recursive (body_of v n.body.items) (body_of v n.else_body.items)
-    (adds_from c.on_line.ensures.made c.in_ok-outer.ensures.added) begins (body_as f v inner.opened c.deref.ensures.value c.in_ok-statements.ensures.added) back on some c.in_ok-came.ensures.ended
+    (adds_from c.on_line.ensures.made started.items_added) begins (body_as f v inner.opened c.deref.ensures.value c.in_ok-statements.ensures.added) back on some c.in_ok-came.ensures.ended
     (body_as f v (around_of c.go_on.new.self).opened c.deref-2.ensures.value c.in_ok-statements-2.ensures.added) c.fill.ensures.filled c.here.ensures
 
 pub if_statements::condition-statements-requires : goal.if_statements::condition-statements-requires
@@ -503,13 +503,11 @@ loop_statements::for_loop-returns-then-is_empty-clause-marked g t c =
     let n = c.args.each.now in
     let zero : length n.else_body.items ≡ 0 = grind (arith, c.is_empty.ensures, c.if-is_empty.true, n.else_body.ok.0) in
     let m = margin_of c.args.code.now in
-    let outer = c.in_ok-outer.outer in
     let e = expr_node v n.target in
-    let items = items_marks f e (expr_node v n.iter) (optional_node v n.filter_expr) in
-    let started = c.in_ok-inner.ensures.marked ∙ ap (loop_marks.begun f e outer) (c.in_ok-outer.ensures.marked ∙ ap items c.on_line.ensures.marked) in
-    let body = nodes_as f v (ap (λ (a : Around). a.opened) c.in_ok-inner.ensures.begun.within) c.deref.ensures.value started c.in_ok-statements.ensures.marked in
-    let at = c.in_ok-outer.ensures.outer ∙ ap (λ (k : Margin). k.span) c.on_line.ensures.marked in
-    with_ok c.add.result c.add.ensures.marked (λ s. loop_done f (around_of c.args.enclosing.now).opened e (expr_node v n.iter) (optional_node v n.filter_expr) n.recursive (nodes_of v n.body.items) (nodes_of v n.else_body.items) c.args.span outer m at (no_nodes v n.else_body.items zero) body c.in_ok-turn_back.ensures.marked s)
+    let over = looped_over f e (expr_node v n.iter) (optional_node v n.filter_expr) in
+    let started = c.in_ok-inner.ensures.marked ∙ ap (λ k. target f e (over k)) c.on_line.ensures.marked in
+    let body = nodes_as f v (ap (λ (a : Around). a.opened) c.in_ok-inner.ensures.begun.begins.within) c.deref.ensures.value started c.in_ok-statements.ensures.marked in
+    with_ok c.add.result c.add.ensures.marked (λ s. loop_done f (around_of c.args.enclosing.now).opened e (expr_node v n.iter) (optional_node v n.filter_expr) n.recursive (nodes_of v n.body.items) (nodes_of v n.else_body.items) c.args.span m (no_nodes v n.else_body.items zero) body c.in_ok-turn_back.ensures.marked s)
 
 pub loop_statements::for_loop-returns-clause-marked : goal.loop_statements::for_loop-returns-clause-marked
 loop_statements::for_loop-returns-clause-marked g t c =
@@ -518,14 +516,13 @@ loop_statements::for_loop-returns-clause-marked g t c =
     let n = c.args.each.now in
     let some = some_nodes v n.else_body.items (λ zero. absurd (grind (arith, c.is_empty.ensures, c.if-is_empty.false, n.else_body.ok.0, zero))) in
     let m = margin_of c.args.code.now in
-    let outer = c.in_ok-outer.outer in
     let e = expr_node v n.target in
-    let items = items_marks f e (expr_node v n.iter) (optional_node v n.filter_expr) in
-    let started = c.in_ok-inner.ensures.marked ∙ ap (loop_marks.begun f e outer) (c.in_ok-outer.ensures.marked ∙ ap items c.on_line.ensures.marked) in
-    let body = nodes_as f v (ap (λ (a : Around). a.opened) c.in_ok-inner.ensures.begun.within) c.deref.ensures.value started c.in_ok-statements.ensures.marked in
+    let over = looped_over f e (expr_node v n.iter) (optional_node v n.filter_expr) in
+    let started = c.in_ok-inner.ensures.marked ∙ ap (λ k. target f e (over k)) c.on_line.ensures.marked in
+    let body = nodes_as f v (ap (λ (a : Around). a.opened) c.in_ok-inner.ensures.begun.begins.within) c.deref.ensures.value started c.in_ok-statements.ensures.marked in
     let other = nodes_as f v (ap (λ (a : Around). a.opened) c.go_on.ensures) c.deref-2.ensures.value (c.in_ok-came.ensures.marked ∙ ap (here 3) (c.in_ok-turn_back.ensures.marked ∙ ap (here 1) body)) c.in_ok-statements-2.ensures.marked in
     c.fill.ensures.marked ∙ other
-    ∙ loop_else_marked f (around_of c.args.enclosing.now).opened e (expr_node v n.iter) (optional_node v n.filter_expr) n.recursive (nodes_of v n.body.items) (nodes_of v n.else_body.items) c.args.span outer m (c.in_ok-outer.ensures.outer ∙ ap (λ (k : Margin). k.span) c.on_line.ensures.marked) some
+    ∙ loop_else_marked f (around_of c.args.enclosing.now).opened e (expr_node v n.iter) (optional_node v n.filter_expr) n.recursive (nodes_of v n.body.items) (nodes_of v n.else_body.items) c.args.span m some
 
 pub if_statements::condition-returns-then-is_empty-clause-marked : goal.if_statements::condition-returns-then-is_empty-clause-marked
 if_statements::condition-returns-then-is_empty-clause-marked g t c =

@@ -1,9 +1,9 @@
 -- The code of loops while it is being made.
 use Rattle.std.specs.Prelude.{◌≡◌, ℕ, ◌+◌, Bool, true, List, [], ◌∷◌, ◌++◌, length, slice_set}
 use Rattle.minijinja_value.specs.Values.{Functions}
-use Rattle.minijinja_tree.specs.Tree.{Expr}
+use Rattle.minijinja_tree.specs.Tree.{Expr, Optional}
 use Rattle.minijinja_semantics.specs.Code.{PushLoop, Jump, Iterate}
-use Rattle.minijinja_semantics.specs.Layout.{target, popping}
+use Rattle.minijinja_semantics.specs.Layout.{expr, target, passing, popping}
 use Rattle.minijinja_semantics.specs.Meaning.{loop_flags}
 use Rattle.minijinja_semantics.specs.Pieces.{behind, Piece, Open, one, closing_instructions}
 use Rattle.minijinja_emitter.specs.internal.Making.{Made, Adds, hole, reach}
@@ -18,6 +18,12 @@ pub record Begins {C F : Type 0} (f : Functions C F) (e : Expr C) (recursive : B
   pub hole_added : Adds pushed held (one hole)
   pub target_added : Adds held new (target f e)
   pub within : t ≡ record { in_loop = true; iterate = length pushed.code; opened = []; breaks = []; bytes = bytes }
+
+-- the items of a loop were added, those alone that pass its test if it has one, and then the loop was begun
+pub record BeginsOver {C F : Type 0} (f : Functions C F) (e v : Expr C) (only : Optional C) (recursive : Bool) (bytes : ℕ) (old new : Made C) (t : Around) : Type 0 where
+  pub given : Made C
+  pub items_added : Adds old given (passing f e only (expr f v))
+  pub begins : Begins f e recursive bytes given new t
 
 -- the code so far, with a jump to its end at each of these places
 abbrev pub leading_on : {C : Type 0} → List ℕ → Made C → Made C
