@@ -1,18 +1,18 @@
 //! The machine: what it keeps of a run, and what each instruction does. A call returns none where an
 //! instruction cannot be done, and the run ends there.
 use crate::calls::Macro;
+use crate::filters::{filtered, tested};
 use crate::scopes::Scope;
-use crate::values::{answer, attribute, filtered, item, items, pairs, string, tested};
+use crate::values::{Kind, answer, handle, item, items, merged, pairs, part, place_of, string};
 use anyhow::{Context, Result, bail};
 use minijinja_compiler::compile::Compiled;
 use minijinja_compiler::instructions::{Instruction, Instructions};
 use minijinja_compiler::value::{Rendered, TemplateValue, Value, ValueMap};
 use std::alloc::Global;
 use std::cell::OnceCell;
-use std::collections::BTreeMap;
 
-/// How many instructions a run may do, each of which makes one value at most.
-const MOST_STEPS: u32 = 10_000;
+/// How many instructions a run may do, and how many values it may make.
+const MOST_STEPS: usize = 20_000;
 
 /// Where a run is: the next instruction, and the innermost scope.
 #[derive(Clone, Copy)]
@@ -39,20 +39,22 @@ pub struct Machine<'t, 's> {
     pub frame: Frame<'t, 's>,
     pub callers: Vec<Frame<'t, 's>>,
     pub operands: Vec<&'t Value>,
-    /// All scopes that were opened, each of which is named by its place.
-    pub scopes: Vec<Scope<'t>>,
-    pub macros: BTreeMap<&'s str, Macro<'t, 's>>,
+    /// All scopes that were opened, macros that were made, and lists that may grow. A value names
+    /// one of these by its place.
+    pub scopes: Vec<Scope<'t, 's>>,
+    pub macros: Vec<Macro<'t, 's>>,
+    pub lists: Vec<&'t Value>,
     /// The templates of the pages that are open, by their places. Blocks override later ones.
     pub pages: Vec<usize>,
     /// The output, and what was written in each capture that is open.
     pub outputs: Vec<String>,
 }
 
-/// What the first template writes. It may include and extend the others, by their names.
+/// What the first template writes. It may include, import and extend the others, by their names.
 pub fn render(alloc: Global, templates: &[Compiled<'_>]) -> Result<String> {
     let first = templates.first().context("there is no template")?;
     let mut cells = Vec::new(alloc);
-    cells.resize_with(MOST_STEPS as usize, OnceCell::new)?;
+    cells.resize_with(MOST_STEPS, OnceCell::new)?;
     let undefined = Value::Undefined;
     let mut machine = Machine {
         alloc,
@@ -71,7 +73,8 @@ pub fn render(alloc: Global, templates: &[Compiled<'_>]) -> Result<String> {
         callers: Vec::new(alloc),
         operands: Vec::new(alloc),
         scopes: Vec::new(alloc),
-        macros: BTreeMap::new(alloc),
+        macros: Vec::new(alloc),
+        lists: Vec::new(alloc),
         pages: Vec::new(alloc),
         outputs: Vec::new(alloc),
     };
@@ -83,7 +86,7 @@ pub fn render(alloc: Global, templates: &[Compiled<'_>]) -> Result<String> {
 
 impl<'t, 's> Machine<'t, 's> {
     fn run(&mut self) -> Option<String> {
-        self.open_scope(&[])?;
+        self.open_scope(None)?;
         self.begin_capture()?;
         self.start(0)?;
         for _ in 0..MOST_STEPS {
@@ -128,29 +131,37 @@ impl<'t, 's> Machine<'t, 's> {
             Instruction::EmitRaw(text) => self.outputs.last_mut()?.push_str(text).ok(),
             Instruction::Emit => self.emit(),
             Instruction::BeginCapture(_) => self.begin_capture(),
+            Instruction::PushAutoEscape => self.refuse_escaping(),
+            Instruction::Enclose(_) | Instruction::PopAutoEscape => Some(()),
             Instruction::StoreLocal(name) => self.store(name),
-            Instruction::PushWith => self.open_scope(&[]),
-            Instruction::PushLoop(_) => {
-                let list = self.operands.pop()?;
-                self.open_scope(items(list)?)
-            }
-            Instruction::Iterate(end) => self.iterate(*end),
-            Instruction::PopFrame | Instruction::PopLoopFrame => self.close_scope(),
+            Instruction::SetAttr(name) => self.set_attribute(name),
+            Instruction::PushWith => self.open_scope(None),
+            Instruction::PopFrame => self.close_scope(),
+            Instruction::PushLoop(flags) => self.open_loop(*flags),
+            Instruction::PopLoopFrame => self.close_loop(),
             Instruction::DiscardTop => self.operands.pop().and(Some(())),
+            Instruction::Swap => self.swap(),
+            Instruction::UnpackList(count) => self.unpack(*count),
+            Instruction::UnpackLists(count) => self.spread(*count),
+            _ => self.lead(instruction),
+        }
+    }
+
+    /// Does an instruction that leads elsewhere. Any other one pushes a value.
+    fn lead(&mut self, instruction: &'t Instruction<'s>) -> Option<()> {
+        match instruction {
+            Instruction::Iterate(end) => self.iterate(*end),
+            Instruction::FastRecurse => self.recurse(),
             Instruction::Jump(index) => self.jump(*index),
             Instruction::JumpIfFalse(index) => self.jump_if_false(*index),
             Instruction::JumpIfFalseOrPop(index) => self.jump_or_pop(false, *index),
             Instruction::JumpIfTrueOrPop(index) => self.jump_or_pop(true, *index),
-            Instruction::Enclose(_) => Some(()),
-            Instruction::BuildMacro(name, entry, _) => self.build_macro(name, *entry),
-            Instruction::CallFunction(name, Some(count)) => self.call_macro(name, *count),
+            Instruction::CallFunction(name, count) => self.call_function(name, *count),
+            Instruction::CallMethod(name, count) => self.call_method(name, *count),
             // What extends another template leaves its blocks to that one.
             Instruction::CallBlock(_) if self.frame.parent.is_some() => Some(()),
             Instruction::CallBlock(name) => self.write_block(name, self.frame.page),
-            Instruction::FastSuper => {
-                let (name, place) = self.frame.block?;
-                self.write_block(name, place.saturating_add(1))
-            }
+            Instruction::FastSuper => self.write_super(),
             Instruction::LoadBlocks if self.frame.parent.is_none() => self.extend(),
             Instruction::Include(ignores_missing) => self.include(*ignores_missing),
             _ => {
@@ -165,9 +176,12 @@ impl<'t, 's> Machine<'t, 's> {
         match instruction {
             Instruction::LoadConst(constant) => Some(constant),
             Instruction::Lookup(name) => Some(self.variable(name).unwrap_or(self.undefined)),
-            Instruction::GetAttr(name) => attribute(self.operands.pop()?, name, self.undefined),
+            Instruction::GetAttr(name) => {
+                let object = self.pop()?;
+                self.attribute(object, name)
+            }
             Instruction::GetItem => {
-                let (key, object) = (self.operands.pop()?, self.operands.pop()?);
+                let (key, object) = (self.pop()?, self.pop()?);
                 item(object, key, self.undefined)
             }
             Instruction::DupTop => self.operands.last().copied(),
@@ -180,32 +194,54 @@ impl<'t, 's> Machine<'t, 's> {
     }
 
     /// The value that an instruction makes.
-    fn made(&mut self, instruction: &Instruction<'s>) -> Option<Value> {
+    fn made(&mut self, instruction: &'t Instruction<'s>) -> Option<Value> {
         match instruction {
-            Instruction::BuildList(Some(count)) => Some(Value::List(self.pop_many(*count)?)),
-            Instruction::BuildMap(count) => Some(Value::Map(self.pop_pairs(*count)?)),
-            Instruction::BuildKwargs(count) => Some(Value::Kwargs(self.pop_pairs(*count)?)),
-            Instruction::Not => Some(Value::Bool(!self.operands.pop()?.is_true())),
-            Instruction::IsUndefined => Some(Value::Bool(self.operands.pop()?.is_undefined())),
-            Instruction::ApplyFilter(name, Some(count), _) => {
-                let arguments = self.pop_many(usize::from(*count))?;
-                filtered(self.alloc, name, &arguments)
-            }
-            Instruction::PerformTest(name, Some(1), _) => tested(name, self.operands.pop()?),
-            Instruction::EndCapture => Some(string(self.outputs.pop()?)),
-            Instruction::PushDidNotIterate => {
-                let scope = self.scopes.get(self.frame.scope?)?;
-                Some(Value::Bool(scope.index == 0))
-            }
+            Instruction::Slice => self.pop_part(),
+            Instruction::ApplyFilter(name, count, _) => self.filter(name, *count),
+            Instruction::PerformTest(name, count, _) => self.test(name, *count),
+            Instruction::PushDidNotIterate => self.did_not_iterate(),
+            Instruction::ExportLocals => handle(self.alloc, Kind::Scope, self.frame.scope?),
+            Instruction::BuildMacro(_, entry, _) => self.build_macro(*entry),
+            Instruction::EndCapture => self.end_capture(),
             Instruction::Return => {
                 self.frame = self.callers.pop()?;
-                Some(string(self.outputs.pop()?))
+                self.end_capture()
             }
-            operator => {
-                let (right, left) = (self.operands.pop()?, self.operands.pop()?);
-                answer(self.alloc, operator, left, right)
-            }
+            _ => self.built(instruction),
         }
+    }
+
+    /// The value that an instruction builds of operands.
+    fn built(&mut self, instruction: &'t Instruction<'s>) -> Option<Value> {
+        match instruction {
+            Instruction::BuildList(count) => Some(Value::List(self.pop_list(*count)?)),
+            Instruction::BuildTuple(count) => Some(Value::Tuple(self.pop_list(*count)?)),
+            Instruction::BuildMap(count) => Some(Value::Map(self.pop_pairs(*count)?)),
+            Instruction::BuildKwargs(count) => Some(Value::Kwargs(self.pop_pairs(*count)?)),
+            Instruction::MergeKwargs(count) => Some(Value::Kwargs(self.pop_merged(*count)?)),
+            _ => self.operate(instruction),
+        }
+    }
+
+    /// What an operator makes of one value or of two.
+    fn operate(&mut self, operator: &'t Instruction<'s>) -> Option<Value> {
+        let right = self.pop()?;
+        match operator {
+            Instruction::Not => Some(Value::Bool(!right.is_true())),
+            Instruction::Neg => right.neg(self.alloc).ok(),
+            Instruction::IsUndefined => Some(Value::Bool(right.is_undefined())),
+            _ => answer(self.alloc, operator, self.pop()?, right),
+        }
+    }
+
+    fn filter(&mut self, name: &str, count: Option<u16>) -> Option<Value> {
+        let arguments = self.pop_list(count.map(usize::from))?;
+        filtered(self.alloc, name, &arguments)
+    }
+
+    fn test(&mut self, name: &str, count: Option<u16>) -> Option<Value> {
+        let arguments = self.pop_list(count.map(usize::from))?;
+        Some(Value::Bool(tested(self.alloc, name, &arguments)?))
     }
 
     /// Keeps a value to the end of the run.
@@ -216,19 +252,107 @@ impl<'t, 's> Machine<'t, 's> {
         cell.get()
     }
 
+    /// Pops an operand, which is what it names at present.
+    pub fn pop(&mut self) -> Option<&'t Value> {
+        let value = self.operands.pop()?;
+        Some(self.present(value))
+    }
+
+    /// The list that a value names, if it names one that may grow, or else the value.
+    fn present(&self, value: &'t Value) -> &'t Value {
+        match place_of(Kind::List, value) {
+            Some(place) => self.lists.get(place).copied().unwrap_or(value),
+            None => value,
+        }
+    }
+
+    /// How many arguments there are, the number of which is popped where it is not known.
+    pub fn pop_count(&mut self, known: Option<usize>) -> Option<usize> {
+        match known {
+            Some(count) => Some(count),
+            None => self.pop()?.as_count(),
+        }
+    }
+
     /// Copies of the topmost operands, which are popped.
-    fn pop_many(&mut self, count: usize) -> Option<Vec<Value>> {
+    pub fn pop_many(&mut self, count: usize) -> Option<Vec<Value>> {
         let rest = self.operands.len().checked_sub(count)?;
-        let copies = self.operands[rest..].iter().map(|value| value.try_clone());
-        let values = copies.try_collect(self.alloc).ok();
+        let copies = self.copies(rest);
         self.operands.truncate(rest);
-        values
+        copies
+    }
+
+    /// Copies of the topmost operands, which are popped, in a list.
+    pub fn pop_kept(&mut self, count: usize) -> Option<&'t Value> {
+        let values = self.pop_many(count)?;
+        self.keep(Value::List(values))
+    }
+
+    fn copies(&self, rest: usize) -> Option<Vec<Value>> {
+        let mut copies = Vec::new(self.alloc);
+        for value in self.operands.iter().skip(rest) {
+            copies.push(self.present(value).try_clone().ok()?).ok()?;
+        }
+        Some(copies)
+    }
+
+    fn pop_list(&mut self, count: Option<usize>) -> Option<Vec<Value>> {
+        let count = self.pop_count(count)?;
+        self.pop_many(count)
     }
 
     /// Copies of the topmost keys, each below its value, which are popped.
     fn pop_pairs(&mut self, count: usize) -> Option<ValueMap> {
         let values = self.pop_many(count.checked_mul(2)?)?;
         pairs(self.alloc, &values)
+    }
+
+    /// The pairs of the topmost maps, which are popped.
+    fn pop_merged(&mut self, count: usize) -> Option<ValueMap> {
+        let maps = self.pop_many(count)?;
+        merged(self.alloc, &maps)
+    }
+
+    /// A part of a list. A step is not supported.
+    fn pop_part(&mut self) -> Option<Value> {
+        let (step, stop) = (self.pop()?, self.pop()?);
+        let (start, list) = (self.pop()?, self.pop()?);
+        match step {
+            Value::None => part(self.alloc, list, start, stop),
+            _ => None,
+        }
+    }
+
+    /// Pops a list and pushes its items, the first one on top.
+    fn unpack(&mut self, count: usize) -> Option<()> {
+        let items = items(self.pop()?)?;
+        if items.len() != count {
+            return None;
+        }
+        for item in items.iter().rev() {
+            self.operands.push(item).ok()?;
+        }
+        Some(())
+    }
+
+    /// Pops lists and pushes their items in order, and how many these are.
+    fn spread(&mut self, count: usize) -> Option<()> {
+        let lists = self.pop_kept(count)?;
+        let start = self.operands.len();
+        for list in items(lists)? {
+            for item in items(list)? {
+                self.operands.push(item).ok()?;
+            }
+        }
+        let count = self.operands.len().saturating_sub(start);
+        let count = self.keep(Value::of_u64(count as u64))?;
+        self.operands.push(count).ok()
+    }
+
+    fn swap(&mut self) -> Option<()> {
+        let (right, left) = (self.pop()?, self.pop()?);
+        self.operands.push(right).ok()?;
+        self.operands.push(left).ok()
     }
 
     /// Goes on at an index.
@@ -238,7 +362,7 @@ impl<'t, 's> Machine<'t, 's> {
     }
 
     fn jump_if_false(&mut self, index: u32) -> Option<()> {
-        match self.operands.pop()?.is_true() {
+        match self.pop()?.is_true() {
             true => Some(()),
             false => self.jump(index),
         }
@@ -246,7 +370,8 @@ impl<'t, 's> Machine<'t, 's> {
 
     /// Jumps if the top operand has this truth, otherwise pops it.
     fn jump_or_pop(&mut self, truth: bool, index: u32) -> Option<()> {
-        if self.operands.last()?.is_true() == truth {
+        let value = self.operands.last().copied()?;
+        if self.present(value).is_true() == truth {
             return self.jump(index);
         }
         self.operands.pop().and(Some(()))
@@ -254,12 +379,25 @@ impl<'t, 's> Machine<'t, 's> {
 
     /// Writes a value as it is: a machine for HTML would escape it here.
     fn emit(&mut self) -> Option<()> {
-        let value = self.operands.pop()?;
+        let value = self.pop()?;
         write!(self.outputs.last_mut()?, "{}", Rendered(value)).ok()
+    }
+
+    /// Pops what says whether output is escaped from now on, which cannot be done.
+    fn refuse_escaping(&mut self) -> Option<()> {
+        match self.pop()? {
+            Value::Bool(true) => None,
+            Value::String(kind) if kind.as_str() == "html" => None,
+            _ => Some(()),
+        }
     }
 
     /// Has what is written from now on kept apart.
     pub fn begin_capture(&mut self) -> Option<()> {
         self.outputs.push(String::new(self.alloc)).ok()
+    }
+    /// What was kept apart since the last capture began.
+    fn end_capture(&mut self) -> Option<Value> {
+        Some(string(self.outputs.pop()?))
     }
 }

@@ -3,8 +3,12 @@
 #![tactic(auto)]
 
 mod calls;
+mod filters;
+mod loops;
 mod machine;
+mod pages;
 mod scopes;
+mod texts;
 mod values;
 
 use anyhow::{Result, bail};

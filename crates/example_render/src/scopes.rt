@@ -1,28 +1,26 @@
-//! Scopes, variables in them, and loops.
+//! Scopes, and variables in them. A namespace and what was imported are scopes too.
+use crate::loops::Loop;
 use crate::machine::Machine;
-use minijinja_compiler::value::{TemplateValue, Value, ValueMap};
-use std::alloc::Global;
+use crate::values::{Kind, by_name, handle, longer, member, place_of};
+use minijinja_compiler::value::{TemplateValue, Value};
 use std::collections::BTreeMap;
 
-/// Variables, within those of another scope. A loop is a scope, with the items that it goes over.
+/// Variables, within those of another scope. A loop is a scope too.
 /// A scope stays to the end of a run: a macro sees what is stored where it was made.
 #[derive(Drop)]
-pub struct Scope<'t> {
-    outer: Option<usize>,
-    variables: BTreeMap<&'t str, &'t Value>,
-    items: &'t [Value],
-    /// How many of the items came, with that of this turn.
-    pub index: usize,
+pub struct Scope<'t, 's> {
+    pub outer: Option<usize>,
+    pub variables: BTreeMap<&'t str, &'t Value>,
+    pub turns: Option<Loop<'t, 's>>,
 }
 
 impl<'t, 's> Machine<'t, 's> {
     /// Makes a scope within the innermost one, and goes on in it.
-    pub fn open_scope(&mut self, items: &'t [Value]) -> Option<()> {
+    pub fn open_scope(&mut self, turns: Option<Loop<'t, 's>>) -> Option<()> {
         let scope = Scope {
             outer: self.frame.scope,
             variables: BTreeMap::new(self.alloc),
-            items,
-            index: 0,
+            turns,
         };
         self.frame.scope = Some(self.scopes.len());
         self.scopes.push(scope).ok()
@@ -34,10 +32,38 @@ impl<'t, 's> Machine<'t, 's> {
         Some(())
     }
 
-    /// Pops a value and stores it in the innermost scope.
+    /// Pops a value and stores it in the innermost scope. A list that is empty then may grow.
     pub fn store(&mut self, name: &'t str) -> Option<()> {
         let value = self.operands.pop()?;
-        let scope = self.scopes.get_mut(self.frame.scope?)?;
+        let value = match value {
+            Value::List(items) if items.is_empty() => self.growing(value)?,
+            _ => value,
+        };
+        self.set(self.frame.scope?, name, value)
+    }
+
+    /// What names a list that may grow.
+    fn growing(&mut self, list: &'t Value) -> Option<&'t Value> {
+        let named = handle(self.alloc, Kind::List, self.lists.len())?;
+        self.lists.push(list).ok()?;
+        self.keep(named)
+    }
+
+    /// Pops an item and adds it to a list that may grow, for all variables that are that list.
+    pub fn append(&mut self, list: &'t Value) -> Option<()> {
+        let item = self.pop()?;
+        let place = place_of(Kind::List, list)?;
+        let longer = longer(self.alloc, *self.lists.get(place)?, item)?;
+        let longer = self.keep(longer)?;
+        if place < self.lists.len() {
+            self.lists[place] = longer;
+        }
+        self.operands.push(self.undefined).ok()
+    }
+
+    /// Stores a value in a scope.
+    pub fn set(&mut self, scope: usize, name: &'t str, value: &'t Value) -> Option<()> {
+        let scope = self.scopes.get_mut(scope)?;
         scope.variables.insert(name, value).ok()?;
         Some(())
     }
@@ -55,34 +81,34 @@ impl<'t, 's> Machine<'t, 's> {
         None
     }
 
-    /// Pushes the next item of the innermost loop, or jumps to the end.
-    pub fn iterate(&mut self, end: u32) -> Option<()> {
-        let scope = self.scopes.get_mut(self.frame.scope?)?;
-        let (items, index) = (scope.items, scope.index);
-        let Some(item) = items.get(index) else {
-            return self.jump(end);
+    /// What an object has under a name, or else undefined. An undefined value has nothing.
+    pub fn attribute(&self, object: &'t Value, name: &'t str) -> Option<&'t Value> {
+        if object.is_undefined() {
+            return None;
+        }
+        let found = match place_of(Kind::Scope, object) {
+            Some(place) => self.scopes.get(place)?.variables.get(&name).copied(),
+            None => member(object, name),
         };
-        scope.index = index.saturating_add(1);
-        scope.variables.clear();
-        let about = about_loop(self.alloc, index, items.len())?;
-        let about = self.keep(about)?;
-        self.operands.push(about).ok()?;
-        self.store("loop")?;
-        self.operands.push(item).ok()
+        Some(found.unwrap_or(self.undefined))
     }
-}
 
-/// The variable `loop` in the turn of the item at an index.
-fn about_loop(alloc: Global, index: usize, length: usize) -> Option<Value> {
-    let (number, length) = ((index as u64).saturating_add(1), length as u64);
-    let mut about = ValueMap::new(alloc);
-    insert(alloc, &mut about, "index", Value::of_u64(number))?;
-    insert(alloc, &mut about, "length", Value::of_u64(length))?;
-    insert(alloc, &mut about, "first", Value::Bool(number == 1))?;
-    insert(alloc, &mut about, "last", Value::Bool(number == length))?;
-    Some(Value::Map(about))
-}
+    /// Pops a namespace and a value, and stores the value there.
+    pub fn set_attribute(&mut self, name: &'t str) -> Option<()> {
+        let scope = place_of(Kind::Scope, self.pop()?)?;
+        let value = self.pop()?;
+        self.set(scope, name, value)
+    }
 
-fn insert(alloc: Global, map: &mut ValueMap, name: &str, value: Value) -> Option<()> {
-    map.insert(Value::of_str(alloc, name).ok()?, value).ok()
+    /// A namespace of the pairs of a map.
+    pub fn namespace(&mut self, map: &'t Value) -> Option<Value> {
+        let scope = Scope {
+            outer: None,
+            variables: by_name(self.alloc, map)?,
+            turns: None,
+        };
+        let place = self.scopes.len();
+        self.scopes.push(scope).ok()?;
+        handle(self.alloc, Kind::Scope, place)
+    }
 }
