@@ -19,6 +19,7 @@ pub mod FilterChains
 pub mod Finishing
 pub mod LiteralNodes
 pub mod NoArguments
+pub mod PositionalArguments
 pub mod InOrder
 pub mod OperationNodes
 pub mod OperatorCode

@@ -92,6 +92,10 @@ pub(crate) fn arguments<'s, V: TemplateValue>(
         return Ok(Some(front as u16));
     }
     let count = positional_arguments(code, args, front)?;
+    if count.waiting == front + args.len() {
+        // Each is a positional one: no map comes after them, and there is nothing to spread.
+        return Ok(Some(count.waiting as u16));
+    }
     if load_keywords(code, args)? {
         return spread(code, count, 1);
     }

@@ -519,6 +519,15 @@ arguments::arguments-returns-then-is_empty-clause-added = of_arguments.arguments
 pub arguments::arguments-returns-then-is_empty-clause-marked : goal.arguments::arguments-returns-then-is_empty-clause-marked
 arguments::arguments-returns-then-is_empty-clause-marked = of_arguments.arguments::arguments-returns-then-is_empty-clause-marked
 
+pub arguments::arguments-overflow_cast-result-then-count-front : goal.arguments::arguments-overflow_cast-result-then-count-front
+arguments::arguments-overflow_cast-result-then-count-front = of_arguments.arguments::arguments-overflow_cast-result-then-count-front
+
+pub arguments::arguments-returns-then-count-front-clause-count : goal.arguments::arguments-returns-then-count-front-clause-count
+arguments::arguments-returns-then-count-front-clause-count = of_arguments.arguments::arguments-returns-then-count-front-clause-count
+
+pub arguments::arguments-returns-then-count-front-clause-added : goal.arguments::arguments-returns-then-count-front-clause-added
+arguments::arguments-returns-then-count-front-clause-added = of_arguments.arguments::arguments-returns-then-count-front-clause-added
+
 pub arguments::arguments-returns-then-branch-clause-count : goal.arguments::arguments-returns-then-branch-clause-count
 arguments::arguments-returns-then-branch-clause-count = of_arguments.arguments::arguments-returns-then-branch-clause-count
 
@@ -790,6 +799,9 @@ expr::literal-returns-then-branch-3-clause-marked = marked.expr::literal-returns
 
 pub expr::literal-returns-after-loop-i-clause-marked : goal.expr::literal-returns-after-loop-i-clause-marked
 expr::literal-returns-after-loop-i-clause-marked = marked.expr::literal-returns-after-loop-i-clause-marked
+
+pub arguments::arguments-returns-then-count-front-clause-marked : goal.arguments::arguments-returns-then-count-front-clause-marked
+arguments::arguments-returns-then-count-front-clause-marked = marked.arguments::arguments-returns-then-count-front-clause-marked
 
 pub arguments::arguments-returns-then-branch-clause-marked : goal.arguments::arguments-returns-then-branch-clause-marked
 arguments::arguments-returns-then-branch-clause-marked = marked.arguments::arguments-returns-then-branch-clause-marked

@@ -15,6 +15,7 @@ use Rattle.minijinja_code_expr.proofs.+expr.Goals.{arguments::positional_argumen
 use Rattle.minijinja_tree_expr.specs.declared.ast.CallArg.{size-CallArg}
 use Rattle.minijinja_code_expr.proofs.CallArguments.{positional_bound, keyword_bound, map_count_few, keywords_loaded, keywords_merged, counted_all, adds_given, element_size, args_length, taken_none, taken_all, positional_walk, pos_whole, pos_splat_whole, taken_pos, taken_pos_splat, passed_keyword, keyword_walk, kwarg_whole, kwarg_splat_whole, taken_kwarg, taken_kwarg_splat, passed_positional}
 use Rattle.minijinja_code_expr.proofs.NoArguments.{adds_none, counts_none, marks_none}
+use Rattle.minijinja_code_expr.proofs.PositionalArguments.{adds_positional, positional_count}
 use Rattle.minijinja_semantics.specs.Code as code
 use Rattle.minijinja_code_expr.proofs.+expr.Goals as goal
 
@@ -41,6 +42,22 @@ pub arguments::arguments-returns-then-is_empty-clause-marked : goal.arguments::a
 arguments::arguments-returns-then-is_empty-clause-marked g t c =
     let none : length c.args.args.now ≡ 0 = grind (arith, c.is_empty.ensures, c.if-is_empty.true) in
     marks_none g.V.TemplateValue.functions g.V.TemplateValue.contents c.args.args.now c.args.front (margin_of c.args.code.now) none
+
+pub arguments::arguments-overflow_cast-result-then-count-front : goal.arguments::arguments-overflow_cast-result-then-count-front
+arguments::arguments-overflow_cast-result-then-count-front g t c =
+    omega (arith, positional_bound (args_of g.V.TemplateValue.contents c.args.args.now) c.args.front (count_of c.in_ok-count.count) c.requires.few c.requires.front c.in_ok-count.ensures.counted)
+
+pub arguments::arguments-returns-then-count-front-clause-count : goal.arguments::arguments-returns-then-count-front-clause-count
+arguments::arguments-returns-then-count-front-clause-count g t c =
+    let v = g.V.TemplateValue.contents in
+    let xs = c.args.args.now in
+    positional_count g.V.TemplateValue.functions (args_of v xs) c.args.front (count_of c.in_ok-count.count) c.in_ok-count.ensures.counted (omega (arith, c.if-count-front.true, args_length v xs))
+
+pub arguments::arguments-returns-then-count-front-clause-added : goal.arguments::arguments-returns-then-count-front-clause-added
+arguments::arguments-returns-then-count-front-clause-added g t c =
+    let v = g.V.TemplateValue.contents in
+    let xs = c.args.args.now in
+    adds_positional g.V.TemplateValue.functions (args_of v xs) c.args.front (count_of c.in_ok-count.count) c.in_ok-count.ensures.counted (omega (arith, c.if-count-front.true, args_length v xs)) c.in_ok-count.ensures.added
 
 pub arguments::arguments-returns-then-branch-clause-count : goal.arguments::arguments-returns-then-branch-clause-count
 arguments::arguments-returns-then-branch-clause-count g t c =

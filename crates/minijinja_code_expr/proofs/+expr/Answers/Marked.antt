@@ -27,6 +27,7 @@ use Rattle.minijinja_code_expr.proofs.ChainMarking.{ahead_end, chain_added, chai
 use Rattle.minijinja_code_expr.proofs.CycleMarks.{binary_marks, joined_marks, plain_marks, unary_marks}
 use Rattle.minijinja_code_expr.proofs.ItemMarks.{item_marks, items_marked, keyword_marked, pair_marks, pairs_marked, positional_marked}
 use Rattle.minijinja_code_expr.proofs.LoadedMarks.{args_bare, list_built, map_built, tuple_built, binary_same, finishes_marks_as, given_loaded, given_merged, items_then, joined_replaced, literal_kept, literal_loaded_marks, loaded_not, loaded_some, unjoined_marks}
+use Rattle.minijinja_code_expr.proofs.PositionalArguments.{marks_positional}
 use Rattle.minijinja_code_expr.proofs.NodeArms.{spanned_attribute, spanned_binary, spanned_call, spanned_chain, spanned_constant, spanned_filter, spanned_if, spanned_item, spanned_list, spanned_map, spanned_slice, spanned_test, spanned_tuple, spanned_unary, spanned_variable}
 use Rattle.minijinja_code_expr.proofs.NodeMarking.{Later, expr_later, later_then}
 use Rattle.minijinja_code_expr.proofs.Arms.{compare_arm, unary_arm, binary_arm, list_arm, tuple_arm, map_arm}
@@ -34,7 +35,7 @@ use Rattle.minijinja_code_expr.proofs.InOrder.{pairs}
 use Rattle.minijinja_tree_expr.specs.declared.ast.Compare.{out-Compare}
 use Rattle.minijinja_code_expr.proofs.ChainTurns.{turn, turn_false}
 use Rattle.minijinja_code_expr.proofs.ChainEnds.{whole_parts, end_true, end_unknown}
-use Rattle.minijinja_code_expr.proofs.CallArguments.{keywords_loaded}
+use Rattle.minijinja_code_expr.proofs.CallArguments.{args_length, keywords_loaded}
 use Rattle.minijinja_code_expr.proofs.Results.{ok_gives}
 use Rattle.minijinja_tree.specs.Tree as tree
 use Rattle.minijinja_semantics.specs.Code as code
@@ -400,6 +401,12 @@ expr::literal-returns-after-loop-i-clause-marked g t c =
     let pairs : margin_of l.code ≡ pair_marks f v ks vs old = sym (pairs_marked f v ks vs l.i (margin_of l.code) (omega (arith, n.keys.ok.0))) ∙ l.invariant.marks ∙ ap (pair_marks f v ks vs) kept in
     let none = loaded_not f (made_of v c.args.code.now) (made_of v c.load_map.new.code) (fold f (tree.map (exprs_of v ks) (exprs_of v vs))) c.in_ok-load_map-in-Map.field-0 c.if-branch-3.false c.in_ok-load_map-in-Map.ensures.added in
     ok_gives c.add-in-Map.result (map_built f (expr_node v e) (span_of c.in-Map.map) (fold f (tree.map (exprs_of v ks) (exprs_of v vs))) old (margin_of l.code) (spanned.exprs_of (node.trees v ks)) (spanned.exprs_of (node.trees v vs)) folds none is pairs) c.add-in-Map.ensures.marked
+
+pub arguments::arguments-returns-then-count-front-clause-marked : goal.arguments::arguments-returns-then-count-front-clause-marked
+arguments::arguments-returns-then-count-front-clause-marked g t c =
+    let v = g.V.TemplateValue.contents in
+    let xs = c.args.args.now in
+    marks_positional g.V.TemplateValue.functions (args_of v xs) c.args.front (count_of c.in_ok-count.count) c.in_ok-count.ensures.counted (omega (arith, c.if-count-front.true, args_length v xs)) (node.args_of v xs) (args_bare v xs) (margin_of c.args.code.now) (margin_of c.positional_arguments.new.code) c.in_ok-count.ensures.marked
 
 pub arguments::arguments-returns-then-branch-clause-marked : goal.arguments::arguments-returns-then-branch-clause-marked
 arguments::arguments-returns-then-branch-clause-marked g t c =
