@@ -1,5 +1,5 @@
 //! Integers from -2^127 to 2^128 - 1.
-ghost use Rattle.std.specs.Prelude.{◌≡◌, ◌<◌, ◌^◌, ◌↔◌, IsTrue, true, false, pos, neg_ℤ, ◌+ℤ◌, ◌-ℤ◌, ◌*ℤ◌, ◌<ℤ◌, unsigned_abs, FitsSigned};
+ghost use Rattle.std.specs.Prelude.{◌≡◌, ◌<◌, ◌≤◌, ◌^◌, ◌↔◌, IsTrue, true, false, pos, neg_ℤ, ◌+ℤ◌, ◌-ℤ◌, ◌*ℤ◌, ◌<ℤ◌, unsigned_abs, FitsSigned};
 ghost use Rattle.std.specs.Option.{SomeIff};
 ghost use Rattle.std.specs.Ordering.{int_cmp, int_eq, as_partial_cmp};
 ghost use Rattle.std.specs.Int.{w128, FitsUnsigned, int_div_euclid, int_rem_euclid, int_pow};
@@ -11,11 +11,16 @@ ghost use Rattle.minijinja_value.specs.Integers.{signed, in_range, is_zero, coun
 use std::cmp::Ordering;
 use std::marker::Model;
 
+/// How many numbers a half of a magnitude may be.
+const HALF: u128 = 1 << 64;
+
 /// An integer from -2^127 to 2^128 - 1: a number of either 128-bit type. Contracts see the number.
+/// Its magnitude is kept in two halves, since a `u128` would make a value larger by what aligns it.
 #[derive(Clone, Copy)]
 pub struct Integer {
     is_negative: bool,
-    magnitude: u128,
+    high: u64,
+    low: u64,
 }
 
 impl Model for Integer {
@@ -24,11 +29,12 @@ impl Model for Integer {
 
     ghost Value = { ℤ };
 
-    ghost use Rattle.minijinja_value.specs.private.IntegerParts.{parts_of, parts_of-signed};
+    ghost use Rattle.minijinja_value.specs.private.IntegerParts.{joined, parts_of, parts_of-signed};
 
-    ghost view = { λ a. signed a.is_negative a.magnitude };
+    ghost view = { λ a. signed a.is_negative (joined a.high a.low) };
 
-    ghost invariant = { λ a. a.is_negative ≡ true → (0 < a.magnitude) × (a.magnitude ≤ 2 ^ 127) };
+    ghost invariant = { λ a. (a.low < 2 ^ 64) × (a.is_negative ≡ true →
+        (0 < joined a.high a.low) × (joined a.high a.low ≤ 2 ^ 127)) };
 
     ghost inverse = { parts_of };
 
@@ -40,10 +46,7 @@ impl Integer {
     pub fn from_u128(value: u128) -> Integer
         ensures { result ≡ pos value }
     {
-        Integer {
-            is_negative: false,
-            magnitude: value,
-        }
+        Integer::new(false, value)
     }
 
     /// The integer of a sign and a magnitude, if it is in range.
@@ -56,18 +59,28 @@ impl Integer {
         if magnitude > 1 << 127 {
             return None;
         }
-        Some(Integer {
+        Some(Integer::new(is_negative, magnitude))
+    }
+
+    /// The integer of a sign and a magnitude that are in range.
+    fn new(is_negative: bool, magnitude: u128) -> Integer
+        requires { is_negative ≡ true → (0 < magnitude) × (magnitude ≤ 2 ^ 127) }
+        ensures { result ≡ signed is_negative magnitude }
+    {
+        Integer {
             is_negative,
-            magnitude,
-        })
+            high: (magnitude / HALF) as u64,
+            low: (magnitude % HALF) as u64,
+        }
     }
 
     /// The sign and the magnitude.
     pub(super) fn parts(self) -> (bool, u128)
         ensures value { self ≡ signed result.0 result.1 }
-        ensures positive { result.0 ≡ true → 0 < result.1 }
+        ensures negative { result.0 ≡ true → (0 < result.1) × (result.1 ≤ 2 ^ 127) }
     {
-        (self.is_negative, self.magnitude)
+        let magnitude = u128::from(self.high) * HALF + u128::from(self.low);
+        (self.is_negative, magnitude)
     }
 
     /// Whether it is below 0.
@@ -81,45 +94,48 @@ impl Integer {
     pub fn magnitude(self) -> u128
         ensures { result ≡ unsigned_abs self }
     {
-        self.magnitude
+        self.parts().1
     }
 
     /// The number, if it is from -2^127 to 2^127 - 1.
     pub fn as_i128(self) -> Option<i128>
         ensures { SomeIff result (FitsSigned w128 self) self }
     {
-        if !self.is_negative {
-            return i128::try_from(self.magnitude).ok();
+        let (is_negative, magnitude) = self.parts();
+        if !is_negative {
+            return i128::try_from(magnitude).ok();
         }
         // The least number has no counterpart above 0.
-        Some(-1 - (self.magnitude - 1) as i128)
+        Some(-1 - (magnitude - 1) as i128)
     }
 
     /// The number, if it is not negative.
     pub fn as_u128(self) -> Option<u128>
         ensures { SomeIff result (FitsUnsigned w128 self) (unsigned_abs self) }
     {
-        if self.is_negative {
+        let (is_negative, magnitude) = self.parts();
+        if is_negative {
             return None;
         }
-        Some(self.magnitude)
+        Some(magnitude)
     }
 
     /// Whether it is 0.
     pub fn is_zero(self) -> bool
         ensures { result ≡ is_zero self }
     {
-        self.magnitude == 0
+        self.parts().1 == 0
     }
 
     /// The number, if it is from 0 to 2^64 - 1.
     pub fn as_count(self) -> Option<usize>
         ensures { result ≡ count_in self }
     {
-        if self.is_negative || self.magnitude > usize::MAX as u128 {
+        let (is_negative, magnitude) = self.parts();
+        if is_negative || magnitude > usize::MAX as u128 {
             return None;
         }
-        Some(self.magnitude as usize)
+        Some(magnitude as usize)
     }
 
     /// The integer with the other sign, if it is in range.

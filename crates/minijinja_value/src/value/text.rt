@@ -8,7 +8,7 @@ use std::fmt;
 use std::marker::Model;
 
 /// The most bytes of a text that allocates nothing.
-pub const MOST_SHORT_BYTES: usize = 24;
+pub const MOST_SHORT_BYTES: usize = 16;
 
 /// A text that does not change. Contracts see its bytes. A short one is kept in the value itself
 /// and allocates nothing.
