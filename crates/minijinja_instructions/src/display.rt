@@ -1,5 +1,5 @@
 //! The printed forms of instructions.
-use crate::instructions::{Instruction, LocalId};
+use crate::instructions::Instruction;
 use minijinja_value::value::{Quoted, TemplateValue};
 use std::fmt;
 
@@ -7,75 +7,117 @@ use std::fmt;
 /// decimals, an absent count as `none`.
 impl<V: TemplateValue + fmt::Display> fmt::Display for Instruction<'_, V> {
     fn fmt<W: fmt::Write>(&self, f: &mut fmt::Formatter<W>) -> fmt::Result {
+        let name = name_of(self);
         match self {
-            Instruction::EmitRaw(text) => write!(f, "EmitRaw({})", Quoted(text)),
-            Instruction::StoreLocal(text) => write!(f, "StoreLocal({})", Quoted(text)),
-            Instruction::Lookup(text) => write!(f, "Lookup({})", Quoted(text)),
-            Instruction::GetAttr(text) => write!(f, "GetAttr({})", Quoted(text)),
-            Instruction::SetAttr(text) => write!(f, "SetAttr({})", Quoted(text)),
-            Instruction::GetItem => f.write_str("GetItem"),
-            Instruction::Slice => f.write_str("Slice"),
-            Instruction::LoadConst(value) => write!(f, "LoadConst({value})"),
-            Instruction::BuildMap(count) => write!(f, "BuildMap({count})"),
-            Instruction::BuildKwargs(count) => write!(f, "BuildKwargs({count})"),
-            Instruction::MergeKwargs(count) => write!(f, "MergeKwargs({count})"),
-            Instruction::BuildList(count) => write!(f, "BuildList({})", OrNone(*count)),
-            Instruction::BuildTuple(count) => write!(f, "BuildTuple({})", OrNone(*count)),
-            Instruction::UnpackList(count) => write!(f, "UnpackList({count})"),
-            Instruction::UnpackLists(count) => write!(f, "UnpackLists({count})"),
-            Instruction::Add => f.write_str("Add"),
-            Instruction::Sub => f.write_str("Sub"),
-            Instruction::Mul => f.write_str("Mul"),
-            Instruction::Div => f.write_str("Div"),
-            Instruction::IntDiv => f.write_str("IntDiv"),
-            Instruction::Rem => f.write_str("Rem"),
-            Instruction::Pow => f.write_str("Pow"),
-            Instruction::Neg => f.write_str("Neg"),
-            Instruction::Eq => f.write_str("Eq"),
-            Instruction::Ne => f.write_str("Ne"),
-            Instruction::Gt => f.write_str("Gt"),
-            Instruction::Gte => f.write_str("Gte"),
-            Instruction::Lt => f.write_str("Lt"),
-            Instruction::Lte => f.write_str("Lte"),
-            Instruction::Not => f.write_str("Not"),
-            Instruction::StringConcat => f.write_str("StringConcat"),
-            Instruction::In => f.write_str("In"),
-            Instruction::CompareAndPreserve(op) => write!(f, "CompareAndPreserve({op:?})"),
-            Instruction::ApplyFilter(name, args, id) => applied(f, "ApplyFilter", name, *args, *id),
-            Instruction::PerformTest(name, args, id) => applied(f, "PerformTest", name, *args, *id),
-            Instruction::Emit => f.write_str("Emit"),
-            Instruction::PushLoop(flags) => write!(f, "PushLoop({flags})"),
-            Instruction::PushWith => f.write_str("PushWith"),
-            Instruction::Iterate(index) => write!(f, "Iterate({index})"),
-            Instruction::PushDidNotIterate => f.write_str("PushDidNotIterate"),
-            Instruction::PopFrame => f.write_str("PopFrame"),
-            Instruction::PopLoopFrame => f.write_str("PopLoopFrame"),
-            Instruction::Jump(index) => write!(f, "Jump({index})"),
-            Instruction::JumpIfFalse(index) => write!(f, "JumpIfFalse({index})"),
-            Instruction::JumpIfFalseOrPop(index) => write!(f, "JumpIfFalseOrPop({index})"),
-            Instruction::JumpIfTrueOrPop(index) => write!(f, "JumpIfTrueOrPop({index})"),
-            Instruction::PushAutoEscape => f.write_str("PushAutoEscape"),
-            Instruction::PopAutoEscape => f.write_str("PopAutoEscape"),
-            Instruction::BeginCapture(mode) => write!(f, "BeginCapture({mode:?})"),
-            Instruction::EndCapture => f.write_str("EndCapture"),
-            Instruction::CallFunction(name, count) => called(f, "CallFunction", name, *count),
-            Instruction::CallMethod(name, count) => called(f, "CallMethod", name, *count),
-            Instruction::CallObject(count) => write!(f, "CallObject({})", OrNone(*count)),
-            Instruction::DupTop => f.write_str("DupTop"),
-            Instruction::DiscardTop => f.write_str("DiscardTop"),
-            Instruction::FastSuper => f.write_str("FastSuper"),
-            Instruction::FastRecurse => f.write_str("FastRecurse"),
-            Instruction::Swap => f.write_str("Swap"),
-            Instruction::CallBlock(text) => write!(f, "CallBlock({})", Quoted(text)),
-            Instruction::LoadBlocks => f.write_str("LoadBlocks"),
-            Instruction::Include(ignores_missing) => write!(f, "Include({ignores_missing})"),
-            Instruction::ExportLocals => f.write_str("ExportLocals"),
-            Instruction::Enclose(text) => write!(f, "Enclose({})", Quoted(text)),
-            Instruction::GetClosure => f.write_str("GetClosure"),
-            Instruction::BuildMacro(name, entry, flags) => built(f, name, *entry, *flags),
-            Instruction::Return => f.write_str("Return"),
-            Instruction::IsUndefined => f.write_str("IsUndefined"),
+            Instruction::EmitRaw(text)
+            | Instruction::StoreLocal(text)
+            | Instruction::Lookup(text)
+            | Instruction::GetAttr(text)
+            | Instruction::SetAttr(text)
+            | Instruction::CallBlock(text)
+            | Instruction::Enclose(text) => write!(f, "{name}({})", Quoted(text)),
+            Instruction::LoadConst(value) => write!(f, "{name}({value})"),
+            Instruction::BuildMap(count)
+            | Instruction::BuildKwargs(count)
+            | Instruction::MergeKwargs(count)
+            | Instruction::UnpackList(count)
+            | Instruction::UnpackLists(count) => write!(f, "{name}({count})"),
+            Instruction::BuildList(count) | Instruction::BuildTuple(count) => {
+                write!(f, "{name}({})", OrNone(*count))
+            }
+            Instruction::CompareAndPreserve(op) => write!(f, "{name}({op:?})"),
+            Instruction::ApplyFilter(text, count, id) | Instruction::PerformTest(text, count, id) =>
+                { write!(f, "{name}({}, {}, {id})", Quoted(text), OrNone(*count)) }
+            Instruction::PushLoop(flags) => write!(f, "{name}({flags})"),
+            Instruction::Iterate(index)
+            | Instruction::Jump(index)
+            | Instruction::JumpIfFalse(index)
+            | Instruction::JumpIfFalseOrPop(index)
+            | Instruction::JumpIfTrueOrPop(index) => write!(f, "{name}({index})"),
+            Instruction::BeginCapture(mode) => write!(f, "{name}({mode:?})"),
+            Instruction::CallFunction(text, count) | Instruction::CallMethod(text, count) => {
+                write!(f, "{name}({}, {})", Quoted(text), OrNone(*count))
+            }
+            Instruction::CallObject(count) => write!(f, "{name}({})", OrNone(*count)),
+            Instruction::Include(ignores_missing) => write!(f, "{name}({ignores_missing})"),
+            Instruction::BuildMacro(text, entry, flags) => {
+                write!(f, "{name}({}, {entry}, {flags})", Quoted(text))
+            }
+            _ => f.write_str(name),
         }
+    }
+}
+
+/// The name of an instruction, as it is printed.
+fn name_of<V: TemplateValue>(instruction: &Instruction<'_, V>) -> &'static str {
+    match instruction {
+        Instruction::EmitRaw(_) => "EmitRaw",
+        Instruction::StoreLocal(_) => "StoreLocal",
+        Instruction::Lookup(_) => "Lookup",
+        Instruction::GetAttr(_) => "GetAttr",
+        Instruction::SetAttr(_) => "SetAttr",
+        Instruction::GetItem => "GetItem",
+        Instruction::Slice => "Slice",
+        Instruction::LoadConst(_) => "LoadConst",
+        Instruction::BuildMap(_) => "BuildMap",
+        Instruction::BuildKwargs(_) => "BuildKwargs",
+        Instruction::MergeKwargs(_) => "MergeKwargs",
+        Instruction::BuildList(_) => "BuildList",
+        Instruction::BuildTuple(_) => "BuildTuple",
+        Instruction::UnpackList(_) => "UnpackList",
+        Instruction::UnpackLists(_) => "UnpackLists",
+        Instruction::Add => "Add",
+        Instruction::Sub => "Sub",
+        Instruction::Mul => "Mul",
+        Instruction::Div => "Div",
+        Instruction::IntDiv => "IntDiv",
+        Instruction::Rem => "Rem",
+        Instruction::Pow => "Pow",
+        Instruction::Neg => "Neg",
+        Instruction::Eq => "Eq",
+        Instruction::Ne => "Ne",
+        Instruction::Gt => "Gt",
+        Instruction::Gte => "Gte",
+        Instruction::Lt => "Lt",
+        Instruction::Lte => "Lte",
+        Instruction::Not => "Not",
+        Instruction::StringConcat => "StringConcat",
+        Instruction::In => "In",
+        Instruction::CompareAndPreserve(_) => "CompareAndPreserve",
+        Instruction::ApplyFilter(_, _, _) => "ApplyFilter",
+        Instruction::PerformTest(_, _, _) => "PerformTest",
+        Instruction::Emit => "Emit",
+        Instruction::PushLoop(_) => "PushLoop",
+        Instruction::PushWith => "PushWith",
+        Instruction::Iterate(_) => "Iterate",
+        Instruction::PushDidNotIterate => "PushDidNotIterate",
+        Instruction::PopFrame => "PopFrame",
+        Instruction::PopLoopFrame => "PopLoopFrame",
+        Instruction::Jump(_) => "Jump",
+        Instruction::JumpIfFalse(_) => "JumpIfFalse",
+        Instruction::JumpIfFalseOrPop(_) => "JumpIfFalseOrPop",
+        Instruction::JumpIfTrueOrPop(_) => "JumpIfTrueOrPop",
+        Instruction::PushAutoEscape => "PushAutoEscape",
+        Instruction::PopAutoEscape => "PopAutoEscape",
+        Instruction::BeginCapture(_) => "BeginCapture",
+        Instruction::EndCapture => "EndCapture",
+        Instruction::CallFunction(_, _) => "CallFunction",
+        Instruction::CallMethod(_, _) => "CallMethod",
+        Instruction::CallObject(_) => "CallObject",
+        Instruction::DupTop => "DupTop",
+        Instruction::DiscardTop => "DiscardTop",
+        Instruction::FastSuper => "FastSuper",
+        Instruction::FastRecurse => "FastRecurse",
+        Instruction::Swap => "Swap",
+        Instruction::CallBlock(_) => "CallBlock",
+        Instruction::LoadBlocks => "LoadBlocks",
+        Instruction::Include(_) => "Include",
+        Instruction::ExportLocals => "ExportLocals",
+        Instruction::Enclose(_) => "Enclose",
+        Instruction::GetClosure => "GetClosure",
+        Instruction::BuildMacro(_, _, _) => "BuildMacro",
+        Instruction::Return => "Return",
+        Instruction::IsUndefined => "IsUndefined",
     }
 }
 
@@ -90,40 +132,4 @@ impl<N: fmt::Display> fmt::Display for OrNone<N> {
             None => f.write_str("none"),
         }
     }
-}
-
-/// A filter or a test, with the number of its name.
-fn applied<W: fmt::Write>(
-    f: &mut fmt::Formatter<W>,
-    instruction: &str,
-    name: &str,
-    count: Option<u16>,
-    id: LocalId,
-) -> fmt::Result {
-    write!(
-        f,
-        "{instruction}({}, {}, {id})",
-        Quoted(name),
-        OrNone(count)
-    )
-}
-
-/// A call by a name.
-fn called<W: fmt::Write>(
-    f: &mut fmt::Formatter<W>,
-    instruction: &str,
-    name: &str,
-    count: Option<u16>,
-) -> fmt::Result {
-    write!(f, "{instruction}({}, {})", Quoted(name), OrNone(count))
-}
-
-/// A macro that is made.
-fn built<W: fmt::Write>(
-    f: &mut fmt::Formatter<W>,
-    name: &str,
-    entry: u32,
-    flags: u8,
-) -> fmt::Result {
-    write!(f, "BuildMacro({}, {entry}, {flags})", Quoted(name))
 }
