@@ -377,12 +377,12 @@ const MOST_ROOM: usize = 600;
 
 /// How many instructions to reserve memory for, where these statements stand within a span: most
 /// statements make at least two, and up to four where they are long; a text that is dense with tags
-/// makes one for about four bytes.
+/// makes one for about three bytes.
 fn room_for<V: TemplateValue>(statements: &[Stmt<'_, V>], whole: Span) -> usize {
     let bytes = own_bytes(statements, whole);
     let least = statements.len().saturating_mul(2);
     let of_long_ones = (bytes / 5).min(least.saturating_mul(2));
-    let of_dense_text = (bytes / 4).min(MOST_ROOM);
+    let of_dense_text = (bytes / 3).min(MOST_ROOM);
     least.max(of_long_ones).max(of_dense_text)
 }
 

@@ -32,7 +32,7 @@ use Rattle.minijinja_code_expr.specs.declared.output.Output.TheVariants.{Recursi
 use Rattle.minijinja_code_expr.specs.internal.Outputs.{ItemsAre, arguments_in}
 use Rattle.minijinja_code_parts.specs.declared.enclosing_loop.Open as kind
 use Rattle.minijinja_code_parts.specs.internal.AtEnclosingLoop.{open_of}
-use Rattle.minijinja_code_parts.specs.internal.LoopMarks.{begun, items_marks}
+use Rattle.minijinja_code_parts.specs.private.LoopMarks.{begun, items_marks}
 use Rattle.minijinja_code_parts.specs.internal.Macros.{before_last, left_of}
 use Rattle.minijinja_code_parts.specs.internal.MacroMarks.{TakesMarks}
 use Rattle.minijinja_code_parts.proofs.MacroParts.{gone_through, kept}

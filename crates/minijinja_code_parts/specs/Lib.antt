@@ -1,2 +1,3 @@
 pub mod Hint
 pub mod internal
+pub mod private

@@ -2,7 +2,6 @@
 pub mod AtEnclosingLoop
 pub mod EnclosingLoops
 pub mod IfParts
-pub mod LoopMarks
 pub mod Loops
 pub mod MacroMarks
 pub mod Macros

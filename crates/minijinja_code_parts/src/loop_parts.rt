@@ -9,7 +9,7 @@ ghost use Rattle.minijinja_tree.specs.SpannedTrees as spanned;
 ghost use Rattle.minijinja_semantics.specs.Layout as layout;
 ghost use Rattle.minijinja_semantics.specs.Marks as marks;
 ghost use Rattle.minijinja_semantics.specs.Marks.{◌⟫◌};
-ghost use Rattle.minijinja_code_parts.specs.internal.LoopMarks.{begun, items_marks};
+ghost use Rattle.minijinja_code_parts.specs.private.LoopMarks.{begun, items_marks};
 ghost use Rattle.minijinja_semantics.specs.Meaning.{loop_flags};
 ghost use Rattle.minijinja_semantics.specs.Pieces.{one, ◌▸◌, leaving};
 ghost use Rattle.minijinja_code_parts.specs.internal.AtEnclosingLoop.{around_of, opened_in};

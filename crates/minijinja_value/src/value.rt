@@ -229,8 +229,8 @@ pub enum Value {
     Kwargs(ValueMap),
 }
 
-// A value is no larger than an integer with the value's kind before it: short texts fit in that.
-const _: () = prove!(size_of::<Value>() == 16 + size_of::<Integer>());
+// A value is no larger than a text with the value's kind before it.
+const _: () = prove!(size_of::<Value>() == 8 + size_of::<Text>());
 
 /// [`TemplateValue::equals`], tried both ways round: so `==` is an equivalence even for values with
 /// maps whose keys are not known to be distinct.

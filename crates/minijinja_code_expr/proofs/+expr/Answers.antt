@@ -20,7 +20,7 @@ use Rattle.minijinja_emitter.specs.internal.Making.{Adds}
 use Rattle.minijinja_code_expr.specs.internal.NodeMarks.{finished}
 use Rattle.minijinja_code_expr.proofs.ChainMarking.{ahead_marks, ahead_next, later_comparison}
 use Rattle.minijinja_code_expr.proofs.NodeMarking.{Later, expr_later, later_then, whole_leaf}
-use Rattle.minijinja_code_expr.proofs.PendingMarks.{after, after_more, no_leading, one_plain, one_tested, with_one_more, waits_plain, waits_tested}
+use Rattle.minijinja_code_expr.proofs.PendingMarks.{after, after_more, no_leading, with_one_more, waits_plain, waits_tested}
 use Rattle.minijinja_emitter.proofs.Adding.{adds_as}
 use Rattle.minijinja_code_expr.proofs.Arms.{whole_if_false, compare_arm, attribute_arm, item_arm, whole_slice_start, whole_left, whole_right, whole_key, whole_compare, slice_arm, unary_arm, binary_arm, if_arm, filter_arm, test_arm, call_arm, list_arm, tuple_arm, map_arm, whole_slice_stop, whole_slice_step, whole_filter, whole_test_args, whole_test_few, whole_call_args, whole_call_few}
 use Rattle.minijinja_code_expr.proofs.Finishing.{constant_finishes, variable_finishes, attribute_finishes, item_finishes, block_finishes, finishes_as, slice_finishes, binary_finishes, binary_joined, binary_unjoined, filter_finishes, filter_arguments, test_finishes, function_finishes, method_finishes, object_finishes, leading_whole, test_whole}
@@ -94,36 +94,7 @@ expr::expression-returns-clause-added g t c =
     subst (λ m. Adds (made_of v c.args.code.now) m (layout.expr f e)) (sym c.close.ensures.made) (subst (λ m. Adds m (made_of v c.finish.new.code) (layout.expr f e)) c.begin-outer.ensures.made added)
 
 pub expr::expression-returns-clause-marked : goal.expr::expression-returns-clause-marked
-expr::expression-returns-clause-marked g t c =
-    let v = g.V.TemplateValue.contents in
-    let f = g.V.TemplateValue.functions in
-    let e = expr_tree v c.args.expr.now in
-    let node = expr_node v c.args.expr.now in
-    let operand = c.leading_operand-operand.result.now in
-    let x = expr_tree v operand in
-    let old = margin_of c.args.code.now in
-    let begun : Begins f e c.match-test_of.place (made_of v c.begin-outer.new.code) (made_of v c.match-test_of.code) = elim c.match-test_of.branch [
-      | expr::expression-in-Some+in_ok-expression-in-Some+in_ok-place-in-Some w ↦ rw (w.code-is, w.place-is) (begun_test f e (expr_tree v w.in-Some.test.now) (sym w.in-Some.ensures.test) w.in_ok-expression-in-Some.ensures.added w.in_ok-place-in-Some.ensures.place w.in_ok-place-in-Some.ensures.added)
-      | expr::expression-in-None w ↦ rw (w.code-is, w.place-is) (begun_none f e (sym w.in-None.ensures.test) w.place-place.ensures)
-    ] in
-    let more : Adds (made_of v c.match-test_of.code) (made_of v c.if-has_leading_operand.code) (layout.expr f x) = elim c.if-has_leading_operand.branch [
-      | expr::expression-then-has_leading_operand+in_ok-nested w ↦ rw w.code-is w.in_ok-nested.ensures.added
-      | expr::expression-else-has_leading_operand+in_ok-leaf w ↦ rw w.code-is w.in_ok-leaf.ensures.added
-    ] in
-    let then : margin_of c.if-has_leading_operand.code ≡ marks.expr f (expr_node v operand) (margin_of c.match-test_of.code) = elim c.if-has_leading_operand.branch [
-      | expr::expression-then-has_leading_operand+in_ok-nested w ↦ rw w.code-is w.in_ok-nested.ensures.marked
-      | expr::expression-else-has_leading_operand+in_ok-leaf w ↦ rw w.code-is w.in_ok-leaf.ensures.marked
-    ] in
-    let left : finished f node c.match-test_of.place c.begin-outer.result (marks.expr f (expr_node v operand) (margin_of c.match-test_of.code)) ≡ marks.expr f node old = elim c.match-test_of.branch [
-      | expr::expression-in-Some+in_ok-expression-in-Some+in_ok-place-in-Some w ↦ rw (w.code-is, w.place-is)
-          (one_tested f v c.args.expr.now operand w.in_ok-place-in-Some.place c.begin-outer.result old (margin_of w.reserve.new.self) w.in-Some.test.now (sym w.in-Some.ensures.node) c.leading_operand-operand.ensures.node c.begin-outer.ensures.outer
-          (w.in_ok-place-in-Some.ensures.marked ∙ ap (here 1) (w.in_ok-expression-in-Some.ensures.marked ∙ ap (marks.expr f (expr_node v w.in-Some.test.now)) c.begin-outer.ensures.marked)))
-      | expr::expression-in-None w ↦ rw (w.code-is, w.place-is)
-          (one_plain f v c.args.expr.now operand w.place-place.result c.begin-outer.result old (margin_of c.begin-outer.new.code) (sym w.in-None.ensures.node) c.leading_operand-operand.ensures.node
-          (w.place-place.ensures ∙ ap (λ m. length m.code) c.begin-outer.ensures.made ∙ sym (as_many v c.args.code.now)) c.begin-outer.ensures.outer c.begin-outer.ensures.marked)
-    ] in
-    c.close.ensures.marked ∙ c.in_ok-finish.ensures.marked (made_of v c.begin-outer.new.code) (begins_ready f e x c.match-test_of.place (made_of v c.begin-outer.new.code) (made_of v c.match-test_of.code) (made_of v c.if-has_leading_operand.code) begun c.leading_operand-operand.ensures.operand more)
-    ∙ ap (finished f node c.match-test_of.place c.begin-outer.result) then ∙ left
+expr::expression-returns-clause-marked = marked.expr::expression-returns-clause-marked
 
 pub expr::expression-leaf-requires : goal.expr::expression-leaf-requires
 expr::expression-leaf-requires g t c =

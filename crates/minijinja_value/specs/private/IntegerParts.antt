@@ -9,6 +9,7 @@ use Rattle.minijinja_value.specs.declared.value.integer.Integer.TheInside.{Insid
 abbrev pub joined : (high low : ℕ) → ℕ
 joined high low = high * 2 ^ 64 + low
 
+-- an integer's sign and the two halves of its magnitude
 abbrev fields : Bool → (high low : ℕ) → Inside
 fields b high low = record { is_negative = b; high = high; low = low }
 

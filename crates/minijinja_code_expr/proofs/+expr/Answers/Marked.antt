@@ -20,7 +20,7 @@ use Rattle.minijinja_emitter.specs.internal.Making.{Adds}
 use Rattle.minijinja_emitter.specs.internal.Margins.{closed}
 use Rattle.minijinja_emitter.proofs.Counting.{as_many}
 use Rattle.minijinja_code_expr.specs.internal.Leading.{before_right}
-use Rattle.minijinja_code_expr.specs.internal.NodeMarks.{call_ending, ending, given_marks}
+use Rattle.minijinja_code_expr.specs.internal.NodeMarks.{call_ending, ending, finished, given_marks}
 use Rattle.minijinja_code_expr.specs.private.ChainMarks.{chain_end}
 use Rattle.minijinja_code_expr.specs.private.OperatorMarks.{before_right_marks}
 use Rattle.minijinja_code_expr.proofs.ChainMarking.{ahead_end, chain_added, chain_taken, compared_some, later_comparison}
@@ -34,12 +34,48 @@ use Rattle.minijinja_code_expr.proofs.Arms.{compare_arm, unary_arm, binary_arm, 
 use Rattle.minijinja_code_expr.proofs.InOrder.{pairs}
 use Rattle.minijinja_tree_expr.specs.declared.ast.Compare.{out-Compare}
 use Rattle.minijinja_code_expr.proofs.ChainTurns.{turn, turn_false}
+use Rattle.minijinja_code_expr.proofs.PendingMarks.{one_plain, one_tested}
+use Rattle.minijinja_code_expr.proofs.PendingNodes.{Begins, begins_ready, begun_none, begun_test}
+use Rattle.minijinja_code_expr.proofs.+expr.Goals.{expr::expression-in-Some+in_ok-expression-in-Some+in_ok-place-in-Some, expr::expression-in-None, expr::expression-then-has_leading_operand+in_ok-nested, expr::expression-else-has_leading_operand+in_ok-leaf}
 use Rattle.minijinja_code_expr.proofs.ChainEnds.{whole_parts, end_true, end_unknown}
 use Rattle.minijinja_code_expr.proofs.CallArguments.{args_length, keywords_loaded}
 use Rattle.minijinja_code_expr.proofs.Results.{ok_gives}
 use Rattle.minijinja_tree.specs.Tree as tree
+use Rattle.minijinja_semantics.specs.Layout as layout
 use Rattle.minijinja_semantics.specs.Code as code
 use Rattle.minijinja_code_expr.proofs.+expr.Goals as goal
+
+pub expr::expression-returns-clause-marked : goal.expr::expression-returns-clause-marked
+expr::expression-returns-clause-marked g t c =
+    let v = g.V.TemplateValue.contents in
+    let f = g.V.TemplateValue.functions in
+    let e = expr_tree v c.args.expr.now in
+    let node = expr_node v c.args.expr.now in
+    let operand = c.leading_operand-operand.result.now in
+    let x = expr_tree v operand in
+    let old = margin_of c.args.code.now in
+    let begun : Begins f e c.match-test_of.place (made_of v c.begin-outer.new.code) (made_of v c.match-test_of.code) = elim c.match-test_of.branch [
+      | expr::expression-in-Some+in_ok-expression-in-Some+in_ok-place-in-Some w ↦ rw (w.code-is, w.place-is) (begun_test f e (expr_tree v w.in-Some.test.now) (sym w.in-Some.ensures.test) w.in_ok-expression-in-Some.ensures.added w.in_ok-place-in-Some.ensures.place w.in_ok-place-in-Some.ensures.added)
+      | expr::expression-in-None w ↦ rw (w.code-is, w.place-is) (begun_none f e (sym w.in-None.ensures.test) w.place-place.ensures)
+    ] in
+    let more : Adds (made_of v c.match-test_of.code) (made_of v c.if-has_leading_operand.code) (layout.expr f x) = elim c.if-has_leading_operand.branch [
+      | expr::expression-then-has_leading_operand+in_ok-nested w ↦ rw w.code-is w.in_ok-nested.ensures.added
+      | expr::expression-else-has_leading_operand+in_ok-leaf w ↦ rw w.code-is w.in_ok-leaf.ensures.added
+    ] in
+    let then : margin_of c.if-has_leading_operand.code ≡ marks.expr f (expr_node v operand) (margin_of c.match-test_of.code) = elim c.if-has_leading_operand.branch [
+      | expr::expression-then-has_leading_operand+in_ok-nested w ↦ rw w.code-is w.in_ok-nested.ensures.marked
+      | expr::expression-else-has_leading_operand+in_ok-leaf w ↦ rw w.code-is w.in_ok-leaf.ensures.marked
+    ] in
+    let left : finished f node c.match-test_of.place c.begin-outer.result (marks.expr f (expr_node v operand) (margin_of c.match-test_of.code)) ≡ marks.expr f node old = elim c.match-test_of.branch [
+      | expr::expression-in-Some+in_ok-expression-in-Some+in_ok-place-in-Some w ↦ rw (w.code-is, w.place-is)
+          (one_tested f v c.args.expr.now operand w.in_ok-place-in-Some.place c.begin-outer.result old (margin_of w.reserve.new.self) w.in-Some.test.now (sym w.in-Some.ensures.node) c.leading_operand-operand.ensures.node c.begin-outer.ensures.outer
+          (w.in_ok-place-in-Some.ensures.marked ∙ ap (here 1) (w.in_ok-expression-in-Some.ensures.marked ∙ ap (marks.expr f (expr_node v w.in-Some.test.now)) c.begin-outer.ensures.marked)))
+      | expr::expression-in-None w ↦ rw (w.code-is, w.place-is)
+          (one_plain f v c.args.expr.now operand w.place-place.result c.begin-outer.result old (margin_of c.begin-outer.new.code) (sym w.in-None.ensures.node) c.leading_operand-operand.ensures.node
+          (w.place-place.ensures ∙ ap (λ m. length m.code) c.begin-outer.ensures.made ∙ sym (as_many v c.args.code.now)) c.begin-outer.ensures.outer c.begin-outer.ensures.marked)
+    ] in
+    c.close.ensures.marked ∙ c.in_ok-finish.ensures.marked (made_of v c.begin-outer.new.code) (begins_ready f e x c.match-test_of.place (made_of v c.begin-outer.new.code) (made_of v c.match-test_of.code) (made_of v c.if-has_leading_operand.code) begun c.leading_operand-operand.ensures.operand more)
+    ∙ ap (finished f node c.match-test_of.place c.begin-outer.result) then ∙ left
 
 pub chain::compare-returns-in-Some-false-clause-marked : goal.chain::compare-returns-in-Some-false-clause-marked
 chain::compare-returns-in-Some-false-clause-marked g t c =

@@ -3,7 +3,7 @@ use Rattle.minijinja_tree.specs.SpannedErasure as node
 use Rattle.minijinja_semantics.specs.Marks as marks
 use Rattle.minijinja_emitter.specs.internal.AtEmitter.{margin_of}
 use Rattle.minijinja_emitter.specs.internal.Margins.{opened}
-use Rattle.minijinja_code_parts.specs.internal.LoopMarks.{items_marks}
+use Rattle.minijinja_code_parts.specs.private.LoopMarks.{items_marks}
 use Rattle.minijinja_code_parts.proofs.Marking.{span_is}
 use Rattle.minijinja_code_parts.proofs.loop_parts.items.Goals as goal
 

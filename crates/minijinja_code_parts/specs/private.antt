@@ -1,0 +1,2 @@
+-- What the crate says of its own private functions.
+pub mod LoopMarks
