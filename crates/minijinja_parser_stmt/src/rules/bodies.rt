@@ -20,7 +20,7 @@ use minijinja_syntax::tokens::Span;
 use std::marker::PhantomData;
 
 /// The capacity of a body before its first part is read. Most bodies have no more parts.
-const ROOM_AT_FIRST: usize = 8;
+const ROOM_AT_FIRST: usize = 9;
 
 /// An output, after its start.
 #[tactic(auto, unfolding(minijinja_grammar::specs::internal::Forms::reads, minijinja_grammar::specs::internal::StmtForms::shown))]

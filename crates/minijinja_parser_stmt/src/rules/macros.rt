@@ -21,7 +21,7 @@ use minijinja_syntax::tokens::Span;
 use std::marker::PhantomData;
 
 /// The capacity of the arguments of a macro before the first one is read. Most macros have no more.
-const ROOM_AT_FIRST: usize = 3;
+const ROOM_AT_FIRST: usize = 4;
 
 /// The default of an argument, if it has one. After an argument with a default each has to have
 /// one.

@@ -18,7 +18,7 @@ use minijinja_syntax::tokens::Span;
 use std::marker::PhantomData;
 
 /// The capacity of the targets of a `with` before the first one is read. Most have no more.
-const ROOM_AT_FIRST: usize = 3;
+const ROOM_AT_FIRST: usize = 4;
 
 /// A name, or targets in parentheses.
 #[tactic(auto, using(crate::proofs::Targets::bound_is, crate::proofs::Targets::nested_is))]
