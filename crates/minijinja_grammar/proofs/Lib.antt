@@ -40,6 +40,7 @@ pub mod Derivations
 pub mod ReadTrees
 pub mod ExprExamples
 pub mod StmtExamples
+pub mod PlaceExamples
 pub mod ExprRefusals
 pub mod StmtRefusals
 pub mod DepthRows

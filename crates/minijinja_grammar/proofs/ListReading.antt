@@ -18,6 +18,7 @@ use Rattle.minijinja_grammar.specs.Ahead.{comes}
 use Rattle.minijinja_grammar.specs.internal.ExprForms as g
 use Rattle.minijinja_grammar.specs.internal.ExprForms.{Below}
 use Rattle.minijinja_grammar.specs.Expressions.{none_plain, are_in_order, IsExpr, AreArgsIfAny, no_arguments, arguments, args, AreArgItems, no_arg, positional, keyword, starred, double_starred, AreMoreArgs, no_more_args, more_args, AreExprs, no_exprs, exprs, AreMoreExprs, no_more_exprs, more_exprs, AreEntries, no_entries, entries, AreMoreEntries, no_more_entries, more_entries}
+use Rattle.minijinja_grammar.specs.SpannedExpressions.{spanned_expr, spanned_args_if_any, spanned_arg_items, spanned_more_args, spanned_exprs, spanned_more_exprs, spanned_entries, spanned_more_entries}
 use Rattle.minijinja_grammar.proofs.Begins.{expr_begins}
 use Rattle.minijinja_grammar.proofs.TokenReading.{append_nil, TurnsOf, no_star, no_stars, arg_begins, no_mark, mark_taken, Nested}
 
@@ -94,8 +95,8 @@ module _ {C F : Type 0} (f : Functions C F) (src : Text) (en : Ending) (ns : Lis
   abbrev at : List SpannedTok → Span → Place
   at ts l = record { source = src; tokens = ts; ending = en; last = l; names = ns }
 
-  abbrev pub GivesArgs : Form (List (Arg C)) → List SpannedTok → List SpannedTok → bare.Args C → Type 0
-  GivesArgs form ts rest xs = (k : Span) → (ys : List (Arg C)) × (r : Span) × Derives form (at ts k) (at rest r) ys × (bare_args (args_of ys) ≡ xs)
+  abbrev pub GivesArgs : Form (List (Arg C)) → List SpannedTok → List SpannedTok → bare.Args C → (Span → List (Arg C) × Span) → Type 0
+  GivesArgs form ts rest xs v = (k : Span) → (ys : List (Arg C)) × (r : Span) × Derives form (at ts k) (at rest r) ys × (bare_args (args_of ys) ≡ xs) × (v k ≡ (ys, r))
 
   module _ (b : Below C) where
     -- ---- lists of expressions
@@ -109,9 +110,9 @@ module _ {C F : Type 0} (f : Functions C F) (src : Text) (en : Ending) (ns : Lis
     mutual
       unfolding g.exprs g.also
 
-      pub exprs_read : {d : ℕ} {ts rest : List SpannedTok} {es : bare.Exprs C} → AreExprs f src d ts rest es → Nested f src en ns d b → (sofar : List (Expr C)) (k : Span) →
-          (ys : List (Expr C)) × (r : Span) × Derives (g.exprs b.expr sofar) (at ts k) (at rest r) (sofar ++ ys) × (bare_exprs (exprs_of ys) ≡ es)
-      exprs_read (no_exprs e) h sofar k = ([], k, inr (e, (refl, sym (append_nil sofar))), refl)
+      pub exprs_read : {d : ℕ} {ts rest : List SpannedTok} {es : bare.Exprs C} → (a : AreExprs f src d ts rest es) → Nested f src en ns d b → (sofar : List (Expr C)) (k : Span) →
+          (ys : List (Expr C)) × (r : Span) × Derives (g.exprs b.expr sofar) (at ts k) (at rest r) (sofar ++ ys) × (bare_exprs (exprs_of ys) ≡ es) × (spanned_exprs f src k a ≡ (ys, r))
+      exprs_read (no_exprs e) h sofar k = ([], k, inr (e, (refl, sym (append_nil sofar))), refl, refl)
       exprs_read {rest = rest} (exprs {us = us} a m) h sofar k =
           let u = h.expr _ _ _ a k in
           let w = more_exprs_read m h (sofar ++ u.0 ∷ []) u.1 in (
@@ -127,16 +128,17 @@ module _ {C F : Type 0} (f : Functions C F) (src : Text) (en : Ending) (ns : Lis
               ),
             ),
             rw (u.3, w.3) refl,
+            rw (u.4, w.4) refl,
           )
 
-      more_exprs_read : {d : ℕ} {ts rest : List SpannedTok} {es : bare.Exprs C} → AreMoreExprs f src d ts rest es → Nested f src en ns d b → (sofar : List (Expr C)) (k : Span) →
+      more_exprs_read : {d : ℕ} {ts rest : List SpannedTok} {es : bare.Exprs C} → (a : AreMoreExprs f src d ts rest es) → Nested f src en ns d b → (sofar : List (Expr C)) (k : Span) →
           (ys : List (Expr C)) × (r : Span) × TurnsOf (g.span_of_mark comma) (λ y _. either begins_expr (g.also b.expr y >>= (λ z. pure (go_on z))) (pure (over y))) sofar (at ts k) (at rest r) (sofar ++ ys) ×
-          (bare_exprs (exprs_of ys) ≡ es)
+          (bare_exprs (exprs_of ys) ≡ es) × (spanned_more_exprs f src k a ≡ (ys, r))
       more_exprs_read {rest = rest} (no_more_exprs e) h sofar k =
-          ([], k, subst (λ z. TurnsOf (g.span_of_mark comma) (λ y _. either begins_expr (g.also b.expr y >>= (λ z. pure (go_on z))) (pure (over y))) sofar (at rest k) (at rest k) z) (sym (append_nil sofar)) (no_turn (no_mark f src en ns comma rest e)), refl)
+          ([], k, subst (λ z. TurnsOf (g.span_of_mark comma) (λ y _. either begins_expr (g.also b.expr y >>= (λ z. pure (go_on z))) (pure (over y))) sofar (at rest k) (at rest k) z) (sym (append_nil sofar)) (no_turn (no_mark f src en ns comma rest e)), refl, refl)
       more_exprs_read (more_exprs {s = s} a) h sofar k =
           let u = exprs_read a h sofar s in
-          (u.0, u.1, more_exprs_of s k sofar (sofar ++ u.0) u.1 u.2, u.3)
+          (u.0, u.1, more_exprs_of s k sofar (sofar ++ u.0) u.1 u.2, u.3, u.4)
 
     -- ---- maps
 
@@ -149,9 +151,9 @@ module _ {C F : Type 0} (f : Functions C F) (src : Text) (en : Ending) (ns : Lis
     mutual
       unfolding g.entries g.entry
 
-      pub entries_read : {d : ℕ} {ts rest : List SpannedTok} {ks vs : bare.Exprs C} → AreEntries f src d ts rest ks vs → Nested f src en ns d b → (ls ms : List (Expr C)) (k : Span) →
-          (ys zs : List (Expr C)) × (r : Span) × Derives (g.entries b.expr (ls, ms)) (at ts k) (at rest r) (ls ++ ys, ms ++ zs) × (bare_exprs (exprs_of ys) ≡ ks) × (bare_exprs (exprs_of zs) ≡ vs)
-      entries_read (no_entries e) h ls ms k = ([], [], k, inr (e, (refl, rw (append_nil ls, append_nil ms) refl)), refl, refl)
+      pub entries_read : {d : ℕ} {ts rest : List SpannedTok} {ks vs : bare.Exprs C} → (a : AreEntries f src d ts rest ks vs) → Nested f src en ns d b → (ls ms : List (Expr C)) (k : Span) →
+          (ys zs : List (Expr C)) × (r : Span) × Derives (g.entries b.expr (ls, ms)) (at ts k) (at rest r) (ls ++ ys, ms ++ zs) × (bare_exprs (exprs_of ys) ≡ ks) × (bare_exprs (exprs_of zs) ≡ vs) × (spanned_entries f src k a ≡ ((ys, zs), r))
+      entries_read (no_entries e) h ls ms k = ([], [], k, inr (e, (refl, rw (append_nil ls, append_nil ms) refl)), refl, refl, refl)
       entries_read {rest = rest} (entries {s = s} {us = us} {vs = vs} a c m) h ls ms k =
           let u = h.expr _ _ _ a k in
           let v = h.expr _ _ _ c s in
@@ -171,11 +173,12 @@ module _ {C F : Type 0} (f : Functions C F) (src : Text) (en : Ending) (ns : Lis
             ),
             rw (u.3, w.4) refl,
             rw (v.3, w.5) refl,
+            rw (u.4, v.4, w.6) refl,
           )
 
-      more_entries_read : {d : ℕ} {ts rest : List SpannedTok} {ks vs : bare.Exprs C} → AreMoreEntries f src d ts rest ks vs → Nested f src en ns d b → (ls ms : List (Expr C)) (k : Span) →
+      more_entries_read : {d : ℕ} {ts rest : List SpannedTok} {ks vs : bare.Exprs C} → (a : AreMoreEntries f src d ts rest ks vs) → Nested f src en ns d b → (ls ms : List (Expr C)) (k : Span) →
           (ys zs : List (Expr C)) × (r : Span) × TurnsOf (g.span_of_mark comma) (λ y _. either begins_expr (g.entry b.expr y >>= (λ z. pure (go_on z))) (pure (over y))) (ls, ms) (at ts k) (at rest r) (ls ++ ys, ms ++ zs) ×
-          (bare_exprs (exprs_of ys) ≡ ks) × (bare_exprs (exprs_of zs) ≡ vs)
+          (bare_exprs (exprs_of ys) ≡ ks) × (bare_exprs (exprs_of zs) ≡ vs) × (spanned_more_entries f src k a ≡ ((ys, zs), r))
       more_entries_read {rest = rest} (no_more_entries e) h ls ms k = (
         [],
         [],
@@ -184,22 +187,23 @@ module _ {C F : Type 0} (f : Functions C F) (src : Text) (en : Ending) (ns : Lis
             (joined (sym (append_nil ls)) (sym (append_nil ms))) (no_turn (no_mark f src en ns comma rest e)),
         refl,
         refl,
+        refl,
       )
       more_entries_read (more_entries {s = s} a) h ls ms k =
           let u = entries_read a h ls ms s in
-          (u.0, u.1, u.2, more_entries_of s k (ls, ms) (ls ++ u.0, ms ++ u.1) u.2 u.3, u.4, u.5)
+          (u.0, u.1, u.2, more_entries_of s k (ls, ms) (ls ++ u.0, ms ++ u.1) u.2 u.3, u.4, u.5, u.6)
 
     -- ---- arguments
 
-    arg_taken : {ts us : List SpannedTok} {e : bare.Expr C} {d : ℕ} → IsExpr f src d ts us e → Nested f src en ns d b → (k : Span) → comes (is assign) us ≡ false →
-        (x : Expr C) × (r : Span) × Derives (g.arg b.expr) (at ts k) (at us r) (tree.positional x) × (bare_expr x ≡ e)
+    arg_taken : {ts us : List SpannedTok} {e : bare.Expr C} {d : ℕ} → (a : IsExpr f src d ts us e) → Nested f src en ns d b → (k : Span) → comes (is assign) us ≡ false →
+        (x : Expr C) × (r : Span) × Derives (g.arg b.expr) (at ts k) (at us r) (tree.positional x) × (bare_expr x ≡ e) × (spanned_expr f src k a ≡ (x, r))
     unfolding g.arg
     arg_taken {ts = ts} {us = us} a h k e =
         let u = h.expr _ _ _ a k in
-        (u.0, u.1, inr (no_star ts (expr_begins f src a), inr (no_stars ts (expr_begins f src a), (u.0, at us u.1, u.2, inr (e, (refl, refl))))), u.3)
+        (u.0, u.1, inr (no_star ts (expr_begins f src a), inr (no_stars ts (expr_begins f src a), (u.0, at us u.1, u.2, inr (e, (refl, refl))))), u.3, u.4)
 
-    keyword_taken : {ts us vs : List SpannedTok} {s : Span} {x : Text} {e : bare.Expr C} {d : ℕ} → IsExpr f src d ts ((assign, s) ∷ us) (bare.variable x) → IsExpr f src d us vs e → Nested f src en ns d b → (k : Span) →
-        (y : Expr C) × (r : Span) × Derives (g.arg b.expr) (at ts k) (at vs r) (tree.keyword x y) × (bare_expr y ≡ e)
+    keyword_taken : {ts us vs : List SpannedTok} {s : Span} {x : Text} {e : bare.Expr C} {d : ℕ} → IsExpr f src d ts ((assign, s) ∷ us) (bare.variable x) → (c : IsExpr f src d us vs e) → Nested f src en ns d b → (k : Span) →
+        (y : Expr C) × (r : Span) × Derives (g.arg b.expr) (at ts k) (at vs r) (tree.keyword x y) × (bare_expr y ≡ e) × (spanned_expr f src s c ≡ (y, r))
     unfolding g.arg
     keyword_taken {ts = ts} {us = us} {vs = vs} {s = s} {x = x} a c h k =
         let u = h.expr _ _ _ a k in
@@ -227,6 +231,7 @@ module _ {C F : Type 0} (f : Functions C F) (src : Text) (en : Ending) (ns : Lis
             ),
           ),
           w.3,
+          w.4,
         )
 
     more_args_of : {ts rest : List SpannedTok} (s k : Span) (sofar ys : List (Arg C)) (r : Span) → Derives (g.arg_items b.expr sofar) (at ts s) (at rest r) ys →
@@ -254,51 +259,53 @@ module _ {C F : Type 0} (f : Functions C F) (src : Text) (en : Ending) (ns : Lis
     mutual
       unfolding g.arg_items g.arg
 
-      args_read : {d : ℕ} {ts rest : List SpannedTok} {zs : bare.Args C} → AreArgItems f src d ts rest zs → Nested f src en ns d b → (sofar : List (Arg C)) (k : Span) → Fit sofar zs →
-          (ys : List (Arg C)) × (r : Span) × Derives (g.arg_items b.expr sofar) (at ts k) (at rest r) (sofar ++ ys) × (bare_args (args_of ys) ≡ zs)
-      args_read (no_arg e) h sofar k i = ([], k, inr (e, (refl, sym (append_nil sofar))), refl)
+      args_read : {d : ℕ} {ts rest : List SpannedTok} {zs : bare.Args C} → (a : AreArgItems f src d ts rest zs) → Nested f src en ns d b → (sofar : List (Arg C)) (k : Span) → Fit sofar zs →
+          (ys : List (Arg C)) × (r : Span) × Derives (g.arg_items b.expr sofar) (at ts k) (at rest r) (sofar ++ ys) × (bare_args (args_of ys) ≡ zs) × (spanned_arg_items f src k a ≡ (ys, r))
+      args_read (no_arg e) h sofar k i = ([], k, inr (e, (refl, sym (append_nil sofar))), refl, refl)
       args_read {ts = ts} (positional {e = x} {xs = xs} a e m) h sofar k i =
           let u = arg_taken a h k e in
           let j = fit_positional sofar u.0 x xs i in
           let w = more_args_read m h (sofar ++ tree.positional u.0 ∷ []) u.1 j.1 in
-          (tree.positional u.0 ∷ w.0, w.1, one_arg _ _ _ sofar (tree.positional u.0) k u.1 (arg_begins ts (expr_begins f src a)) u.2 j.0 w.0 w.1 w.2, rw (u.3, w.3) refl)
+          (tree.positional u.0 ∷ w.0, w.1, one_arg _ _ _ sofar (tree.positional u.0) k u.1 (arg_begins ts (expr_begins f src a)) u.2 j.0 w.0 w.1 w.2, rw (u.3, w.3) refl, rw (u.4, w.4) refl)
       args_read {ts = ts} (keyword {x = x} {e = y} {xs = xs} a c m) h sofar k i =
           let u = keyword_taken a c h k in
           let j = fit_keyword sofar x u.0 y xs i in
           let w = more_args_read m h (sofar ++ tree.keyword x u.0 ∷ []) u.1 j.1 in
-          (tree.keyword x u.0 ∷ w.0, w.1, one_arg _ _ _ sofar (tree.keyword x u.0) k u.1 (arg_begins ts (expr_begins f src a)) u.2 j.0 w.0 w.1 w.2, rw (u.3, w.3) refl)
+          (tree.keyword x u.0 ∷ w.0, w.1, one_arg _ _ _ sofar (tree.keyword x u.0) k u.1 (arg_begins ts (expr_begins f src a)) u.2 j.0 w.0 w.1 w.2, rw (u.3, w.3) refl, rw (u.4, w.4) refl)
       args_read (starred {s = s} {ts = ts} {us = us} {e = x} {xs = xs} a m) h sofar k i =
           let u = h.expr _ _ _ a s in
           let j = fit_starred sofar u.0 x xs i in
           let w = more_args_read m h (sofar ++ tree.starred u.0 ∷ []) u.1 j.1 in
           let o : Derives (g.arg b.expr) (at ((mul, s) ∷ ts) k) (at us u.1) (tree.starred u.0) = inl (refl, (s, at ts s, mark_taken f src en ns mul s ts k refl, (u.0, at us u.1, u.2, (refl, refl)))) in
-          (tree.starred u.0 ∷ w.0, w.1, one_arg _ _ _ sofar (tree.starred u.0) k u.1 refl o j.0 w.0 w.1 w.2, rw (u.3, w.3) refl)
+          (tree.starred u.0 ∷ w.0, w.1, one_arg _ _ _ sofar (tree.starred u.0) k u.1 refl o j.0 w.0 w.1 w.2, rw (u.3, w.3) refl, rw (u.4, w.4) refl)
       args_read (double_starred {s = s} {ts = ts} {us = us} {e = x} {xs = xs} a m) h sofar k i =
           let u = h.expr _ _ _ a s in
           let j = fit_double_starred sofar u.0 x xs i in
           let w = more_args_read m h (sofar ++ tree.double_starred u.0 ∷ []) u.1 j.1 in
           let o : Derives (g.arg b.expr) (at ((pow, s) ∷ ts) k) (at us u.1) (tree.double_starred u.0) = inr (refl, inl (refl, (s, at ts s, mark_taken f src en ns pow s ts k refl, (u.0, at us u.1, u.2, (refl, refl))))) in
-          (tree.double_starred u.0 ∷ w.0, w.1, one_arg _ _ _ sofar (tree.double_starred u.0) k u.1 refl o j.0 w.0 w.1 w.2, rw (u.3, w.3) refl)
+          (tree.double_starred u.0 ∷ w.0, w.1, one_arg _ _ _ sofar (tree.double_starred u.0) k u.1 refl o j.0 w.0 w.1 w.2, rw (u.3, w.3) refl, rw (u.4, w.4) refl)
 
-      more_args_read : {d : ℕ} {ts rest : List SpannedTok} {zs : bare.Args C} → AreMoreArgs f src d ts rest zs → Nested f src en ns d b → (sofar : List (Arg C)) (k : Span) → Fit sofar zs →
+      more_args_read : {d : ℕ} {ts rest : List SpannedTok} {zs : bare.Args C} → (a : AreMoreArgs f src d ts rest zs) → Nested f src en ns d b → (sofar : List (Arg C)) (k : Span) → Fit sofar zs →
           (ys : List (Arg C)) × (r : Span) × TurnsOf (g.span_of_mark comma) (λ y _. either begins_arg (g.also_arg b.expr y >>= (λ z. pure (go_on z))) (pure (over y))) sofar (at ts k) (at rest r) (sofar ++ ys) ×
-          (bare_args (args_of ys) ≡ zs)
+          (bare_args (args_of ys) ≡ zs) × (spanned_more_args f src k a ≡ (ys, r))
       more_args_read {rest = rest} (no_more_args e) h sofar k i =
-          ([], k, subst (λ z. TurnsOf (g.span_of_mark comma) (λ y _. either begins_arg (g.also_arg b.expr y >>= (λ z. pure (go_on z))) (pure (over y))) sofar (at rest k) (at rest k) z) (sym (append_nil sofar)) (no_turn (no_mark f src en ns comma rest e)), refl)
+          ([], k, subst (λ z. TurnsOf (g.span_of_mark comma) (λ y _. either begins_arg (g.also_arg b.expr y >>= (λ z. pure (go_on z))) (pure (over y))) sofar (at rest k) (at rest k) z) (sym (append_nil sofar)) (no_turn (no_mark f src en ns comma rest e)), refl, refl)
       more_args_read (more_args {s = s} a) h sofar k i =
           let u = args_read a h sofar s i in
-          (u.0, u.1, more_args_of s k sofar (sofar ++ u.0) u.1 u.2, u.3)
+          (u.0, u.1, more_args_of s k sofar (sofar ++ u.0) u.1 u.2, u.3, u.4)
 
     -- after (
-    pub args_after : {d : ℕ} {ts rest : List SpannedTok} {r : Span} {zs : bare.Args C} → AreArgItems f src d ts ((paren_close, r) ∷ rest) zs → are_in_order zs ≡ true → arg_count zs ≤ most_arguments → Nested f src en ns d b →
-        GivesArgs (g.args b.expr) ts rest zs
+    pub args_after : {d : ℕ} {ts rest : List SpannedTok} {r : Span} {zs : bare.Args C} → (a : AreArgItems f src d ts ((paren_close, r) ∷ rest) zs) → are_in_order zs ≡ true → arg_count zs ≤ most_arguments →
+        Nested f src en ns d b →
+        GivesArgs (g.args b.expr) ts rest zs (λ k. ((spanned_arg_items f src k a).0, r))
     unfolding g.args
     args_after {rest = rest} {r = r} a e c h k =
         let u = args_read a h [] k (record { order = e; few = omega (arith, c) }) in
-        (u.0, r, (u.0, at ((paren_close, r) ∷ rest) u.1, u.2, (r, at rest r, mark_taken f src en ns paren_close r rest u.1 refl, (refl, refl))), u.3)
+        (u.0, r, (u.0, at ((paren_close, r) ∷ rest) u.1, u.2, (r, at rest r, mark_taken f src en ns paren_close r rest u.1 refl, (refl, refl))), u.3, rw u.4 refl)
 
-    pub args_if_any : {d : ℕ} {ts rest : List SpannedTok} {zs : bare.Args C} → AreArgsIfAny f src d ts rest zs → Nested f src en ns d b → GivesArgs (g.maybe_args b.expr) ts rest zs
-    args_if_any (no_arguments e) h k = ([], k, inr (e, (refl, refl)), refl)
+    pub args_if_any : {d : ℕ} {ts rest : List SpannedTok} {zs : bare.Args C} → (a : AreArgsIfAny f src d ts rest zs) → Nested f src en ns d b →
+        GivesArgs (g.maybe_args b.expr) ts rest zs (λ k. spanned_args_if_any f src k a)
+    args_if_any (no_arguments e) h k = ([], k, inr (e, (refl, refl)), refl, refl)
     args_if_any (arguments (args {s = s} {ts = ts} a e c)) h k =
         let u = args_after a e c h s in
-        (u.0, u.1, inl (refl, (s, at ts s, mark_taken f src en ns paren_open s ts k refl, u.2)), u.3)
+        (u.0, u.1, inl (refl, (s, at ts s, mark_taken f src en ns paren_open s ts k refl, u.2)), u.3, u.4)

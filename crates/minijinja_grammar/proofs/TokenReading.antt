@@ -22,6 +22,7 @@ use Rattle.minijinja_grammar.specs.internal.ExprForms as g
 use Rattle.minijinja_grammar.specs.Ahead as ahead
 use Rattle.minijinja_grammar.specs.internal.ExprForms.{Below, below}
 use Rattle.minijinja_grammar.specs.Expressions.{IsExpr, IsNot, IsPow, IsOperand, IsPrimary}
+use Rattle.minijinja_grammar.specs.SpannedExpressions.{end_of_name, end_of_texts, end_of_operator, spanned_expr, spanned_not, spanned_pow, spanned_operand, spanned_primary}
 
 pub append_nil : {X : Type 0} (xs : List X) → xs ++ [] ≡ xs
 append_nil [] = refl
@@ -139,47 +140,39 @@ module _ {C F : Type 0} (f : Functions C F) (src : Text) (en : Ending) (ns : Lis
   pub taken : {A : Type 0} (held : SpannedTok → Option A) (u : SpannedTok) (us : List SpannedTok) (k : Span) (x : A) → held u ≡ Some x → Takes held (at (u ∷ us) k) (at us u.1) x
   taken held u us k x e = record { token = u; rest = us; next = refl; holds = e; behind = refl }
 
-  -- wherever the tokens stand, the form derives a tree that is e without spans
-  abbrev pub Gives : Form (Expr C) → List SpannedTok → List SpannedTok → bare.Expr C → Type 0
-  Gives form ts rest e = (k : Span) → (x : Expr C) × (r : Span) × Derives form (at ts k) (at rest r) x × (bare_expr x ≡ e)
+  -- wherever the token before stands, the form derives a tree that is e without spans, and that is
+  -- this one with them
+  abbrev pub Gives : Form (Expr C) → List SpannedTok → List SpannedTok → bare.Expr C → (Span → Expr C × Span) → Type 0
+  Gives form ts rest e v = (k : Span) → (x : Expr C) × (r : Span) × Derives form (at ts k) (at rest r) x × (bare_expr x ≡ e) × (v k ≡ (x, r))
 
   -- names and texts
 
-  dots_read : {from to : Span} {ts rest : List SpannedTok} → IsDots from ts rest to → (k : Span) → (r : Span) × TurnsOf (g.span_of_mark dot) g.name_part from (at ts k) (at rest r) to
+  dots_read : {from to : Span} {ts rest : List SpannedTok} → IsDots from ts rest to → TurnsOf (g.span_of_mark dot) g.name_part from (at ts from) (at rest to) to
   unfolding g.name_part
-  dots_read (no_dot {rest = rest} e) k = (k, no_turn (go rest e))
+  dots_read (no_dot {rest = rest} e) = no_turn (go rest e)
     where
       go : (ts : List SpannedTok) → comes (is dot) ts ≡ false → held_next (g.span_of_mark dot) ts ≡ None
       go [] e = refl
       go (t ∷ ts) e = rw e refl
-  dots_read (dot_part {s = s} {a = a} {b = b} {x = x} {ts = ts} d) k =
-      let u = dots_read d b in
-      (u.0, turn (taken (g.span_of_mark dot) (dot, a) ((ident x, b) ∷ ts) k a refl) ((x, b), at ts b, taken g.ident_and_span (ident x, b) ts a (x, b) refl, (refl, refl)) u.1)
+  dots_read (dot_part {s = s} {a = a} {b = b} {x = x} {ts = ts} d) =
+      turn (taken (g.span_of_mark dot) (dot, a) ((ident x, b) ∷ ts) s a refl) ((x, b), at ts b, taken g.ident_and_span (ident x, b) ts a (x, b) refl, (refl, refl)) (dots_read d)
 
-  pub name_read : {ts rest : List SpannedTok} {x : Text} → IsName src ts rest x → (k : Span) → (r : Span) × Derives g.name (at ts k) (at rest r) x
+  pub name_read : {ts rest : List SpannedTok} {x : Text} → (n : IsName src ts rest x) → (k : Span) → (r : Span) × Derives g.name (at ts k) (at rest r) x × (end_of_name n ≡ r)
   unfolding g.name g.name_parts
-  name_read (plain_name {x = x} {s = s} {rest = rest} e) k = (s, ((x, s), at rest s, taken g.ident_and_span (ident x, s) rest k (x, s) refl, inr (e, (refl, refl))))
+  name_read (plain_name {x = x} {s = s} {rest = rest} e) k = (s, ((x, s), at rest s, taken g.ident_and_span (ident x, s) rest k (x, s) refl, inr (e, (refl, refl))), refl)
   name_read (dotted_name {x = x} {s = s} {to = to} {ts = ts} {rest = rest} e d) k =
-      let u = dots_read d s in (
-        u.0,
-        (
-          (x, s),
-          at ts s,
-          taken g.ident_and_span (ident x, s) ts k (x, s) refl,
-          inl (e, (to, at rest u.0, u.1, (src, at rest u.0, (refl, refl), (refl, refl)))),
-        ),
-      )
+      (to, ((x, s), at ts s, taken g.ident_and_span (ident x, s) ts k (x, s) refl, inl (e, (to, at rest to, dots_read d, (src, at rest to, (refl, refl), (refl, refl))))), refl)
 
-  pub texts_read : {ts rest : List SpannedTok} {y : Text} → IsTexts ts rest y → (x : Text) (k : Span) →
-      (r : Span) × TurnsOf (ahead.held text_of) (λ t u. pure (go_on (t ++ u))) x (at ts k) (at rest r) (x ++ y)
-  texts_read (no_text {rest = rest} e) x k = (k, subst (λ z. TurnsOf (ahead.held text_of) (λ t u. pure (go_on (t ++ u))) x (at rest k) (at rest k) z) (sym (append_nil x)) (no_turn e))
+  pub texts_read : {ts rest : List SpannedTok} {y : Text} → (w : IsTexts ts rest y) → (x : Text) (k : Span) →
+      (r : Span) × TurnsOf (ahead.held text_of) (λ t u. pure (go_on (t ++ u))) x (at ts k) (at rest r) (x ++ y) × (end_of_texts k w ≡ r)
+  texts_read (no_text {rest = rest} e) x k = (k, subst (λ z. TurnsOf (ahead.held text_of) (λ t u. pure (go_on (t ++ u))) x (at rest k) (at rest k) z) (sym (append_nil x)) (no_turn e), refl)
   texts_read (one_text {t = t} {s = s} {x = z} {y = y} {ts = ts} {rest = rest} e w) x k =
       let u = texts_read w (x ++ z) s in
-      (u.0, turn (taken (ahead.held text_of) (t, s) ts k z e) (refl, refl) (subst (λ v. TurnsOf (ahead.held text_of) (λ t u. pure (go_on (t ++ u))) (x ++ z) (at ts s) (at rest u.0) v) (append_assoc x z y) u.1))
+      (u.0, turn (taken (ahead.held text_of) (t, s) ts k z e) (refl, refl) (subst (λ v. TurnsOf (ahead.held text_of) (λ t u. pure (go_on (t ++ u))) (x ++ z) (at ts s) (at rest u.0) v) (append_assoc x z y) u.1), u.2)
 
-  pub cmp_op_read : {ts rest : List SpannedTok} {o : CompareOp} → IsCmpOp ts rest o → (k : Span) →
-      (t : SpannedTok) × (us : List SpannedTok) × (ts ≡ t ∷ us) × (begins_comparison t.0 ≡ true) × (r : Span) × Derives (g.compare_operator (compare_op t.0)) (at us t.1) (at rest r) o
-  cmp_op_read (one_token {t = t} {s = s} {o = o} {rest = rest} e) k = ((t, s), rest, refl, go, s, subst (λ w. Derives (g.compare_operator w) (at rest s) (at rest s) o) (sym e) (refl, refl))
+  pub cmp_op_read : {ts rest : List SpannedTok} {o : CompareOp} → (h : IsCmpOp ts rest o) → (k : Span) →
+      (t : SpannedTok) × (us : List SpannedTok) × (ts ≡ t ∷ us) × (begins_comparison t.0 ≡ true) × (r : Span) × Derives (g.compare_operator (compare_op t.0)) (at us t.1) (at rest r) o × (end_of_operator h ≡ r)
+  cmp_op_read (one_token {t = t} {s = s} {o = o} {rest = rest} e) k = ((t, s), rest, refl, go, s, subst (λ w. Derives (g.compare_operator w) (at rest s) (at rest s) o) (sym e) (refl, refl), refl)
     where
       go : begins_comparison t ≡ true
       go = rw e (or_true (is not_word t))
@@ -188,7 +181,7 @@ module _ {C F : Type 0} (f : Functions C F) (src : Text) (en : Ending) (ns : Lis
           or_true true = refl
           or_true false = refl
   cmp_op_read (not_in_words {s = s} {r = r} {rest = rest}) k =
-      ((not_word, s), (in_word, r) ∷ rest, refl, refl, r, (r, at rest r, taken (g.span_of_mark in_word) (in_word, r) rest s r refl, (refl, refl)))
+      ((not_word, s), (in_word, r) ∷ rest, refl, refl, r, (r, at rest r, taken (g.span_of_mark in_word) (in_word, r) rest s r refl, (refl, refl)), refl)
 
   -- a test on what comes, as a repetition asks it
   pub none_comes : (kind : Tok → Bool) (ts : List SpannedTok) → comes kind ts ≡ false → held_next (g.of_kind kind) ts ≡ None
@@ -213,12 +206,20 @@ module _ {C F : Type 0} (f : Functions C F) (src : Text) (en : Ending) (ns : Lis
   Beneath X zero ts rest e = ⊥
   Beneath X (suc d) ts rest e = X d ts rest e
 
-  abbrev pub Sends : (List SpannedTok → List SpannedTok → bare.Expr C → Type 0) → Form (Expr C) → Type 0
-  Sends X form = (ts rest : List SpannedTok) (e : bare.Expr C) → X ts rest e → Gives form ts rest e
+  -- the trees with spans of what is so related
+  abbrev pub Trees : (List SpannedTok → List SpannedTok → bare.Expr C → Type 0) → Type 0
+  Trees X = (ts rest : List SpannedTok) (e : bare.Expr C) → X ts rest e → Span → Expr C × Span
+
+  abbrev pub trees_beneath : (X : ℕ → List SpannedTok → List SpannedTok → bare.Expr C → Type 0) → ((d : ℕ) → Trees (X d)) → (d : ℕ) → Trees (Beneath X d)
+  trees_beneath X v zero ts rest e a k = absurd a
+  trees_beneath X v (suc d) ts rest e a k = v d ts rest e a k
+
+  abbrev pub Sends : (X : List SpannedTok → List SpannedTok → bare.Expr C → Type 0) → Form (Expr C) → Trees X → Type 0
+  Sends X form v = (ts rest : List SpannedTok) (e : bare.Expr C) (a : X ts rest e) → Gives form ts rest e (v ts rest e a)
 
   pub record Nested (d : ℕ) (b : Below C) : Type 0 where
-    pub expr : Sends (IsExpr f src d) b.expr
-    pub opposite : Sends (Beneath (IsNot f src) d) b.opposite
-    pub power : Sends (Beneath (IsPow f src) d) b.power
-    pub negated : Sends (Beneath (IsOperand f src) d) b.negated
-    pub primary : Sends (IsPrimary f src d) b.primary
+    pub expr : Sends (IsExpr f src d) b.expr (λ ts rest e a k. spanned_expr f src k a)
+    pub opposite : Sends (Beneath (IsNot f src) d) b.opposite (trees_beneath (IsNot f src) (λ d ts rest e a k. spanned_not f src k a) d)
+    pub power : Sends (Beneath (IsPow f src) d) b.power (trees_beneath (IsPow f src) (λ d ts rest e a k. spanned_pow f src k a) d)
+    pub negated : Sends (Beneath (IsOperand f src) d) b.negated (trees_beneath (IsOperand f src) (λ d ts rest e a k. spanned_operand f src k a) d)
+    pub primary : Sends (IsPrimary f src d) b.primary (λ ts rest e a k. spanned_primary f src k a)

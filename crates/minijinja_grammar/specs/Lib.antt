@@ -7,8 +7,12 @@ pub mod Places
 pub mod Derived
 pub mod Stretches
 pub mod Examples
+pub mod PlaceExamples
 pub mod DepthRows
 pub mod TokenSpans
+pub mod SpannedExpressions
+pub mod SpannedTargets
+pub mod SpannedStatements
 pub use Rattle.minijinja_tree.specs.Standing
 pub mod internal
 pub mod private

@@ -1,7 +1,12 @@
 -- Spans from the start of a token to the end of one.
-use Rattle.std.specs.Prelude.{◌≡◌, List, Contains}
+use Rattle.std.specs.Prelude.{◌≡◌, List, [], ◌∷◌, Contains}
 use Rattle.minijinja_syntax.specs.declared.tokens.Span.{Span}
 use Rattle.minijinja_syntax.specs.Streams.{SpannedTok}
+
+-- where the first of the tokens stands, or the token before them where there is none
+abbrev pub first_span : (before : Span) → List SpannedTok → Span
+first_span before [] = before
+first_span before (t ∷ ts) = t.1
 
 -- the span begins where the other does
 pub record SameStart (s t : Span) : Type 0 where

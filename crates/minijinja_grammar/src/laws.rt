@@ -1,12 +1,15 @@
 //! Laws of the grammar.
 ghost use Rattle.std.specs.Prelude.{◌≡◌, ℕ, Bool};
 ghost use Rattle.minijinja_syntax.specs.Texts.{Text};
+ghost use Rattle.minijinja_tree.specs.SpannedTrees as spanned;
+ghost use Rattle.minijinja_tree.specs.SpannedTrees.{bare_expr, bare_stmt};
 ghost use Rattle.minijinja_tree.specs.Tree.{Expr, Stmt, Stmts};
 ghost use Rattle.minijinja_tree.specs.WellFormed.{IsWellFormed, IsWhole};
 ghost use Rattle.minijinja_grammar.specs.DepthRows.{ExprRows, StmtRows};
-ghost use Rattle.minijinja_grammar.specs.Derived.{IsExprTree, IsTemplateTree};
+ghost use Rattle.minijinja_grammar.specs.Derived.{IsExprTree, IsSpannedExpr, IsSpannedTemplate, IsTemplateTree};
 ghost use Rattle.minijinja_grammar.specs.Examples.{ExprExamples, ExprRefusals, StmtExamples, StmtRefusals};
 ghost use Rattle.minijinja_grammar.specs.Expressions.{IsExpr};
+ghost use Rattle.minijinja_grammar.specs.PlaceExamples.{PlaceExamples};
 ghost use Rattle.minijinja_grammar.specs.Places.{Place};
 ghost use Rattle.minijinja_grammar.specs.Statements.{Context, Ends, IsBody, IsStmt};
 ghost use Rattle.minijinja_grammar.specs.Stretches.{IsOfGreaterDepth, OnlyNextCounts};
@@ -20,6 +23,24 @@ pub fn one_tree<V: TemplateValue>()
         IsTemplateTree V.functions p t → IsTemplateTree V.functions p u → t ≡ u }
     ensures expression { (p : Place) (t u : Expr V.Contents) → IsExprTree V.functions p t →
         IsExprTree V.functions p u → t ≡ u }
+{}
+
+/// Where the nodes of a tree stand is told by the tokens: trees with spans that the grammar gives of
+/// the same tokens are one.
+pub fn places_are_unique<V: TemplateValue>()
+    ensures template { (p : Place) (t u : spanned.Stmt V.Contents) →
+        IsSpannedTemplate V.functions p t → IsSpannedTemplate V.functions p u → t ≡ u }
+    ensures expression { (p : Place) (t u : spanned.Expr V.Contents) →
+        IsSpannedExpr V.functions p t → IsSpannedExpr V.functions p u → t ≡ u }
+{}
+
+/// The nodes of each tree stand somewhere: of each tree there is one with spans.
+pub fn each_tree_has_places<V: TemplateValue>()
+    ensures template { (p : Place) (t : Stmt V.Contents (Unit {0})) →
+        IsTemplateTree V.functions p t → (u : spanned.Stmt V.Contents) ×
+        IsSpannedTemplate V.functions p u × (bare_stmt u ≡ t) }
+    ensures expression { (p : Place) (t : Expr V.Contents) → IsExprTree V.functions p t →
+        (u : spanned.Expr V.Contents) × IsSpannedExpr V.functions p u × (bare_expr u ≡ t) }
 {}
 
 /// A tree of tokens is well formed.
@@ -59,6 +80,11 @@ pub fn derivable_deeper<V: TemplateValue>()
 pub fn derives<V: TemplateValue>()
     ensures expressions { ExprExamples V.functions }
     ensures statements { StmtExamples V.functions }
+{}
+
+/// Where the nodes of a few texts stand: equal variables and equal data each at their own tokens.
+pub fn nodes_stand<V: TemplateValue>()
+    ensures { PlaceExamples V.functions }
 {}
 
 /// Texts that have none.

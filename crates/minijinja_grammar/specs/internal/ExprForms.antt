@@ -17,6 +17,7 @@ use Rattle.minijinja_tree.specs.SpannedTrees.{Expr, variable, constant, unary, b
 use Rattle.minijinja_grammar.specs.Words.{is, is_true_word, is_false_word, is_none_word, if_word, else_word, not_word, in_word, text_of, or_op, and_op, sum_op, cat_op, term_op, compare_op, begins_primary, begins_expr, begins_arg, begins_postfix, begins_suffix, begins_comparison, begins_bare}
 use Rattle.minijinja_syntax.specs.Streams.{SpannedTok}
 use Rattle.minijinja_grammar.specs.Ahead.{held}
+pub use Rattle.minijinja_grammar.specs.SpannedExpressions.{compare_two, compare_all}
 use Rattle.minijinja_grammar.specs.internal.Forms.{Form, pure, nothing, one, source, start, last, either, many, Turn, go_on, over, ◌>>=◌, ◌>>◌}
 
 -- ---- tokens
@@ -357,23 +358,6 @@ level op f = do
   from ← start
   l ← f
   many (held op) (λ l o. f >>= (λ r. spanned from (λ s. go_on (binary o l r s)))) l
-
--- one comparison
-abbrev pub compare_two : {C : Type 0} → Span → CompareOp → Expr C → Expr C → Expr C
-compare_two s cmp.eq l r = binary bin.eq l r s
-compare_two s cmp.ne l r = binary bin.ne l r s
-compare_two s cmp.lt l r = binary bin.lt l r s
-compare_two s cmp.lte l r = binary bin.lte l r s
-compare_two s cmp.gt l r = binary bin.gt l r s
-compare_two s cmp.gte l r = binary bin.gte l r s
-compare_two s cmp.is_in l r = binary bin.is_in l r s
-compare_two s cmp.not_in l r = unary logical_not (binary bin.is_in l r s) s
-
--- none is the operand, and two or more are a chain
-abbrev pub compare_all : {C : Type 0} → Expr C → List (CompareOp × Expr C) → Span → Expr C
-compare_all e [] s = e
-compare_all e (c ∷ []) s = compare_two s c.0 e c.1
-compare_all e (c ∷ d ∷ cs) s = compare e (comparisons_of (c ∷ d ∷ cs)) s
 
 -- CmpOp = == | != | < | <= | > | >= | "in" | "not" "in", after its first token
 abbrev pub compare_operator : Option CompareOp → Form CompareOp

@@ -12,6 +12,7 @@ use Rattle.minijinja_syntax.specs.declared.tokens.Span.{Span}
 use Rattle.minijinja_syntax.specs.Streams.{SpannedTok}
 use Rattle.minijinja_grammar.specs.Ahead.{comes, held_next}
 use Rattle.minijinja_grammar.specs.Places.{Place}
+use Rattle.minijinja_grammar.specs.TokenSpans.{first_span}
 
 -- a turn of a repetition: more may follow, or none
 pub data Turn (A : Type 0) : Type 0 where
@@ -35,11 +36,7 @@ pub data Form : Type 0 → Type 1 where
 
 -- where the next token stands, or the one taken last if none comes
 abbrev pub start_at : Place → Span
-start_at p = go p.tokens
-  where
-    go : List SpannedTok → Span
-    go [] = p.last
-    go (t ∷ ts) = t.1
+start_at p = first_span p.last p.tokens
 
 -- the place after the next token
 abbrev pub after : Place → SpannedTok → List SpannedTok → Place
