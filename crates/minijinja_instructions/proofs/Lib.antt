@@ -4,3 +4,4 @@ pub mod Lent
 pub mod Reaching
 pub mod EachOnce
 pub mod Scans
+pub mod Printing

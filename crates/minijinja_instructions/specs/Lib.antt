@@ -1,5 +1,6 @@
 -- The definitions of this crate.
 pub mod InstructionLists
+pub mod InstructionWords
 pub mod Instructions
 pub mod Lending
 pub mod MarkLists

@@ -1,11 +1,16 @@
 //! The printed forms of instructions.
-use crate::instructions::Instruction;
+ghost use Rattle.std.specs.Prelude.{◌≡◌};
+ghost use Rattle.minijinja_instructions.specs.InstructionWords.{compare_words, capture_words, instruction_name, instruction_output, count_output};
+
+use crate::instructions::{CaptureMode, CompareOp, Instruction};
 use minijinja_value::value::{Quoted, TemplateValue};
 use std::fmt;
 
 /// The name of the instruction and, in parentheses, its parts: texts in quotes, numbers as
 /// decimals, an absent count as `none`.
 impl<V: TemplateValue + fmt::Display> fmt::Display for Instruction<'_, V> {
+    ghost output = { instruction_output V.output };
+
     fn fmt<W: fmt::Write>(&self, f: &mut fmt::Formatter<W>) -> fmt::Result {
         let name = name_of(self);
         match self {
@@ -25,7 +30,7 @@ impl<V: TemplateValue + fmt::Display> fmt::Display for Instruction<'_, V> {
             Instruction::BuildList(count) | Instruction::BuildTuple(count) => {
                 write!(f, "{name}({})", OrNone(*count))
             }
-            Instruction::CompareAndPreserve(op) => write!(f, "{name}({op:?})"),
+            Instruction::CompareAndPreserve(op) => write!(f, "{name}({})", compare_words(*op)),
             Instruction::ApplyFilter(text, count, id) | Instruction::PerformTest(text, count, id) =>
                 { write!(f, "{name}({}, {}, {id})", Quoted(text), OrNone(*count)) }
             Instruction::PushLoop(flags) => write!(f, "{name}({flags})"),
@@ -34,7 +39,7 @@ impl<V: TemplateValue + fmt::Display> fmt::Display for Instruction<'_, V> {
             | Instruction::JumpIfFalse(index)
             | Instruction::JumpIfFalseOrPop(index)
             | Instruction::JumpIfTrueOrPop(index) => write!(f, "{name}({index})"),
-            Instruction::BeginCapture(mode) => write!(f, "{name}({mode:?})"),
+            Instruction::BeginCapture(mode) => write!(f, "{name}({})", capture_words(*mode)),
             Instruction::CallFunction(text, count) | Instruction::CallMethod(text, count) => {
                 write!(f, "{name}({}, {})", Quoted(text), OrNone(*count))
             }
@@ -49,7 +54,9 @@ impl<V: TemplateValue + fmt::Display> fmt::Display for Instruction<'_, V> {
 }
 
 /// The name of an instruction, as it is printed.
-fn name_of<V: TemplateValue>(instruction: &Instruction<'_, V>) -> &'static str {
+fn name_of<V: TemplateValue>(instruction: &Instruction<'_, V>) -> &'static str
+    ensures { result.now ≡ instruction_name instruction.now }
+{
     match instruction {
         Instruction::EmitRaw(_) => "EmitRaw",
         Instruction::StoreLocal(_) => "StoreLocal",
@@ -121,11 +128,39 @@ fn name_of<V: TemplateValue>(instruction: &Instruction<'_, V>) -> &'static str {
     }
 }
 
+/// The name of a comparison, as it is printed.
+fn compare_words(op: CompareOp) -> &'static str
+    ensures { result.now ≡ compare_words op }
+{
+    match op {
+        CompareOp::Eq => "Eq",
+        CompareOp::Ne => "Ne",
+        CompareOp::Lt => "Lt",
+        CompareOp::Lte => "Lte",
+        CompareOp::Gt => "Gt",
+        CompareOp::Gte => "Gte",
+        CompareOp::In => "In",
+        CompareOp::NotIn => "NotIn",
+    }
+}
+
+/// What happens to captured output, as it is printed.
+fn capture_words(mode: CaptureMode) -> &'static str
+    ensures { result.now ≡ capture_words mode }
+{
+    match mode {
+        CaptureMode::Capture => "Capture",
+        CaptureMode::Discard => "Discard",
+    }
+}
+
 /// A count, or `none` where it stands on top of the operands that it counts.
 #[derive(Clone, Copy)]
 struct OrNone<N>(Option<N>);
 
 impl<N: fmt::Display> fmt::Display for OrNone<N> {
+    ghost output = { λ count. count_output N.output count.0 };
+
     fn fmt<W: fmt::Write>(&self, f: &mut fmt::Formatter<W>) -> fmt::Result {
         match &self.0 {
             Some(count) => write!(f, "{count}"),

@@ -7,3 +7,5 @@ pub mod lists;
 pub mod marks;
 mod references;
 mod runs;
+#[cfg(test)]
+mod tests;

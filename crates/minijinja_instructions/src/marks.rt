@@ -94,6 +94,12 @@ impl MarkList {
     {
         placed(self.spans.at(index))
     }
+
+    /// How often the line changes, and how often the span.
+    #[cfg(test)]
+    pub fn changes(&self) -> (usize, usize) {
+        (self.lines.changes(), self.spans.changes())
+    }
 }
 
 /// One place more, on this line.

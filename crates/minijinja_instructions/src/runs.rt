@@ -95,6 +95,12 @@ impl<T: Copy> Runs<T> {
     {
         value_at(&self.runs, place)
     }
+
+    /// How often the value changes.
+    #[cfg(test)]
+    pub fn changes(&self) -> usize {
+        self.runs.len()
+    }
 }
 
 /// The value in force at a place.
