@@ -70,8 +70,8 @@ pub fn literal<'s, V: TemplateValue>(
     alloc: Global,
     tokens: &mut TokenStream<'s, '_>,
 ) -> Result<Expr<'s, V>, Refusal>
-    ensures { Reads (expr_node V.contents) (reads (primaries.literal V.functions) tokens.old) result
-        tokens.new }
+    ensures { Reads (expr_node V.contents) (reads (primaries.literal V.functions) tokens.old.place) result
+        tokens.new.place }
 {
     if let Some(value) = tokens.int_in_view() {
         let from = tokens.skip(Wanted::Part(Expected::Expression))?;
@@ -101,7 +101,7 @@ pub fn numbered<'s, V: TemplateValue>(
     from: Span,
 ) -> Result<Expr<'s, V>, Refusal>
     ensures { Reads (expr_node V.contents) (item_at V.functions (expr_node V.contents expr.entry)
-        from tokens.old) result tokens.new }
+        from tokens.old.place) result tokens.new.place }
 {
     let (token, at) = tokens.take(Wanted::Part(Expected::Identifier))?;
     let index = match token {
@@ -133,8 +133,8 @@ pub fn text<'s, V: TemplateValue>(
     text: &'s str,
     from: Span,
 ) -> Result<Expr<'s, V>, Refusal>
-    ensures { Reads (expr_node V.contents) (reads (form.texts V.functions from text.now) tokens.old)
-        result tokens.new }
+    ensures { Reads (expr_node V.contents) (reads (form.texts V.functions from text.now) tokens.old.place)
+        result tokens.new.place }
 {
     if !tokens.begins(Part::Text) {
         return Ok(constant_text(alloc, text, tokens.expand_span(from))?);
@@ -153,7 +153,7 @@ pub fn joined_text<'s, V: TemplateValue>(
     from: Span,
 ) -> Result<Expr<'s, V>, Refusal>
     ensures { Reads (expr_node V.contents)
-        (reads (form.texts V.functions from (string_bytes text)) tokens.old) result tokens.new }
+        (reads (form.texts V.functions from (string_bytes text)) tokens.old.place) result tokens.new.place }
 {
     let mut joined = text;
     while tokens.begins(Part::Text) {
@@ -179,9 +179,9 @@ fn push_text(joined: &mut String, token: &Token<'_>) -> Result<(), AllocError>
 /// Reads the parts of a name after the first one, and returns the span of the last part.
 #[tactic(auto, using(crate::proofs::Names::parts_done, crate::proofs::Names::parts_more, crate::proofs::Names::still_between, minijinja_parser_tokens::proofs::Turned::next_shorter, minijinja_parser_tokens::proofs::Turned::read_no_longer))]
 pub fn name_parts(tokens: &mut TokenStream<'_, '_>, first: Span) -> Result<Span, Refusal>
-    requires { IsBetweenChars tokens.old.source first }
-    ensures read { Reads (λ s. s) (reads (form.name_parts first) tokens.old) result tokens.new }
-    ensures between { IfOk result (IsBetweenChars tokens.new.source) }
+    requires { IsBetweenChars tokens.old.place.source first }
+    ensures read { Reads (λ s. s) (reads (form.name_parts first) tokens.old.place) result tokens.new.place }
+    ensures between { IfOk result (IsBetweenChars tokens.new.place.source) }
 {
     let mut last = first;
     while tokens.at(Mark::Dot) {

@@ -48,8 +48,8 @@ pub fn expression<'s, 'c, V: TemplateValue>(
     form: ExprForm,
     depth: usize,
 ) -> Result<Expr<'s, V>, Refusal>
-    ensures { Reads (expr_node V.contents) (reads (expr_of V.functions form depth) tokens.old)
-        result tokens.new }
+    ensures { Reads (expr_node V.contents) (reads (expr_of V.functions form depth) tokens.old.place)
+        result tokens.new.place }
 {
     let expr = in_statements::expression(nodes, tokens, form, depth)?;
     if !fits(form, &expr) {

@@ -82,8 +82,8 @@ impl<'s, 'c, V: TemplateValue> ExprBuilder for TreeExprs<'s, 'c, V> {
 
     #[tactic(auto, using(crate::proofs::Primaries::atom_is))]
     fn atom(&self, tokens: &mut TokenStream<'s, 'c>) -> Result<Expr<'s, V>, Refusal>
-        ensures { Reads (expr_node V.contents) (reads (primaries.atom V.functions) tokens.old) result
-            tokens.new }
+        ensures { Reads (expr_node V.contents) (reads (primaries.atom V.functions) tokens.old.place) result
+            tokens.new.place }
     {
         if let Some(name) = tokens.ident_in_view() {
             let from = tokens.skip(Wanted::Part(Expected::Expression))?;
@@ -100,7 +100,7 @@ impl<'s, 'c, V: TemplateValue> ExprBuilder for TreeExprs<'s, 'c, V> {
         from: Span,
     ) -> Result<Expr<'s, V>, Refusal>
         ensures { Reads (expr_node V.contents) (reads (form.member nothing V.functions
-            (expr_node V.contents expr.entry) from) tokens.old) result tokens.new }
+            (expr_node V.contents expr.entry) from) tokens.old.place) result tokens.new.place }
     {
         let Some(name) = tokens.ident_in_view() else {
             return atoms::numbered(self.alloc, tokens, expr, from);
@@ -113,7 +113,7 @@ impl<'s, 'c, V: TemplateValue> ExprBuilder for TreeExprs<'s, 'c, V> {
     /// The text from the first part of the name to its last.
     #[tactic(auto, using(crate::proofs::Names::name_is, crate::proofs::Names::still_between))]
     fn name(&self, tokens: &mut TokenStream<'s, 'c>) -> Result<&'s str, Refusal>
-        ensures { Reads (λ x. x.now) (reads form.name tokens.old) result tokens.new }
+        ensures { Reads (λ x. x.now) (reads form.name tokens.old.place) result tokens.new.place }
     {
         let (name, first) = ident(tokens, Wanted::Part(Expected::Identifier))?;
         if !tokens.at(Mark::Dot) {

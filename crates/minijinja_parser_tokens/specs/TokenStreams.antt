@@ -1,6 +1,7 @@
--- What a token stream is to its callers: a place in a text, with the tokens after it.
+-- What a token stream is to its callers: the name of a text, and a place in it with the tokens after
+-- that.
 use Rattle.std.specs.Borrow.{Bor}
-use Rattle.std.specs.Prelude.{◌≡◌, ◌⊎◌, ◌∷◌, [], List, Option, Some, None, Result, Ok, Err, IfOk, IfSome}
+use Rattle.std.specs.Prelude.{◌≡◌, ◌≢◌, ◌⊎◌, ◌∷◌, [], List, Option, Some, None, Result, Ok, Err, IfOk, IfErr, IfSome}
 use Rattle.minijinja_syntax.specs.Texts.{Text}
 use Rattle.minijinja_syntax.specs.Errors.{kind_of, span_of}
 use Rattle.minijinja_syntax.specs.Streams.{SpannedTok, Stream, before, ended, finished, refused, spanned_tok}
@@ -9,8 +10,14 @@ use Rattle.minijinja_syntax.specs.declared.tokens.Token.{Token}
 use Rattle.minijinja_syntax.specs.declared.tokens.Span.{Span}
 use Rattle.minijinja_syntax.specs.declared.error.Error.{Error}
 use Rattle.minijinja_lexer.specs.Slices.{IsBetweenChars}
-use Rattle.minijinja_lexer.specs.Stream.{Refuses, NeedsMemory, out_of_memory}
+use Rattle.minijinja_syntax.specs.declared.error.ErrorKind.TheVariants.{OutOfMemory}
+use Rattle.minijinja_lexer.specs.Stream.{IsNamed, Refuses, NeedsMemory, out_of_memory}
 use Rattle.minijinja_grammar.specs.Places.{Place}
+
+-- the name of its source, and the place that it has come to
+pub record Streaming : Type 0 where
+  pub filename : Text
+  pub place : Place
 
 -- the span of zeros
 abbrev pub no_place : Span
@@ -50,6 +57,10 @@ abbrev pub last_after : Result (Option (Token × Span)) Error → Span → Span
 last_after (Ok (Some t)) last = t.1
 last_after (Ok None) last = last
 last_after (Err e) last = last
+
+-- a refusal has the name of the source, unless memory was refused
+abbrev pub IsNamedUnder : {A : Type 0} → Text → Result A Error → Type 0
+IsNamedUnder filename r = IfErr r (λ e. kind_of e ≢ OutOfMemory → IsNamed filename e)
 
 -- the text can be cut where the token that was returned begins and where it ends
 abbrev pub StandsBetweenChars : Text → Result (Option (Token × Span)) Error → Type 0

@@ -108,7 +108,7 @@ pub trait Tokens {
 impl<'s, 'c> TokenStream<'s, 'c> {
     /// Whether the tokenizer did not run out of memory for the next token.
     fn is_ready(&self) -> bool
-        ensures { OnTrue result (stream_at self.now ≢ out_of_memory) }
+        ensures { OnTrue result (stream_at self.now.place ≢ out_of_memory) }
     {
         match &self.current {
             Err(error) => error.kind() != ErrorKind::OutOfMemory,
@@ -118,7 +118,7 @@ impl<'s, 'c> TokenStream<'s, 'c> {
 
     /// The comparison that the next token is, if it is one by itself.
     fn comparison_in_view(&self) -> Option<CompareOpKind>
-        ensures { option_map compare_op result ≡ next_compare self.now.tokens }
+        ensures { option_map compare_op result ≡ next_compare self.now.place.tokens }
     {
         match &self.current {
             Ok(Some((token, _))) => compare_operator(token),
@@ -128,7 +128,7 @@ impl<'s, 'c> TokenStream<'s, 'c> {
 
     /// The next token, if it is an identifier.
     pub fn ident_in_view(&self) -> Option<&'s str>
-        ensures { option_map (λ x. x.now) result ≡ next_ident self.now.tokens }
+        ensures { option_map (λ x. x.now) result ≡ next_ident self.now.place.tokens }
     {
         match &self.current {
             Ok(Some((Token::Ident(name), _))) => Some(name),
@@ -138,7 +138,7 @@ impl<'s, 'c> TokenStream<'s, 'c> {
 
     /// The next token, if it is a string without escapes.
     pub fn str_in_view(&self) -> Option<&'s str>
-        ensures { option_map (λ x. x.now) result ≡ next_str self.now.tokens }
+        ensures { option_map (λ x. x.now) result ≡ next_str self.now.place.tokens }
     {
         match &self.current {
             Ok(Some((Token::Str(text), _))) => Some(text),
@@ -148,7 +148,7 @@ impl<'s, 'c> TokenStream<'s, 'c> {
 
     /// The next token, if it is a number of at most 64 bits.
     pub fn int_in_view(&self) -> Option<u64>
-        ensures { result ≡ next_int self.now.tokens }
+        ensures { result ≡ next_int self.now.place.tokens }
     {
         match &self.current {
             Ok(Some((Token::Int(value), _))) => Some(*value),
@@ -160,7 +160,7 @@ impl<'s, 'c> TokenStream<'s, 'c> {
 impl<'s, 'c> Tokens for TokenStream<'s, 'c> {
     type Token = Token<'s>;
 
-    ghost place = { λ p. p };
+    ghost place = { λ s. s.place };
 
     ghost tok = { tok_of };
 
@@ -213,8 +213,8 @@ impl<'s, 'c> Tokens for TokenStream<'s, 'c> {
     #[tactic(auto, unfolding(minijinja_grammar::specs::internal::Forms::reads))]
     #[inline(always)]
     fn take(&mut self, wanted: Wanted) -> Result<(Token<'s>, Span), Refusal>
-        ensures read { Reads spanned_tok (reads (one Some) self.old) result self.new }
-        ensures between { IfOk result (λ t. IsBetweenChars self.old.source t.1) }
+        ensures read { Reads spanned_tok (reads (one Some) self.old.place) result self.new.place }
+        ensures between { IfOk result (λ t. IsBetweenChars self.old.place.source t.1) }
     {
         let Ok(Some((_, span))) = &self.current else {
             return Err(Refusal::Ended(wanted));
@@ -235,8 +235,8 @@ impl<'s, 'c> Tokens for TokenStream<'s, 'c> {
     #[tactic(auto, unfolding(minijinja_grammar::specs::internal::Forms::reads))]
     #[inline(always)]
     fn skip(&mut self, wanted: Wanted) -> Result<Span, Refusal>
-        ensures read { Reads (λ s. s) (skipped self.old) result self.new }
-        ensures between { IfOk result (λ s. IsBetweenChars self.old.source s) }
+        ensures read { Reads (λ s. s) (skipped self.old.place) result self.new.place }
+        ensures between { IfOk result (λ s. IsBetweenChars self.old.place.source s) }
     {
         let Ok(Some((_, span))) = &self.current else {
             return Err(Refusal::Ended(wanted));
@@ -306,9 +306,9 @@ pub fn ident<'s>(
     tokens: &mut TokenStream<'s, '_>,
     wanted: Wanted,
 ) -> Result<(&'s str, Span), Refusal>
-    ensures read { Reads (λ t. (t.0.now, t.1)) (reads (one ident_and_span) tokens.old) result
-        tokens.new }
-    ensures between { IfOk result (λ t. IsBetweenChars tokens.old.source t.1) }
+    ensures read { Reads (λ t. (t.0.now, t.1)) (reads (one ident_and_span) tokens.old.place) result
+        tokens.new.place }
+    ensures between { IfOk result (λ t. IsBetweenChars tokens.old.place.source t.1) }
 {
     let name = tokens.ident_in_view();
     let span = tokens.skip(wanted)?;
@@ -325,7 +325,8 @@ pub fn new_ident<'s>(
     tokens: &mut TokenStream<'s, '_>,
     wanted: Wanted,
 ) -> Result<(&'s str, Span), Refusal>
-    ensures { Reads (λ t. (t.0.now, t.1)) (reads new_ident_and_span tokens.old) result tokens.new }
+    ensures { Reads (λ t. (t.0.now, t.1)) (reads new_ident_and_span tokens.old.place) result
+        tokens.new.place }
 {
     let (name, span) = ident(tokens, wanted)?;
     if !tokens.names.insert(name)? {

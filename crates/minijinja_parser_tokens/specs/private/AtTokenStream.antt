@@ -9,7 +9,7 @@ use Rattle.minijinja_syntax.specs.declared.error.Error.{Error}
 use Rattle.minijinja_syntax.specs.declared.error.ErrorKind.TheVariants.{OutOfMemory}
 use Rattle.minijinja_lexer.specs.Stream.{IsTokenizerKind}
 use Rattle.minijinja_grammar.specs.Places.{Place}
-use Rattle.minijinja_parser_tokens.specs.TokenStreams.{StandsBetweenChars}
+use Rattle.minijinja_parser_tokens.specs.TokenStreams.{IsNamedUnder, StandsBetweenChars, Streaming}
 use Rattle.minijinja_parser_tokens.specs.declared.token_stream.TokenStream.TheInside.{Inside}
 
 -- the answer of a tokenizer, before the tokens that it has yet to return
@@ -33,7 +33,12 @@ place_of a = record {
   names = map (λ x. x.now) (keys a.names);
 }
 
--- the next token comes before those of the tokenizer, and the text can be cut round it
+abbrev pub streaming : Inside → Streaming
+streaming a = record { filename = a.tokenizer.filename; place = place_of a }
+
+-- the next token comes before those of the tokenizer, and the text can be cut round it; a refusal
+-- has the name of the source
 pub record IsStream (a : Inside) : Type 0 where
   pub ahead : IsAnswerBefore a.current a.tokenizer.stream
   pub between : StandsBetweenChars a.tokenizer.source a.current
+  pub named : IsNamedUnder a.tokenizer.filename a.current

@@ -25,19 +25,21 @@ on_false false P h e = h
 pub returns-then-not-branch : goal.returns-then-not-branch
 returns-then-not-branch c =
     let x : Text × Span = (c.in_ok-name.name.now, c.in_ok-name.span) in
-    let given : is_given x.0 c.ident.new.tokens ≡ true =
-    ap (is_given x.0) (sym c.tokens.view_is) ∙ sym (has_is (λ k. k.now) c.in_ok-name.name (keys c.tokens.inside.names)) ∙ was_there _ _ c.in_ok-insert.ensures.added c.if-not-branch.true in
+    let place_is : place_of c.tokens.inside ≡ c.ident.new.tokens.place = ap (λ s. s.place) c.tokens.view_is in
+    let given : is_given x.0 c.ident.new.tokens.place ≡ true =
+    ap (is_given x.0) (sym place_is) ∙ sym (has_is (λ k. k.now) c.in_ok-name.name (keys c.tokens.inside.names)) ∙ was_there _ _ c.in_ok-insert.ensures.added c.if-not-branch.true in
     let kept : keys c.insert.new.self ≡ keys c.tokens.inside.names = on_false _ _ c.in_ok-insert.ensures.unchanged c.if-not-branch.true in
-    let same : c.ident.new.tokens ≡ record (place_of c.tokens.inside) { names = map (λ k. k.now) (keys c.insert.new.self) } =
-    sym c.tokens.view_is ∙ ap (λ ks. record (place_of c.tokens.inside) { names = map (λ k. k.now) ks }) (sym kept) in
-    refused (λ (t : Bor Text × Span). (t.0.now, t.1)) _ c.ident.new.tokens _ _ (given_again c.args.tokens.now c.ident.new.tokens x c.in_ok-name.ensures.read given) same c.misfit.ensures
+    let same : c.ident.new.tokens.place ≡ record (place_of c.tokens.inside) { names = map (λ k. k.now) (keys c.insert.new.self) } =
+    sym place_is ∙ ap (λ ks. record (place_of c.tokens.inside) { names = map (λ k. k.now) ks }) (sym kept) in
+    refused (λ (t : Bor Text × Span). (t.0.now, t.1)) _ c.ident.new.tokens.place _ _ (given_again c.args.tokens.now.place c.ident.new.tokens.place x c.in_ok-name.ensures.read given) same c.misfit.ensures
 
 pub returns : goal.returns
 returns c =
     let x : Text × Span = (c.in_ok-name.name.now, c.in_ok-name.span) in
-    let q = c.ident.new.tokens in
+    let q = c.ident.new.tokens.place in
+    let place_is : place_of c.tokens.inside ≡ q = ap (λ s. s.place) c.tokens.view_is in
     let given : is_given x.0 q ≡ false =
-    ap (is_given x.0) (sym c.tokens.view_is) ∙ sym (has_is (λ k. k.now) c.in_ok-name.name (keys c.tokens.inside.names)) ∙ was_not _ _ c.in_ok-insert.ensures.added c.if-not-branch.false in
-    given_first c.args.tokens.now q x c.in_ok-name.ensures.read given ∙
-    ap (λ p. got x (giving x.0 p)) (sym c.tokens.view_is) ∙
+    ap (is_given x.0) (sym place_is) ∙ sym (has_is (λ k. k.now) c.in_ok-name.name (keys c.tokens.inside.names)) ∙ was_not _ _ c.in_ok-insert.ensures.added c.if-not-branch.false in
+    given_first c.args.tokens.now.place q x c.in_ok-name.ensures.read given ∙
+    ap (λ p. got x (giving x.0 p)) (sym place_is) ∙
     ap (λ ns. got x (record (place_of c.tokens.inside) { names = ns })) (sym (ap (map (λ k. k.now)) c.in_ok-insert.ensures.keys ∙ inserted_is (λ k. k.now) (keys c.tokens.inside.names) c.in_ok-name.name))
