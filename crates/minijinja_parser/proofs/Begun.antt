@@ -10,6 +10,9 @@ use Rattle.minijinja_syntax.specs.declared.error.ErrorKind.TheVariants.{OutOfMem
 use Rattle.minijinja_grammar.specs.Places.{Place}
 use Rattle.minijinja_parser.specs.Causes.{IsLimit, IsRefusal}
 use Rattle.minijinja_parser.specs.Parsing.{AnswersItsRefusal, HasRefused}
+use Rattle.minijinja_parser.specs.Placing.{IsPlaced, IsPlacedAt, IsPlacedInText}
+use Rattle.minijinja_parser.proofs.Endings.{EndsSomewhere, placed_in_text}
+use Rattle.minijinja_parser.proofs.Wholes.{not_at_fault}
 use Rattle.minijinja_parser_tokens.specs.TokenStreams.{Comes, place_after, stream_at}
 
 module _ {A X : Type 0} (T : Place → A → Type 0) (view : X → A) (text : Text) {from : Span} (s : Stream) (p : Place) (r : Result X Error)
@@ -35,20 +38,27 @@ module _ {A X : Type 0} (T : Place → A → Type 0) (view : X → A) (text : Te
       go (inl e) = subst (λ q. IfOk r (P q)) (sym e) h
       go (inr k) = none r k
 
-  pub begun_refused : IfErr r (λ e. IsRefusal e → (t : A) → T p t → ⊥) → IfErr r (λ e. IsRefusal e → (t : A) → T (place_after text from s) t → ⊥)
-  begun_refused h = go begun
+  -- what is said of an error for what is written
+  pub begun_err : (P : Place → Error → Type 0) → IfErr r (λ e. IsRefusal e → P p e) → IfErr r (λ e. IsRefusal e → P (place_after text from s) e)
+  begun_err P h = go begun
     where
-      none : (o : Result X Error) → IsErrAnd o (λ e. (kind_of e ≡ OutOfMemory) × (span_of e ≡ None)) → IfErr o (λ e. IsRefusal e → (t : A) → T (place_after text from s) t → ⊥)
+      none : (o : Result X Error) → IsErrAnd o (λ e. (kind_of e ≡ OutOfMemory) × (span_of e ≡ None)) → IfErr o (λ e. IsRefusal e → P (place_after text from s) e)
       none (Ok x) k = tt
-      none (Err e) k = λ i t d. at_fault i k.0
-        where
-          at_fault : IsRefusal e → kind_of e ≡ OutOfMemory → ⊥
-          at_fault (inl j) m = cc
-          at_fault (inr j) m = cc
+      none (Err e) k = λ i. absurd (not_at_fault e i k.0)
 
-      go : (place_after text from s ≡ p) ⊎ IsErrAnd r (λ e. (kind_of e ≡ OutOfMemory) × (span_of e ≡ None)) → IfErr r (λ e. IsRefusal e → (t : A) → T (place_after text from s) t → ⊥)
-      go (inl e) = subst (λ q. IfErr r (λ e. IsRefusal e → (t : A) → T q t → ⊥)) (sym e) h
+      go : (place_after text from s ≡ p) ⊎ IsErrAnd r (λ e. (kind_of e ≡ OutOfMemory) × (span_of e ≡ None)) → IfErr r (λ e. IsRefusal e → P (place_after text from s) e)
+      go (inl e) = subst (λ q. IfErr r (λ e. IsRefusal e → P q e)) (sym e) h
       go (inr k) = none r k
+
+  pub begun_refused : IfErr r (λ e. IsRefusal e → (t : A) → T p t → ⊥) → IfErr r (λ e. IsRefusal e → (t : A) → T (place_after text from s) t → ⊥)
+  begun_refused = begun_err (λ q e. (t : A) → T q t → ⊥)
+
+  pub begun_placed : EndsSomewhere s.ending → IfErr r (IsPlaced p) → IfErr r (IsPlacedInText (place_after text from s))
+  begun_placed ends h = go r (begun_err IsPlacedAt h)
+    where
+      go : (o : Result X Error) → IfErr o (IsPlaced (place_after text from s)) → IfErr o (IsPlacedInText (place_after text from s))
+      go (Ok x) k = tt
+      go (Err e) k = placed_in_text (place_after text from s) e ends k
 
   pub begun_only : ((t : A) → T p t → MatchResult r (λ x. view x ≡ t) (λ e. kind_of e ≡ OutOfMemory)) →
       (t : A) → T (place_after text from s) t → MatchResult r (λ x. view x ≡ t) IsLimit

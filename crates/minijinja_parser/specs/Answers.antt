@@ -14,7 +14,7 @@ use Rattle.minijinja_tree.specs.SpannedErasure.{expr_node, stmt_node}
 use Rattle.minijinja_tree.specs.Tree.{done, template}
 use Rattle.minijinja_tree_expr.specs.declared.ast.Expr.{Expr}
 use Rattle.minijinja_tree.specs.declared.ast.Stmt.{Stmt}
-use Rattle.minijinja_grammar.specs.Derived.{IsTemplateTree, IsExprTree}
+use Rattle.minijinja_grammar.specs.Derived.{IsTemplateTree, IsExprTree, IsSpannedTemplate, IsSpannedExpr}
 use Rattle.minijinja_grammar.specs.Places.{Place}
 use Rattle.minijinja_tree.specs.Standing.{Stands, StmtStands}
 use Rattle.minijinja_grammar.specs.TokenSpans.{IsOfTokens}
@@ -123,6 +123,15 @@ StandsAt contents p s = StmtStands (Contains p.tokens) (IsOfTokens p.tokens p.la
 -- does
 abbrev pub ExprStandsAt : {V E C : Type 0} → (V → C) → Place → Expr V E → Type 0
 ExprStandsAt contents p x = Stands (Contains p.tokens) (IsOfTokens p.tokens p.last) (expr_node contents x)
+
+-- each node stands where the derivation of the tree has it, and so nowhere else
+-- (`places_are_unique` of the grammar)
+abbrev pub HasPlacesAt : {V E C F : Type 0} → Functions C F → (V → C) → Place → Stmt V E → Type 0
+HasPlacesAt f contents p s = IsSpannedTemplate f p (stmt_node contents s)
+
+-- likewise of an expression
+abbrev pub ExprHasPlacesAt : {V E C F : Type 0} → Functions C F → (V → C) → Place → Expr V E → Type 0
+ExprHasPlacesAt f contents p x = IsSpannedExpr f p (expr_node contents x)
 
 -- a bad escape is the one that the tokens end with
 abbrev pub EscapesIn : Place → Error → Type 0

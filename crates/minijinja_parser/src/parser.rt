@@ -16,10 +16,11 @@ ghost use Rattle.minijinja_grammar.specs.internal.Forms.{reads};
 ghost use Rattle.minijinja_grammar.specs.internal.ExprForms.{expr_at};
 ghost use Rattle.minijinja_grammar.specs.Derived.{max_depth};
 ghost use Rattle.minijinja_grammar.specs.internal.TemplateForms.{template_at};
-ghost use Rattle.minijinja_parser.specs.Answers.{AnswersExpr, AnswersExprAt, AnswersExprTokenizer, AnswersExprTokenizerAt, AnswersExprWithinLimits, AnswersTemplate, AnswersTemplateAt, AnswersTokenizer, AnswersTokenizerAt, EscapesIn, ExprStandsAt, IsEmptyTemplate, IsExprAt, IsExprOf, IsNoExpr, IsNoExprAt, IsNoTemplate, IsNoTemplateAt, IsShort, IsTemplateAt, IsTemplateOf, IsTooLong, IsUnrefused, Repeats, StandsAt, WantsExpr};
+ghost use Rattle.minijinja_parser.specs.Answers.{AnswersExpr, AnswersExprAt, AnswersExprTokenizer, AnswersExprTokenizerAt, AnswersExprWithinLimits, AnswersTemplate, AnswersTemplateAt, AnswersTokenizer, AnswersTokenizerAt, EscapesIn, ExprHasPlacesAt, ExprStandsAt, HasPlacesAt, IsEmptyTemplate, IsExprAt, IsExprOf, IsNoExpr, IsNoExprAt, IsNoTemplate, IsNoTemplateAt, IsShort, IsTemplateAt, IsTemplateOf, IsTooLong, IsUnrefused, Repeats, StandsAt, WantsExpr};
 ghost use Rattle.minijinja_parser.specs.Causes.{IsCause, IsUnplaced};
 ghost use Rattle.minijinja_parser.specs.Derived.{expr_place, expr_place_in, template_place, tokens_of};
 ghost use Rattle.minijinja_parser.specs.Parsing.{HasRefused, IsSpent};
+ghost use Rattle.minijinja_parser.specs.Placing.{IsPlaced, IsPlacedInText};
 ghost use Rattle.minijinja_parser_tokens.specs.TokenStreams.{Comes, no_place, stream_at};
 ghost use Rattle.minijinja_parser.specs.private.Wholes.{Ends, IsErrorAt, ReadsWhole};
 
@@ -30,7 +31,9 @@ use minijinja_parser_stmt_nodes::tree_stmts::template;
 use minijinja_parser_tokens::forms::ExprForm;
 use minijinja_parser_tokens::refusal::{Refusal, Wanted};
 pub use minijinja_parser_tokens::token_stream::TokenStream;
-use minijinja_parser_tokens::token_stream::{open_statement, set_refusal, tokenizer_refusal};
+use minijinja_parser_tokens::token_stream::{
+    named, open_statement, set_refusal, tokenizer_refusal,
+};
 use minijinja_parser_tokens::tokens::Tokens;
 use minijinja_syntax::error::{Detail, Error, ErrorKind, Expected};
 use minijinja_syntax::syntax::SyntaxConfig;
@@ -64,7 +67,7 @@ impl<'s, 'c> Model for Parser<'s, 'c> {
 
     ghost Value = { Parsing };
 
-    ghost view = { λ (a : Inside). record { filename = a.filename.now; place = a.tokens } };
+    ghost view = { λ (a : Inside). record { filename = a.filename.now; place = a.tokens.place } };
 }
 
 impl<'s, 'c> Parser<'s, 'c> {
@@ -161,25 +164,6 @@ impl<'s, 'c> Parser<'s, 'c> {
         )
     }
 
-    /// The refusal with the name of the source, unless memory was refused.
-    fn named(&self, refusal: Error<'s>) -> Error<'s>
-        requires { kind_of refusal ≡ OutOfMemory → IsOutOfMemory refusal }
-        ensures kind { kind_of result ≡ kind_of refusal.entry }
-        ensures span { span_of result ≡ span_of refusal.entry }
-        ensures named { kind_of result ≢ OutOfMemory → IsNamed self.now.filename result }
-        ensures memory { kind_of result ≡ OutOfMemory → IsOutOfMemory result }
-    {
-        if refusal.kind() == ErrorKind::OutOfMemory {
-            return refusal;
-        }
-        Error::new(
-            refusal.kind(),
-            refusal.detail(),
-            Some(self.filename),
-            refusal.span(),
-        )
-    }
-
     /// The error for a refusal.
     #[tactic(auto, using(crate::proofs::Unplaced::of_parser))]
     fn error(&self, refusal: Refusal) -> Error<'s>
@@ -191,7 +175,7 @@ impl<'s, 'c> Parser<'s, 'c> {
         match refusal {
             Refusal::OutOfMemory => Error::from(AllocError),
             Refusal::Ended(wanted) => match tokenizer_refusal(&self.tokens) {
-                Some(error) => self.named(error),
+                Some(error) => named(error, self.filename),
                 None => self.syntax_error(self.detail(wanted, true)),
             },
             Refusal::Wrong(wanted) => self.syntax_error(self.detail(wanted, false)),
@@ -222,7 +206,7 @@ impl<'s, 'c> Parser<'s, 'c> {
         ensures unplaced { IfErr result IsUnplaced }
     {
         match tokenizer_refusal(&self.tokens) {
-            Some(error) => Err(self.named(error)),
+            Some(error) => Err(named(error, self.filename)),
             None => Ok(()),
         }
     }
@@ -293,6 +277,9 @@ impl<'s, 'c> Parser<'s, 'c> {
 
         ensures filename { self.new.filename ≡ self.old.filename }
 
+        // A syntax error or a bad escape stands at a token, or it is the tokenizer's refusal.
+        ensures placed { IfErr result (IsPlaced self.old.place) }
+
         // A bad escape is the one that the tokens end with.
         ensures bad_escape { IfErr result (EscapesIn self.old.place) }
 
@@ -304,6 +291,9 @@ impl<'s, 'c> Parser<'s, 'c> {
         // Each node goes from token to token, and a variable and data stand where their own tokens
         // do.
         ensures spans { IfOk result (StandsAt V.contents self.old.place) }
+
+        // Each node stands where the derivation of the tree has it.
+        ensures places { IfOk result (HasPlacesAt V.functions V.contents self.old.place) }
 
         // After a tree no token is left, and after an error each call returns it again.
         ensures spent { IfOk result (λ _. IsSpent self.new.place) }
@@ -344,6 +334,9 @@ impl<'s, 'c> Parser<'s, 'c> {
 
         ensures filename { self.new.filename ≡ self.old.filename }
 
+        // A syntax error or a bad escape stands at a token, or it is the tokenizer's refusal.
+        ensures placed { IfErr result (IsPlaced self.old.place) }
+
         // A bad escape is the one that the tokens end with.
         ensures bad_escape { IfErr result (EscapesIn self.old.place) }
 
@@ -354,6 +347,9 @@ impl<'s, 'c> Parser<'s, 'c> {
 
         // Each node goes from token to token, and a variable stands where its own token does.
         ensures spans { IfOk result (ExprStandsAt V.contents self.old.place) }
+
+        // Each node stands where the derivation of the tree has it.
+        ensures places { IfOk result (ExprHasPlacesAt V.functions V.contents self.old.place) }
 
         // After a tree no token is left, and after an error each call returns it again.
         ensures spent { IfOk result (λ _. IsSpent self.new.place) }
@@ -409,6 +405,9 @@ pub fn parse<'s, V: TemplateValue>(
     ensures too_long { 2 ^ 32 ≤ length source.now → IsErrAnd result IsTooLong }
     ensures too_long_only { IfErr result (λ e. IsTooLong e → 2 ^ 32 ≤ length source.now) }
 
+    // A syntax error or a bad escape has a span: that of a token, or of the tokenizer's refusal.
+    ensures placed { IfErr result (IsPlacedInText (template_place syntax.now source.now)) }
+
     // A bad escape is the one that the tokens end with.
     ensures bad_escape { IfErr result (EscapesIn (template_place syntax.now source.now)) }
     // The tokenizer's refusal is the result if all tokens before it fit.
@@ -425,6 +424,10 @@ pub fn parse<'s, V: TemplateValue>(
 
     ensures well_formed { IfOk result (λ s. IsWellFormed (stmt_tree V.contents s)) }
     ensures spans { IfOk result (StandsAt V.contents (template_place syntax.now source.now)) }
+
+    // Each node stands where the derivation of the tree has it.
+    ensures places { IfOk result (HasPlacesAt V.functions V.contents
+        (template_place syntax.now source.now)) }
 {
     if source.len() >= SOURCE_LIMIT {
         return Err(too_long(filename));
@@ -454,6 +457,9 @@ pub fn parse_expr<'s, V: TemplateValue>(
     ensures too_long { 2 ^ 32 ≤ length source.now → IsErrAnd result IsTooLong }
     ensures too_long_only { IfErr result (λ e. IsTooLong e → 2 ^ 32 ≤ length source.now) }
 
+    // A syntax error or a bad escape has a span: that of a token, or of the tokenizer's refusal.
+    ensures placed { IfErr result (IsPlacedInText (expr_place default_syntax source.now)) }
+
     // A bad escape is the one that the tokens end with.
     ensures bad_escape { IfErr result (EscapesIn (expr_place default_syntax source.now)) }
     // The tokenizer's refusal is the result if all tokens before it fit.
@@ -470,6 +476,10 @@ pub fn parse_expr<'s, V: TemplateValue>(
 
     ensures well_formed { IfOk result (λ x. IsWhole (expr_tree V.contents x)) }
     ensures spans { IfOk result (ExprStandsAt V.contents (expr_place default_syntax source.now)) }
+
+    // Each node stands where the derivation of the tree has it.
+    ensures places { IfOk result (ExprHasPlacesAt V.functions V.contents
+        (expr_place default_syntax source.now)) }
 {
     if source.len() >= SOURCE_LIMIT {
         return Err(too_long(EXPRESSION_NAME));
@@ -522,6 +532,10 @@ pub fn parse_expr_in<'s, V: TemplateValue>(
     ensures too_long { 2 ^ 32 ≤ length file.now → IsErrAnd result IsTooLong }
     ensures too_long_only { IfErr result (λ e. IsTooLong e → 2 ^ 32 ≤ length file.now) }
 
+    // A syntax error or a bad escape has a span: that of a token, or of the tokenizer's refusal.
+    ensures placed { IfErr result
+        (IsPlacedInText (expr_place_in syntax.now file.now range.start range.end)) }
+
     // A bad escape is the one that the tokens end with.
     ensures bad_escape { IfErr result
         (EscapesIn (expr_place_in syntax.now file.now range.start range.end)) }
@@ -540,6 +554,10 @@ pub fn parse_expr_in<'s, V: TemplateValue>(
 
     ensures well_formed { IfOk result (λ x. IsWhole (expr_tree V.contents x)) }
     ensures spans { IfOk result (ExprStandsAt V.contents
+        (expr_place_in syntax.now file.now range.start range.end)) }
+
+    // Each node stands where the derivation of the tree has it.
+    ensures places { IfOk result (ExprHasPlacesAt V.functions V.contents
         (expr_place_in syntax.now file.now range.start range.end)) }
 {
     if file.len() >= SOURCE_LIMIT {

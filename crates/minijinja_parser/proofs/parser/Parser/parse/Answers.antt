@@ -3,12 +3,12 @@ use Rattle.minijinja_tree.specs.SpannedErasure.{stmt_node}
 use Rattle.minijinja_grammar.specs.Derived.{max_depth}
 use Rattle.minijinja_grammar.specs.internal.TemplateForms.{template_at}
 use Rattle.minijinja_grammar.specs.Derived.{IsTemplateTree}
-use Rattle.minijinja_grammar.proofs.Derivations.{derived_template, one_template, template_derived, template_fits, template_formed}
+use Rattle.minijinja_grammar.proofs.Derivations.{derived_template, one_template, template_derived, template_fits, template_formed, template_spanned}
 use Rattle.minijinja_grammar.proofs.Trees.{template_stands}
 use Rattle.minijinja_tree.specs.Erasure.{stmt_tree}
 use Rattle.minijinja_tree.proofs.Bare.{stmt_is}
 use Rattle.minijinja_parser.proofs.NoTokens.{empty_template, empty_derived}
-use Rattle.minijinja_parser.proofs.Wholes.{whole_of, only_whole, unrefused, refused_whole, memory_at, not_derived, answers, escapes}
+use Rattle.minijinja_parser.proofs.Wholes.{whole_of, only_whole, unrefused, refused_whole, memory_at, not_derived, answers, escapes, placed}
 use Rattle.minijinja_parser.proofs.parser.Parser.parse.Goals as goal
 
 -- a tree
@@ -36,6 +36,11 @@ returns-in-Ok-clause-spans g c =
     template_stands g.V.TemplateValue.functions c.args.self.now.place (stmt_node g.V.TemplateValue.contents c.in-Ok.template)
     (whole_of (template_at g.V.TemplateValue.functions max_depth) c.args.self.now.place c.whole_template.new.self.place (stmt_node g.V.TemplateValue.contents c.in-Ok.template) c.in-Ok.ensures.read.0 c.in-Ok.ensures.read.1)
 
+pub returns-in-Ok-clause-places : goal.returns-in-Ok-clause-places
+returns-in-Ok-clause-places g c =
+    template_spanned g.V.TemplateValue.functions c.args.self.now.place (stmt_node g.V.TemplateValue.contents c.in-Ok.template)
+    (whole_of (template_at g.V.TemplateValue.functions max_depth) c.args.self.now.place c.whole_template.new.self.place (stmt_node g.V.TemplateValue.contents c.in-Ok.template) c.in-Ok.ensures.read.0 c.in-Ok.ensures.read.1)
+
 pub returns-in-Ok-clause-again : goal.returns-in-Ok-clause-again
 returns-in-Ok-clause-again g c = λ kind span h. c.in_ok-unrefused.ensures.none kind span h
 
@@ -58,6 +63,10 @@ returns-in-Err-clause-only g c = λ t d.
 pub returns-in-Err-clause-bad_escape : goal.returns-in-Err-clause-bad_escape
 returns-in-Err-clause-bad_escape g c = λ k.
     escapes (template_at g.V.TemplateValue.functions max_depth) (stmt_node {F = g.row.V-Fault.Denot} g.V.TemplateValue.contents) c.args.self.now.place c.whole_template.new.self.place c.in-Err.refusal c.refuse.result c.in-Err.ensures.read c.refuse.ensures.is k
+
+pub returns-in-Err-clause-placed : goal.returns-in-Err-clause-placed
+returns-in-Err-clause-placed g c =
+    placed (template_at g.V.TemplateValue.functions max_depth) (stmt_node {F = g.row.V-Fault.Denot} g.V.TemplateValue.contents) c.args.self.now.place c.whole_template.new.self.place c.in-Err.refusal c.refuse.result c.in-Err.ensures.read c.refuse.ensures.is
 
 pub returns-in-Err-clause-first : goal.returns-in-Err-clause-first
 returns-in-Err-clause-first g c = λ kind span e h.

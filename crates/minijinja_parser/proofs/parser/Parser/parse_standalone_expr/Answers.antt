@@ -3,12 +3,12 @@ use Rattle.minijinja_tree.specs.SpannedErasure.{expr_node}
 use Rattle.minijinja_grammar.specs.internal.ExprForms.{expr_at}
 use Rattle.minijinja_grammar.specs.Derived.{max_depth}
 use Rattle.minijinja_grammar.specs.Derived.{IsExprTree}
-use Rattle.minijinja_grammar.proofs.Derivations.{derived_expr, expr_derived, expr_fits, expr_whole, one_expr}
+use Rattle.minijinja_grammar.proofs.Derivations.{derived_expr, expr_derived, expr_fits, expr_spanned, expr_whole, one_expr}
 use Rattle.minijinja_grammar.proofs.Trees.{expression_stands}
 use Rattle.minijinja_tree.specs.Erasure.{expr_tree}
 use Rattle.minijinja_tree_expr.proofs.Bare.{expr_is}
 use Rattle.minijinja_parser.proofs.NoTokens.{no_expr}
-use Rattle.minijinja_parser.proofs.Wholes.{whole_of, only_whole, unrefused, refused_whole, memory_at, not_derived, answers, escapes, at_fault}
+use Rattle.minijinja_parser.proofs.Wholes.{whole_of, only_whole, unrefused, refused_whole, memory_at, not_derived, answers, escapes, placed, at_fault}
 use Rattle.minijinja_parser.proofs.parser.Parser.parse_standalone_expr.Goals as goal
 
 -- a tree
@@ -36,6 +36,11 @@ returns-in-Ok-clause-spans g c =
     expression_stands g.V.TemplateValue.functions c.args.self.now.place (expr_node g.V.TemplateValue.contents c.in-Ok.expr)
     (whole_of (expr_at g.V.TemplateValue.functions max_depth) c.args.self.now.place c.whole_expr.new.self.place (expr_node g.V.TemplateValue.contents c.in-Ok.expr) c.in-Ok.ensures.read.0 c.in-Ok.ensures.read.1)
 
+pub returns-in-Ok-clause-places : goal.returns-in-Ok-clause-places
+returns-in-Ok-clause-places g c =
+    expr_spanned g.V.TemplateValue.functions c.args.self.now.place (expr_node g.V.TemplateValue.contents c.in-Ok.expr)
+    (whole_of (expr_at g.V.TemplateValue.functions max_depth) c.args.self.now.place c.whole_expr.new.self.place (expr_node g.V.TemplateValue.contents c.in-Ok.expr) c.in-Ok.ensures.read.0 c.in-Ok.ensures.read.1)
+
 pub returns-in-Ok-clause-again : goal.returns-in-Ok-clause-again
 returns-in-Ok-clause-again g c = λ kind span h. c.in_ok-unrefused.ensures.none kind span h
 
@@ -57,6 +62,10 @@ returns-in-Err-clause-only g c = λ t d.
 pub returns-in-Err-clause-bad_escape : goal.returns-in-Err-clause-bad_escape
 returns-in-Err-clause-bad_escape g c = λ k.
     escapes (expr_at g.V.TemplateValue.functions max_depth) (expr_node {F = g.row.V-Fault.Denot} g.V.TemplateValue.contents) c.args.self.now.place c.whole_expr.new.self.place c.in-Err.refusal c.refuse.result c.in-Err.ensures.read c.refuse.ensures.is k
+
+pub returns-in-Err-clause-placed : goal.returns-in-Err-clause-placed
+returns-in-Err-clause-placed g c =
+    placed (expr_at g.V.TemplateValue.functions max_depth) (expr_node {F = g.row.V-Fault.Denot} g.V.TemplateValue.contents) c.args.self.now.place c.whole_expr.new.self.place c.in-Err.refusal c.refuse.result c.in-Err.ensures.read c.refuse.ensures.is
 
 pub returns-in-Err-clause-first : goal.returns-in-Err-clause-first
 returns-in-Err-clause-first g c = λ kind span e h.
