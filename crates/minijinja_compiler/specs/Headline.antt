@@ -9,7 +9,7 @@ use Rattle.minijinja_syntax.specs.Errors.{IsOutOfMemory, kind_of, span_of}
 use Rattle.minijinja_syntax.specs.declared.error.Error.{Error}
 use Rattle.minijinja_syntax.specs.declared.error.ErrorKind.TheVariants.{OutOfMemory, SourceTooLong, TooManyInstructions}
 use Rattle.minijinja_lexer.specs.Stream.{IsNamed}
-use Rattle.minijinja_grammar.specs.Derived.{IsExprTree}
+use Rattle.minijinja_grammar.specs.Derived.{IsExprTree, IsSpannedExpr, IsSpannedTemplate}
 use Rattle.minijinja_grammar.specs.Places.{Place}
 use Rattle.minijinja_grammar.specs.TokenSpans.{IsOfTokens}
 use Rattle.minijinja_tree.specs.SpannedTrees as spanned
@@ -53,10 +53,11 @@ pub record AreBlockLists {V E C F L : Type 0} (f : Functions C F) (contents : V 
 -- that has to be overridden (`required`). Each block has a list of its own, of which the same holds
 -- (`lists`).
 --
--- The nodes of that tree have places in the text (`nodes`, `bare`): each goes from token to token,
--- and a variable and data stand where their own tokens do (`stands`). The instructions have the
--- lines and the spans of these nodes (`marks`), and so have the lists of the blocks
--- (`block_marks`).
+-- The nodes of that tree have places in the text (`nodes`, `bare`): each stands where the derivation
+-- of the tree has it, so that they are those that `parse` returns and no others (`places`). Each goes
+-- from token to token, and a variable and data stand where their own tokens do (`stands`). The
+-- instructions have the lines and the spans of these nodes (`marks`), and so have the lists of the
+-- blocks (`block_marks`).
 pub record IsCompiled {V E C F : Type 0} (f : Functions C F) (contents : V → C) (syntax : Syntax) (source filename : Text) (c : Compiled V E) : Type 0 where
   pub tree : Stmt C (Unit {0})
   pub derived : IsDerived f syntax source tree
@@ -71,6 +72,7 @@ pub record IsCompiled {V E C F : Type 0} (f : Functions C F) (contents : V → C
   pub lists : AreBlockLists f contents source filename (blocks tree) c.blocks
   pub nodes : spanned.Stmt C
   pub bare : bare_stmt nodes ≡ tree
+  pub places : IsSpannedTemplate f (template_place syntax source) nodes
   pub stands : StmtStands (Contains (template_place syntax source).tokens) (IsOfTokens (template_place syntax source).tokens (template_place syntax source).last) nodes
   pub marks : marks_of c.instructions ≡ stmt_marks f nodes
   pub block_marks : HaveMarks f (marked_blocks nodes) c.blocks
@@ -81,8 +83,8 @@ pub record IsCompiled {V E C F : Type 0} (f : Functions C F) (contents : V → C
 -- of that tree. It does what the tree means, and leaves the value of the expression on top of the
 -- operands; this holds of answers that number, with the values in them, under 2^64. It has fewer
 -- than 2^32 instructions, where they lead lies within the list, and it is no block that has to be
--- overridden. The instructions have the lines and the spans of the tree's nodes, each of which goes
--- from token to token.
+-- overridden. The instructions have the lines and the spans of the tree's nodes, each of which stands
+-- where the derivation has it, from token to token.
 pub record IsCompiledExprAt {V E C F : Type 0} (f : Functions C F) (contents : V → C) (place : Place) (source filename : Text) (c : Instructions V E) : Type 0 where
   pub tree : Expr C
   pub derived : IsExprTree f place tree
@@ -94,6 +96,7 @@ pub record IsCompiledExprAt {V E C F : Type 0} (f : Functions C F) (contents : V
   pub required : is_required c ≡ false
   pub nodes : spanned.Expr C
   pub bare : bare_expr nodes ≡ tree
+  pub places : IsSpannedExpr f place nodes
   pub stands : Stands (Contains place.tokens) (IsOfTokens place.tokens place.last) nodes
   pub marks : marks_of c ≡ expr_marks f nodes
   pub name : name_of c ≡ filename

@@ -4,6 +4,7 @@ ghost use Rattle.std.specs.Str.{IsCharBoundary};
 ghost use Rattle.minijinja_parser.specs.Answers.{AnswersExprTokenizer, AnswersExprTokenizerAt, AnswersTokenizer, EscapesIn, IsNoExpr, IsNoExprAt, IsNoTemplate, IsShort, IsTooLong};
 ghost use Rattle.minijinja_syntax.specs.Syntax.{default_syntax};
 ghost use Rattle.minijinja_parser.specs.Derived.{IsDerived, IsExprDerived, IsExprDerivedIn, expr_place, expr_place_in, template_place};
+ghost use Rattle.minijinja_parser.specs.Placing.{IsPlacedInText};
 ghost use Rattle.minijinja_compiler.specs.Headline.{IsCompiled, IsCompiledExpr, IsCompiledExprIn, HasTooLongCode, HasTooLongExprCode, HasTooLongExprCodeAt, IsCompileCause, IsCompileUnplaced, IsRefusedUnder, IsTooMany, Succeeds};
 
 use minijinja_code::codegen::CodeGenerator;
@@ -49,6 +50,9 @@ pub fn compile<'s, V: TemplateValue>(
     // If there is a tree, it succeeds, or a limit stands against the text.
     ensures refused { IfErr result (IsNoTemplate V.functions syntax.now source.now) }
     ensures accepted { (t : _) → IsDerived V.functions syntax.now source.now t → Succeeds result }
+
+    // A syntax error or a bad escape has a span: that of a token, or of the tokenizer's refusal.
+    ensures placed { IfErr result (IsPlacedInText (template_place syntax.now source.now)) }
 
     // A bad escape is the one with which the tokens of the text end.
     ensures bad_escape { IfErr result (EscapesIn (template_place syntax.now source.now)) }
@@ -100,6 +104,9 @@ pub fn compile_expression<'s, V: TemplateValue>(
     ensures refused { IfErr result (IsNoExpr V.functions default_syntax source.now) }
     ensures accepted { (t : _) → IsExprDerived V.functions default_syntax source.now t →
         Succeeds result }
+
+    // A syntax error or a bad escape has a span: that of a token, or of the tokenizer's refusal.
+    ensures placed { IfErr result (IsPlacedInText (expr_place default_syntax source.now)) }
 
     // A bad escape is the one with which the tokens of the text end.
     ensures bad_escape { IfErr result (EscapesIn (expr_place default_syntax source.now)) }
@@ -167,6 +174,10 @@ pub fn compile_expression_in<'s, V: TemplateValue>(
         (expr_place_in syntax.now file.now range.start range.end)) }
     ensures accepted { (t : _) →
         IsExprDerivedIn V.functions syntax.now file.now range.start range.end t → Succeeds result }
+
+    // A syntax error or a bad escape has a span: that of a token, or of the tokenizer's refusal.
+    ensures placed { IfErr result
+        (IsPlacedInText (expr_place_in syntax.now file.now range.start range.end)) }
 
     // A bad escape is the one with which the tokens of the expression end.
     ensures bad_escape { IfErr result

@@ -1,15 +1,17 @@
 //! The laws of the definitions that the contracts of all layers use, and what one of them says of
 //! compiled code.
-ghost use Rattle.std.specs.Prelude.{◌≡◌, Bool, true, [], ◌∷◌, All, IfSome, codes, length};
-ghost use Rattle.minijinja_syntax.specs.Syntax.{Syntax};
+ghost use Rattle.std.specs.Prelude.{◌≡◌, Bool, true, [], ◌∷◌, All, IfSome, codes, length, map};
+ghost use Rattle.minijinja_syntax.specs.Syntax.{Syntax, default_syntax};
 ghost use Rattle.minijinja_syntax.specs.Texts.{Text};
 ghost use Rattle.minijinja_syntax.specs.declared.tokens.Span.{Span};
 ghost use Rattle.minijinja_tree.specs.Erasure.{stmt_tree};
 ghost use Rattle.minijinja_tree.specs.Standing.{Stands, StmtStands};
-ghost use Rattle.minijinja_tree.specs.SpannedErasure.{stmt_node};
+ghost use Rattle.minijinja_tree.specs.SpannedErasure.{expr_node, stmt_node};
 ghost use Rattle.minijinja_tree.specs.Tree.{blocks};
 ghost use Rattle.minijinja_tree.specs.declared.ast.Stmt.{Stmt};
-ghost use Rattle.minijinja_meta.specs.Mentions.{plain_names, way};
+ghost use Rattle.minijinja_tree_expr.specs.declared.ast.Expr.{Expr};
+ghost use Rattle.minijinja_meta.specs.Mentions.{free, in_order, names_of, nested_names, plain_names, way};
+ghost use Rattle.minijinja_meta.specs.Segments.{HasNoDot, before_dot};
 ghost use Rattle.minijinja_instructions.specs.InstructionLists.{Instructions, marks_of};
 ghost use Rattle.minijinja_instructions.specs.Instructions.{code_of};
 ghost use Rattle.minijinja_semantics.specs.Correct.{a_statement};
@@ -19,12 +21,15 @@ ghost use Rattle.minijinja_semantics.specs.Pieces.{start};
 ghost use Rattle.minijinja_semantics.specs.Units.{all_units, units};
 ghost use Rattle.minijinja_code.specs.BlockLists.{list_of};
 ghost use Rattle.minijinja_code.specs.BlockMarks.{marked_blocks};
+ghost use Rattle.minijinja_parser.specs.Answers.{ExprHasPlacesAt, HasPlacesAt, IsTemplateOf};
+ghost use Rattle.minijinja_parser.specs.Derived.{expr_place, template_place};
 ghost use Rattle.minijinja_compiler.specs.Headline.{IsCompiled, IsCompiledExpr};
+ghost use Rattle.minijinja_compiler.specs.Identifiers.{IsIdentifierOf};
 ghost use Rattle.minijinja_compiler.specs.declared.compile.Compiled.{Compiled};
 
 pub use minijinja_grammar::laws::{
-    derivable_deeper, derives, one_tree, only_what_follows_counts, refuses, rows_are_bounded,
-    trees_are_well_formed,
+    derivable_deeper, derives, each_tree_has_places, nodes_stand, one_tree,
+    only_what_follows_counts, places_are_unique, refuses, rows_are_bounded, trees_are_well_formed,
 };
 pub use minijinja_lexer::laws::{
     are_in_order, are_slices, columns_count_chars, expressions_stand_anywhere, one_cut,
@@ -43,6 +48,21 @@ use minijinja_value::value::TemplateValue;
 pub fn plain_names_are_undeclared<V: TemplateValue>()
     ensures { (s : Stmt V V.Fault) → plain_names (way (stmt_node V.contents s)) ≡ undeclared
         (stmt_tree V.contents s) }
+{}
+
+/// The names that occur free in a parsed tree are those of identifiers of the text. So where no
+/// identifier has a dot, the first segments of the nested names that
+/// [`find_undeclared`](crate::meta::find_undeclared) returns are the plain ones, as texts too.
+pub fn names_are_identifiers<V: TemplateValue>()
+    ensures tokens { (syntax : Syntax) (source : Text) (s : Stmt V V.Fault) →
+        IsTemplateOf V.functions V.contents syntax source s → All
+        (IsIdentifierOf (template_place syntax source).tokens)
+        (names_of (free (way (stmt_node V.contents s)))) }
+    ensures texts { (syntax : Syntax) (source : Text) (s : Stmt V V.Fault) →
+        IsTemplateOf V.functions V.contents syntax source s →
+        ((x : Text) → IsIdentifierOf (template_place syntax source).tokens x → HasNoDot x) →
+        in_order (map before_dot (nested_names (way (stmt_node V.contents s)))) ≡ plain_names
+        (way (stmt_node V.contents s)) }
 {}
 
 /// Closures are enough for what is compiled. Whatever is answered, each name that a run of a
@@ -65,6 +85,19 @@ pub fn runs_need_only_closures<V: TemplateValue>()
         (k : IsCompiled V.functions V.contents syntax source filename c) →
         All (λ b. IfSome (list_of c.blocks b.name) (λ is. MacrosNeedOnly V.functions
         (code_of V.contents is) (all_units V.functions [] b.body start))) (blocks k.tree) }
+{}
+
+/// The nodes of what is compiled, from which its instructions have their lines and spans, are those
+/// that `parse` returns of the text.
+pub fn compiled_nodes_are_parsed<V: TemplateValue>()
+    ensures template { (syntax : Syntax) (source filename : Text) (c : Compiled V V.Fault)
+        (k : IsCompiled V.functions V.contents syntax source filename c) (s : Stmt V V.Fault) →
+        HasPlacesAt V.functions V.contents (template_place syntax source) s →
+        k.nodes ≡ stmt_node V.contents s }
+    ensures expression { (source : Text) (c : Instructions V V.Fault)
+        (k : IsCompiledExpr V.functions V.contents source c) (e : Expr V V.Fault) →
+        ExprHasPlacesAt V.functions V.contents (expr_place default_syntax source) e →
+        k.nodes ≡ expr_node V.contents e }
 {}
 
 /// The marks of what is compiled are those of its nodes. There is one for each instruction. The

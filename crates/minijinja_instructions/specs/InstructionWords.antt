@@ -33,7 +33,7 @@ abbrev pub count_words : Option ℕ → Text
 count_words None = codes "none"
 count_words (Some n) = decimal n
 
--- the same of a count whose words may not be known
+-- a count whose own words may not be known
 abbrev pub count_output : {N : Type 0} → (N → Option Text) → Option N → Option Text
 count_output words None = Some (codes "none")
 count_output words (Some n) = words n

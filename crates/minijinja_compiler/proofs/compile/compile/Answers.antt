@@ -45,6 +45,7 @@ returns-clause-compiled g c =
       tree = tree;
       nodes = nodes;
       bare = stmt_is v c.in_ok-template.template;
+      places = parsed.places;
       stands = parsed.spans;
       marks = c.finish-instructions.ensures.marks ∙ ap (λ (t : Margin). t.marks) (done.marked ∙ ap (marks.stmt f [] nodes) c.new-generator.ensures.margin);
       block_marks = subst (HaveMarks f (marked_blocks nodes)) (sym c.finish-instructions.ensures.blocks) done.block_marks;
@@ -68,6 +69,10 @@ pub returns-in_err-compile_stmt-clause-refused : goal.returns-in_err-compile_stm
 returns-in_err-compile_stmt-clause-refused g c =
     never_refusal _ _ c.in_err-compile_stmt.field-0.0 _ c.new-generator.ensures.refusal c.in_err-compile_stmt.ensures.causes c.from_residual-in_err-compile_stmt.ensures.1
 
+pub returns-in_err-compile_stmt-clause-placed : goal.returns-in_err-compile_stmt-clause-placed
+returns-in_err-compile_stmt-clause-placed g c =
+    never_refusal _ _ c.in_err-compile_stmt.field-0.0 _ c.new-generator.ensures.refusal c.in_err-compile_stmt.ensures.causes c.from_residual-in_err-compile_stmt.ensures.1
+
 pub returns-in_err-compile_stmt-clause-unplaced : goal.returns-in_err-compile_stmt-clause-unplaced
 returns-in_err-compile_stmt-clause-unplaced g c =
     generator_unplaced _ c.in_err-compile_stmt.field-0.0 _ c.new-generator.ensures.refusal c.in_err-compile_stmt.ensures.unplaced c.from_residual-in_err-compile_stmt.ensures.1
@@ -81,6 +86,11 @@ pub returns-in_err-template-clause-refused : goal.returns-in_err-template-clause
 returns-in_err-template-clause-refused g c =
     let p = err_from_is_err_and c.from_residual.result c.from_residual.ensures.1 in
     rw (p.1, p.2) c.in_err-template.ensures.refused
+
+pub returns-in_err-template-clause-placed : goal.returns-in_err-template-clause-placed
+returns-in_err-template-clause-placed g c =
+    let p = err_from_is_err_and c.from_residual.result c.from_residual.ensures.1 in
+    rw (p.1, p.2) c.in_err-template.ensures.placed
 
 pub returns-in_err-template-clause-unplaced : goal.returns-in_err-template-clause-unplaced
 returns-in_err-template-clause-unplaced g c =

@@ -39,6 +39,7 @@ returns-clause-compiled g c =
       tree = tree;
       nodes = nodes;
       bare = expr_is v c.in_ok-expr.expr;
+      places = parsed.places;
       stands = parsed.spans;
       marks = c.finish-code.ensures.marks ∙ ap (λ (t : Margin). t.marks) (done.marked ∙ ap (marks.expr f nodes) c.new-generator.ensures.margin);
       derived = parsed.found;
@@ -56,6 +57,10 @@ pub returns-in_err-compile_expr-clause-refused : goal.returns-in_err-compile_exp
 returns-in_err-compile_expr-clause-refused g c =
     never_refusal _ _ c.in_err-compile_expr.field-0.0 _ c.new-generator.ensures.refusal c.in_err-compile_expr.ensures.causes c.from_residual-in_err-compile_expr.ensures.1
 
+pub returns-in_err-compile_expr-clause-placed : goal.returns-in_err-compile_expr-clause-placed
+returns-in_err-compile_expr-clause-placed g c =
+    never_refusal _ _ c.in_err-compile_expr.field-0.0 _ c.new-generator.ensures.refusal c.in_err-compile_expr.ensures.causes c.from_residual-in_err-compile_expr.ensures.1
+
 pub returns-in_err-compile_expr-clause-unplaced : goal.returns-in_err-compile_expr-clause-unplaced
 returns-in_err-compile_expr-clause-unplaced g c =
     generator_unplaced _ c.in_err-compile_expr.field-0.0 _ c.new-generator.ensures.refusal c.in_err-compile_expr.ensures.unplaced c.from_residual-in_err-compile_expr.ensures.1
@@ -69,6 +74,11 @@ pub returns-in_err-expr-clause-refused : goal.returns-in_err-expr-clause-refused
 returns-in_err-expr-clause-refused g c =
     let p = err_from_is_err_and c.from_residual.result c.from_residual.ensures.1 in
     rw (p.1, p.2) c.in_err-expr.ensures.refused
+
+pub returns-in_err-expr-clause-placed : goal.returns-in_err-expr-clause-placed
+returns-in_err-expr-clause-placed g c =
+    let p = err_from_is_err_and c.from_residual.result c.from_residual.ensures.1 in
+    rw (p.1, p.2) c.in_err-expr.ensures.placed
 
 pub returns-in_err-expr-clause-unplaced : goal.returns-in_err-expr-clause-unplaced
 returns-in_err-expr-clause-unplaced g c =
