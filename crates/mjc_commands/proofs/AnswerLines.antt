@@ -137,5 +137,4 @@ fails_for_memory text (failure.BadAnswer n) (inr bad) file = absurd (no_bad_line
 fails_for_memory text (failure.Refused kind line column) (inr bad) file = absurd bad
 fails_for_memory text failure.Usage (inr bad) file = absurd bad
 fails_for_memory text (failure.CannotRead path) (inr bad) file = absurd bad
-fails_for_memory text (failure.IsFolder path) (inr bad) file = absurd bad
 fails_for_memory text failure.CannotWrite (inr bad) file = absurd bad

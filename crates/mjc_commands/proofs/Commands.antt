@@ -10,7 +10,7 @@ use Rattle.mjc_commands.specs.Usage.{Asks, AsksExpr, IsReplay, IsReplayUsage, Is
 use Rattle.mjc_commands.specs.private.AtOptions.{syntax_of}
 use Rattle.mjc_commands.specs.private.AtUsage.{IsCommandFor, task_of}
 use Rattle.mjc_commands.specs.declared.failure.Failure.{Failure}
-use Rattle.mjc_commands.specs.declared.failure.Failure.TheVariants.{Usage, CannotRead, IsFolder, Refused, BadAnswer, CannotWrite}
+use Rattle.mjc_commands.specs.declared.failure.Failure.TheVariants.{Usage, CannotRead, Refused, BadAnswer, CannotWrite}
 use Rattle.mjc_commands.specs.declared.run.Ending.{Ending}
 use Rattle.mjc_commands.specs.declared.run.Ending.TheVariants.{Done, Found}
 use Rattle.mjc_commands.specs.declared.usage.FileCommand.{FileCommand}
@@ -48,6 +48,5 @@ ends_as (Ok Found) status P e is = (λ zero. absurd cc, λ three. is)
 ends_as (Err (Refused kind line column)) status P e is = (λ zero. absurd cc, λ three. absurd cc)
 ends_as (Err Usage) status P e is = (λ zero. absurd cc, λ three. absurd cc)
 ends_as (Err (CannotRead path)) status P e is = (λ zero. absurd cc, λ three. absurd cc)
-ends_as (Err (IsFolder path)) status P e is = (λ zero. absurd cc, λ three. absurd cc)
 ends_as (Err (BadAnswer line)) status P e is = (λ zero. absurd cc, λ three. absurd cc)
 ends_as (Err CannotWrite) status P e is = (λ zero. absurd cc, λ three. absurd cc)

@@ -10,7 +10,7 @@ use Rattle.mjc_commands.specs.Reading.{IsNoText}
 use Rattle.mjc_commands.specs.Showing.{IsShowable}
 use Rattle.mjc_commands.specs.Usage.{Task, lint}
 use Rattle.mjc_commands.specs.declared.failure.Failure.{Failure}
-use Rattle.mjc_commands.specs.declared.failure.Failure.TheVariants.{Usage, CannotRead, IsFolder, Refused, BadAnswer, CannotWrite}
+use Rattle.mjc_commands.specs.declared.failure.Failure.TheVariants.{Usage, CannotRead, Refused, BadAnswer, CannotWrite}
 use Rattle.mjc_commands.specs.declared.run.Ending.{Ending}
 use Rattle.mjc_commands.specs.declared.run.Ending.TheVariants.{Done, Found}
 
@@ -64,7 +64,6 @@ ended_so (Ok Found) unreadable shown linted success = record { readable = λ byt
 ended_so (Err (Refused kind line column)) unreadable shown linted success = absurd (one_fails success)
 ended_so (Err Usage) unreadable shown linted success = absurd (two_fails success)
 ended_so (Err (CannotRead path)) unreadable shown linted success = absurd (two_fails success)
-ended_so (Err (IsFolder path)) unreadable shown linted success = absurd (two_fails success)
 ended_so (Err (BadAnswer line)) unreadable shown linted success = absurd (two_fails success)
 ended_so (Err CannotWrite) unreadable shown linted success = absurd (two_fails success)
 

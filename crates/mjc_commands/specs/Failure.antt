@@ -5,7 +5,7 @@ use Rattle.std.specs.declared.io.Error as io
 use Rattle.std.specs.declared.io.ErrorKind.TheVariants as kind
 use Rattle.minijinja_syntax.specs.declared.error.ErrorKind.{ErrorKind}
 use Rattle.mjc_commands.specs.declared.failure.Failure.{Failure}
-use Rattle.mjc_commands.specs.declared.failure.Failure.TheVariants.{Usage, CannotRead, IsFolder, Refused, BadAnswer, CannotWrite}
+use Rattle.mjc_commands.specs.declared.failure.Failure.TheVariants.{Usage, CannotRead, Refused, BadAnswer, CannotWrite}
 use Rattle.mjc_commands.specs.declared.run.Ending.{Ending}
 use Rattle.mjc_commands.specs.declared.run.Ending.TheVariants.{Done, Found}
 
@@ -14,7 +14,6 @@ abbrev pub status_of : Failure → ℕ
 status_of (Refused kind line column) = 1
 status_of Usage = 2
 status_of (CannotRead path) = 2
-status_of (IsFolder path) = 2
 status_of (BadAnswer line) = 2
 status_of CannotWrite = 2
 
@@ -42,7 +41,6 @@ abbrev pub IsRefusedAs : ErrorKind → Failure → Type 0
 IsRefusedAs kind (Refused k line column) = k ≡ kind
 IsRefusedAs kind Usage = ⊥
 IsRefusedAs kind (CannotRead path) = ⊥
-IsRefusedAs kind (IsFolder path) = ⊥
 IsRefusedAs kind (BadAnswer line) = ⊥
 IsRefusedAs kind CannotWrite = ⊥
 
@@ -52,7 +50,6 @@ IsBadAnswer P (BadAnswer line) = P line
 IsBadAnswer P (Refused kind line column) = ⊥
 IsBadAnswer P Usage = ⊥
 IsBadAnswer P (CannotRead path) = ⊥
-IsBadAnswer P (IsFolder path) = ⊥
 IsBadAnswer P CannotWrite = ⊥
 
 -- the status that an error of a reader or a writer leads to: 1 for want of memory, otherwise 2

@@ -17,8 +17,6 @@ pub enum Failure<'p> {
     Usage,
     /// The file of this path cannot be read, or is not UTF-8.
     CannotRead(&'p str),
-    /// What this path names is a folder.
-    IsFolder(&'p str),
     /// The syntax or the text is refused, at a line, counted from 1, and a column, counted from 0.
     /// A refusal without a place has 0:0.
     Refused {
@@ -70,20 +68,14 @@ impl<'p> Failure<'p> {
         Failure::memory_or(error, Failure::Usage)
     }
 
-    /// The failure where the file of this path cannot be read, which tells a folder from a file.
+    /// The failure where the file of this path cannot be read, be it a folder or no file.
     pub fn of_read(error: &io::Error, path: &'p str) -> Self
         ensures memory { error_kind error.now ≡ kind.OutOfMemory → IsRefusedAs OutOfMemory result }
-        ensures folder { error_kind error.now ≡ kind.IsADirectory →
-            result ≡ Failure.IsFolder path.entry }
         ensures other { error_kind error.now ≢ kind.OutOfMemory →
-            error_kind error.now ≢ kind.IsADirectory → result ≡ Failure.CannotRead path.entry }
+            result ≡ Failure.CannotRead path.entry }
         ensures status { error_kind error.now ≢ kind.OutOfMemory → status_of result ≡ 2 }
     {
-        if error.kind() == io::ErrorKind::IsADirectory {
-            Failure::IsFolder(path)
-        } else {
-            Failure::memory_or(error, Failure::CannotRead(path))
-        }
+        Failure::memory_or(error, Failure::CannotRead(path))
     }
 
     /// The failure where the output cannot be written.
@@ -151,13 +143,6 @@ impl fmt::Display for Failure<'_> {
                 "usage: mjc tokens|code|names|lint|replay [OPTION..] FILE [ANSWERS], mjc expr TEXT"
             ),
             Failure::CannotRead(path) => write!(f, "mjc: cannot read {path}"),
-            Failure::IsFolder(path) => {
-                write!(
-                    f,
-                    "mjc: cannot read {path}: {}",
-                    io::ErrorKind::IsADirectory
-                )
-            }
             Failure::Refused { kind, line, column } => write!(
                 f,
                 "mjc: {kind:?} at {line}:{column}"
