@@ -10,7 +10,7 @@ GIVEN_UP = 1000
 
 
 class Answer(NamedTuple):
-    """What a program printed, its last line if it refused, and its status."""
+    """A program's status, what it printed, and the line that it wrote on standard error."""
 
     status: int
     out: str
@@ -45,21 +45,15 @@ class Program:
 
     def start(self, words: list) -> Answer:
         """Runs the program. One that takes too long is stopped, and has a status that no program has."""
-        status, printed = self.spawn(words)
-        out = printed.decode("utf-8", "replace")
-        if status == 0:
-            return Answer(0, out, "")
-        lines = out.split("\n")
-        refusal = lines[-2] if len(lines) > 1 else out
-        return Answer(status, out[: len(out) - len(refusal) - 1], refusal)
+        status, out, error = self.spawn(words)
+        return Answer(status, out.decode("utf-8", "replace"), error.decode("utf-8", "replace").removesuffix("\n"))
 
     def spawn(self, words: list):
-        """The status, and what was printed on both outputs."""
+        """The status, and what was printed on both outputs. What stands on the second one has to fit into a pipe."""
         self.runs += 1
-        read_end, write_end = os.pipe()
-        actions = [(os.POSIX_SPAWN_DUP2, write_end, 1), (os.POSIX_SPAWN_DUP2, write_end, 2)]
+        outputs = [os.pipe(), os.pipe()]
+        actions = [(os.POSIX_SPAWN_DUP2, write_end, to) for to, (_, write_end) in enumerate(outputs, 1)]
         process = os.posix_spawn(self.path, [self.path, *words], {}, file_actions=actions)
-        os.close(write_end)
         late = []
 
         def stop(_signal, _frame):
@@ -68,14 +62,12 @@ class Program:
 
         signal.signal(signal.SIGALRM, stop)
         signal.alarm(self.seconds)
-        printed = []
-        while part := os.read(read_end, 1 << 16):
-            printed.append(part)
-        os.close(read_end)
+        for _, write_end in outputs:
+            os.close(write_end)
+        out, error = (read_all(read_end) for read_end, _ in outputs)
         _, ending = os.waitpid(process, 0)
         signal.alarm(0)
-        status = GIVEN_UP if late else os.waitstatus_to_exitcode(ending)
-        return status, b"".join(printed)
+        return GIVEN_UP if late else os.waitstatus_to_exitcode(ending), out, error
 
     def one(self, kind: str, options: list, path: str) -> Answer:
         """What it prints of the kind `tokens`, `code` or `names` for a file."""
@@ -88,7 +80,7 @@ class Program:
     def batch(self, kind: str, options: list, texts: list) -> list:
         """What it prints of a kind for each text of several, by one run."""
         path = self.write("batch", f"\n{SEPARATOR}\n".join(texts))
-        status, printed = self.spawn(["batch", kind, *self.options, *options, path])
+        status, printed, _ = self.spawn(["batch", kind, *self.options, *options, path])
         answers, lines = [], []
         for line in printed.decode("utf-8", "replace").split("\n"):
             if not line.startswith(SEPARATOR):
@@ -100,3 +92,12 @@ class Program:
         if status or len(answers) != len(texts):
             raise RuntimeError(f"a batch of {len(texts)} had {len(answers)} answers and status {status}")
         return answers
+
+
+def read_all(read_end: int) -> bytes:
+    """What is written into a pipe until its end, which is closed then."""
+    printed = []
+    while part := os.read(read_end, 1 << 16):
+        printed.append(part)
+    os.close(read_end)
+    return b"".join(printed)

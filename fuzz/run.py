@@ -1,9 +1,10 @@
-"""Compares `mjc` with another program that has its forms, and with models, on texts that are made up.
+"""Compares `mjc` with a model of it, and another program that has its forms with a model of that one, on texts that are
+made up.
 
     run.py --mjc MJC --upstream PROGRAM [--seed SEED] [--count TEXTS] [--seconds SECONDS] [--processes N]
 
-It prints each difference that no rule explains as a line of JSON, and at the end how many texts were compared, and how
-often each rule explained one. The status is 0 where no difference is left.
+It prints each difference as a line of JSON, and at the end how many texts were compared, and how often each rule chose
+between the two models. The status is 0 where no difference is left.
 """
 
 import argparse
@@ -78,7 +79,7 @@ def run(words) -> int:
     start = shown = time.monotonic()
     queue = multiprocessing.Queue()
     share = -(-words.count // words.processes)
-    rows = read_rows(words.rows) if words.upstream and words.rows else []
+    rows = read_rows(words.rows) if words.rows else []
     jobs = [
         Work(words, words.seed + at, words.processes, start + words.seconds, share, [] if at else rows)
         for at in range(words.processes)
@@ -106,7 +107,8 @@ def run(words) -> int:
                 print(f"{comparison.number_of_texts(counts)} texts", file=sys.stderr, flush=True)
         elif kind == "examples":
             for rule, case in content.items():
-                comparison.keep_shortest(examples, rule, case)
+                if comparison.is_shorter(examples, rule, case):
+                    examples[rule] = case
         elif kind == "end":
             ended += 1
         else:
@@ -143,7 +145,7 @@ def report(words, counts: Counter, differences: int, seconds: float) -> str:
     lines = [f"seeds from {words.seed} on, {words.processes} processes, {seconds:.0f} seconds"]
     lines += [f"texts {texts}, {texts / max(seconds, 1):.0f} in a second"]
     lines += [f"  {name}: {count}" for name, count in sorted(counts.items())]
-    lines += [f"differences that no rule explains: {differences}"]
+    lines += [f"differences: {differences}"]
     return "\n".join(lines)
 
 

@@ -33,8 +33,6 @@ ITEMS = ["0", "1", "2", '"a"', '"é"', "none", "true", "false", "[1]", "[]", "(1
 ITEMS += ['{"a": 1}', '{"a": x, "b": [1]}', '{"b": [1], "a": x}', "[none]"]
 # Equal maps that are printed differently.
 TWINS = ['{"a": [], "b": [1]}', '{"b": [1], "a": []}', '{"b": 0, "a": [], "b": [1]}']
-# Marks round the right operand of a `**` that has a `**` of its own. No template's source has them.
-GROUP_START, GROUP_END = "\ue000", "\ue001"
 ORDERS = ["==", "!=", "<", "<=", ">", ">="]
 
 
@@ -82,18 +80,7 @@ def make(seed: int) -> Template:
     random = Random(f"template {seed}")
     markers = Markers() if random.random() < 0.9 else random.choice(OTHER_MARKERS)
     flags = [it for it in ("--trim-blocks", "--lstrip-blocks", "--keep-newline") if random.random() < 0.06]
-    source = ungrouped(Maker(random, markers).template())
-    return Template(source, flags + markers.options())
-
-
-def ungrouped(made: str) -> str:
-    """What was made, without the marks of groups."""
-    return made.replace(GROUP_START, "").replace(GROUP_END, "")
-
-
-def grouped(made: str) -> str:
-    """What was made, with the right operand of each `**` in parentheses where it has a `**` of its own."""
-    return made.replace(GROUP_START, "(").replace(GROUP_END, ")")
+    return Template(Maker(random, markers).template(), flags + markers.options())
 
 
 class Maker:
@@ -263,13 +250,12 @@ class Maker:
         return self.filtered(depth, mood)
 
     def powers(self, depth: int) -> str:
-        """Two or more operands of `**`. Where there are three, the marks show how they are grouped."""
+        """Two or more operands of `**`."""
         parts = [self.filtered(depth, NUMBER) for _ in self.some(2, 4, int)]
         parts = [f"({it})" if " is " in it else it for it in parts]
         found = parts.pop()
         while parts:
-            right = f"{GROUP_START}{found}{GROUP_END}" if "**" in found else found
-            found = f"{parts.pop()}{self.one((' ** ', '**'))}{right}"
+            found = f"{parts.pop()}{self.one((' ** ', '**'))}{found}"
         return found
 
     def filtered(self, depth: int, mood: str) -> str:

@@ -10,7 +10,6 @@ import sys
 from random import Random
 from typing import NamedTuple
 
-import templates
 from syntaxes import FLAGS, SYNTAXES, Syntax
 from templates import Maker, Markers, Place
 
@@ -34,7 +33,7 @@ NESTS = (("(", ")"), ("[", "]"), ("-", ""), ("not ", ""), ("x**", ""), ("x[", "]
 
 
 class File(NamedTuple):
-    """What a seed makes: a syntax, templates and expressions that may have marks of groups, and broken texts."""
+    """What a seed makes: a syntax, templates, broken texts, and expressions by themselves."""
 
     seed: int
     syntax: Syntax
@@ -138,7 +137,7 @@ class Breaker:
             return self.nesting()
         if way < 0.011:
             return self.arguments()
-        found = self.row() if way < 0.4 else self.changed(templates.ungrouped(self.random.choice(self.made)))
+        found = self.row() if way < 0.4 else self.changed(self.random.choice(self.made))
         return found.replace("\x1e", " ")
 
     def expression(self, maker: TextMaker) -> str:
@@ -147,7 +146,7 @@ class Breaker:
         way = self.random.random()
         if way < 0.6:
             return found
-        found = self.changed(templates.ungrouped(found)) if way < 0.85 else " ".join(self.part() for _ in range(4))
+        found = self.changed(found) if way < 0.85 else " ".join(self.part() for _ in range(4))
         return found.replace("\x1e", " ")
 
     def part(self) -> str:
@@ -213,7 +212,7 @@ def main():
     words = parser.parse_args()
     file = make(words.seed, words.templates, words.broken, 0)
     print(file.syntax.name, *file.syntax.options(), file=sys.stderr)
-    for text in [templates.ungrouped(it) for it in file.templates] + file.broken:
+    for text in file.templates + file.broken:
         sys.stdout.buffer.write(text.encode("utf-8", "surrogatepass") + b"\n\x1e\n")
 
 
