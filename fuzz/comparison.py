@@ -26,11 +26,13 @@ TEXTS = (
 IN_FILES, ALONE, REFUSED, BROKEN, EXPRESSIONS, REPLAYED, ROWS = TEXTS
 COMMANDS = ("tokens", "code", "names", "lint")
 EXPRESSION = "expression"
+# The word that stands for standard input.
+STANDARD_INPUT = "-"
 # How many templates of a file are also compared by themselves, and the names of how many with the other program.
 ALONE_OF_A_FILE = 8
 NAMES_OF_A_FILE = 10
 # The share of runs with a line that is no answer.
-BAD_ANSWERS = 0.02
+BAD_ANSWERS = 0.08
 # The offsets behind a token, which answers of a batch have.
 OFFSETS = re.compile(r" \d+\.\.\d+$", re.M)
 # What characters may be taken for that Python's version of Unicode does not know.
@@ -120,6 +122,8 @@ class Comparison:
             if not is_met(found, ways, command):
                 self.report(command, case, ways[0], command, found)
                 return
+        if kind in (REFUSED, BROKEN):
+            self.count_rules(ways[0].choice.used)
 
     def many(self, seed: int, options: list, accepted: List[str]):
         """Compares templates as one file, and each alone where that is not what is wanted.
@@ -200,7 +204,7 @@ class Comparison:
 
     def expressions(self, seed: int, several: List[str]):
         """Compares the code of expressions that are no templates."""
-        several = [it for it in several if "\0" not in it]
+        several = [it for it in several if "\0" not in it and it != STANDARD_INPUT]
         if self.upstream and several:
             for text, found in zip(several, self.upstream.batch("expr", [], several)):
                 self.expression(Case(seed, [], text), found, False)
@@ -244,18 +248,18 @@ class Comparison:
         if self.upstream:
             self.expression(case, self.upstream.batch("expr", [], [case.text])[0], False)
         theirs, choice = model.expression(case.text, False)
-        return choice.used if not theirs.is_like(model.expression(case.text)[0]) else Counter()
+        return Counter() if theirs.is_like(model.expression(case.text)[0]) else choice.used
 
     # Results
 
     def count_rules(self, used: Counter):
-        """Counts how often rules chose."""
-        self.counts.update({f"rule: {name}": count for name, count in used.items()})
+        """Counts how often rules chose. That of depth chooses again and again where a text nests."""
+        self.counts.update({f"rule: {name}": 1 if name == rules.DEPTH else count for name, count in used.items()})
 
     def differs(self, case: Case, theirs: model.Text) -> bool:
         """Whether the two programs have different tokens or code for a text."""
         ours = self.text(case)
-        return not ours.tokens().is_like(theirs.tokens()) or not ours.code().is_like(theirs.code())
+        return not (ours.tokens().is_like(theirs.tokens()) and ours.code().is_like(theirs.code()))
 
     def keep_example(self, case: Case, theirs: model.Text):
         """Keeps a text where it is the shortest for the one rule that explains it."""

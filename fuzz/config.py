@@ -4,7 +4,8 @@ import re
 from typing import NamedTuple
 
 # What a marker begins.
-VARIABLE, BLOCK, COMMENT, LINE_STATEMENT, LINE_COMMENT = "variable", "block", "comment", "line statement", "line comment"
+VARIABLE, BLOCK, COMMENT = "variable", "block", "comment"
+LINE_STATEMENT, LINE_COMMENT = "line statement", "line comment"
 # What `char::is_whitespace` says, and `u8::is_ascii_whitespace`.
 SPACES = "\t\n\x0b\x0c\r \x85\xa0\u1680\u2000\u2001\u2002\u2003\u2004\u2005\u2006\u2007\u2008\u2009\u200a"
 SPACES += "\u2028\u2029\u202f\u205f\u3000"

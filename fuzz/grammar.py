@@ -5,7 +5,7 @@ from typing import List, Optional
 import rules
 import trees
 import values
-from lexing import IDENT, INT, INT128, STR, STRING, SYNTAX_ERROR, Lexer
+from lexing import IDENT, INT, INT128, STR, STRING, SYNTAX_ERROR, Lexer, Refusal
 from trees import Expression
 
 CONSTANTS = {
@@ -30,15 +30,11 @@ MOST_ARGUMENTS = 2000
 
 
 class Refused(Exception):
-    """The text is refused. `kinds` has the kinds that the refusal may have, which is one mostly.
+    """The text is refused. `refusals` has those that may be told, which is one mostly."""
 
-    `is_lexers` says that it is the tokenizer's refusal.
-    """
-
-    def __init__(self, *kinds: str, is_lexers: bool = False):
-        super().__init__(*kinds)
-        self.kinds = set(kinds)
-        self.is_lexers = is_lexers
+    def __init__(self, *refusals: Refusal):
+        super().__init__(*refusals)
+        self.refusals = refusals
 
 
 class ExpressionReader:
@@ -60,20 +56,22 @@ class ExpressionReader:
 
     # Tokens
 
+    def refusal_at(self, index: int) -> Refusal:
+        """The refusal of a token, or of the last one."""
+        index = min(index, len(self.lexer.tokens) - 1)
+        return Refusal(SYNTAX_ERROR, self.lexer.tokens[index].start if index >= 0 else None)
+
     def refuse(self):
         """Refuses the next token."""
-        if self.kind == LEXER_REFUSAL:
-            raise Refused(self.lexer.refusal.kind, is_lexers=True)
-        raise Refused(SYNTAX_ERROR)
+        raise Refused(self.lexer.refusal if self.kind == LEXER_REFUSAL else self.refusal_at(self.at))
 
     def refuse_meaning(self):
-        """Refuses what was read, which is well written but not allowed.
+        """Refuses what was read up to the last token, which is well written but not allowed.
 
         Where the tokenizer refuses what comes next, either refusal may be told.
         """
-        if self.kind == LEXER_REFUSAL:
-            raise Refused(SYNTAX_ERROR, self.lexer.refusal.kind)
-        raise Refused(SYNTAX_ERROR)
+        refusal = self.refusal_at(self.at - 1)
+        raise Refused(refusal, self.lexer.refusal) if self.kind == LEXER_REFUSAL else Refused(refusal)
 
     def advance(self):
         """Goes on behind the next token."""
@@ -379,13 +377,19 @@ class ExpressionReader:
 
     def string(self) -> trees.Constant:
         """Strings that stand side by side."""
+        if self.kind == STR and self.loses_refusal():
+            self.kinds[-1] = END
         found = ""
         while self.kind in STRINGS:
             found += self.lexer.tokens[self.at].value
             self.advance()
-        if self.kind == LEXER_REFUSAL and not self.choice.ours(rules.LOST_REFUSAL):
-            self.kinds[-1] = self.kind = END
         return trees.Constant(values.text(found))
+
+    def loses_refusal(self) -> bool:
+        """Whether a refusal right behind this string is lost, as the other program does. It refuses no floats."""
+        if self.kinds[self.at + 1] != LEXER_REFUSAL or self.lexer.refusal.is_float:
+            return False
+        return not self.choice.ours(rules.LOST_REFUSAL)
 
     def brackets(self) -> Expression:
         """What stands in round brackets: a tuple, or an expression that is not changed by them."""

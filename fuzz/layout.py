@@ -12,7 +12,9 @@ from names import TheirWalk, Walk
 from trees import Expression
 from values import quote
 
-OPERATORS = {"StringConcat", "Add", "Sub", "Mul", "Div", "IntDiv", "Rem", "Pow", "Eq", "Ne", "Lt", "Lte", "Gt", "Gte", "In"}
+OPERATORS = {
+    "StringConcat", "Add", "Sub", "Mul", "Div", "IntDiv", "Rem", "Pow", "Eq", "Ne", "Lt", "Lte", "Gt", "Gte", "In",
+}  # fmt: skip
 MOST_IDS, NO_ID = 50, 255
 WITH_LOOP_VARIABLE, RECURSIVE = 1, 2
 MACRO_CALLER = 2

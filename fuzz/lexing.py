@@ -55,18 +55,19 @@ class Token(NamedTuple):
 
 
 class Refusal(NamedTuple):
-    """A refusal: of which kind, and the place where the tokenizer stopped."""
+    """A refusal: of which kind, and where, if it is anywhere. A float is refused as such."""
 
     kind: str
-    at: int
+    at: Optional[int]
+    is_float: bool = False
 
 
 class Stopped(Exception):
     """The tokenizer refuses the rest of the text."""
 
-    def __init__(self, kind: str, at: int):
+    def __init__(self, kind: str, at: int, is_float: bool = False):
         super().__init__(kind, at)
-        self.refusal = Refusal(kind, at)
+        self.refusal = Refusal(kind, at, is_float)
 
 
 class Unicode(NamedTuple):
@@ -342,7 +343,7 @@ class Lexer:
         first = start + 2 if radix else start
         self.at = (HEX_DIGITS if radix == 16 else DIGITS).match(self.text, first).end()
         if not radix and self.is_float(start):
-            raise Stopped(SYNTAX_ERROR, self.at)
+            raise Stopped(SYNTAX_ERROR, self.at, True)
         number = read_digits(self.text[first : self.at], radix or 10)
         if number is None:
             raise Stopped(SYNTAX_ERROR, self.at)
@@ -428,6 +429,6 @@ def show(lexer: Lexer) -> str:
     return "".join(lines)
 
 
-def show_refusal(lexer: Lexer) -> str:
-    """The place of the refusal."""
-    return Places(lexer.text).show(lexer.refusal.at)
+def show_place(lexer: Lexer, at: Optional[int]) -> str:
+    """A place of the text as it is printed, or zeros for none."""
+    return "0:0" if at is None else Places(lexer.text).show(at)

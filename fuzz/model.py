@@ -7,7 +7,7 @@ Where they differ on purpose, `Rules` chooses. Nothing here is taken from the co
 """
 
 import sys
-from typing import NamedTuple, Optional, Set
+from typing import FrozenSet, Iterable, NamedTuple, Set
 
 import config
 import layout
@@ -15,7 +15,7 @@ import lexing
 import names
 import rules
 from grammar import ExpressionReader, Refused
-from lexing import KNOWN_LETTERS, Lexer, Places, Unicode
+from lexing import KNOWN_LETTERS, Lexer, Refusal, Unicode
 from programs import Answer
 from statements import TemplateReader
 
@@ -26,35 +26,38 @@ EXPRESSION = config.of_options([])
 
 
 class Wanted(NamedTuple):
-    """What a program has to answer: its status, what it prints, and, where it refuses, the kinds that it may tell.
+    """What a program has to answer: its status, what it prints, and, where it refuses, the lines that it may tell.
 
-    `place` is where a refusal has to be, if that is known.
+    A line without a place leaves the place open.
     """
 
     status: int
     out: str
-    kinds: Set[str] = frozenset()
-    place: Optional[str] = None
+    refusals: FrozenSet[str] = frozenset()
 
     def is_met(self, found: Answer) -> bool:
         """Whether a program has answered this."""
         if (found.status, found.out) != (self.status, self.out):
             return False
-        if self.status == STOPPED and not self.out:
+        if self == STOP:
             return True
-        if self.status != REFUSED:
-            return not found.refusal
-        head, _, place = found.refusal.rpartition(" at ")
-        return head[5:] in self.kinds and head[:5] == "mjc: " and self.place in (None, place)
+        return found.refusal in (self.refusals or {""}) or f"{found.refusal.rpartition(' ')[0]} " in self.refusals
 
     def is_like(self, other: "Wanted") -> bool:
-        """Whether another answer is the same but for the place of a refusal."""
-        return self._replace(place=None) == other._replace(place=None)
+        """Whether another answer is the same but for the places of refusals."""
+        return (self.status, self.out, self.kinds()) == (other.status, other.out, other.kinds())
+
+    def kinds(self) -> Set[str]:
+        """The kinds of refusals that may be told."""
+        return {it.split(" ")[1] for it in self.refusals}
 
     def show(self) -> dict:
         """What is wanted as data that can be printed."""
-        refusal = f"{' or '.join(sorted(self.kinds))} at {self.place or 'any place'}" if self.kinds else ""
-        return {"status": self.status, "out": self.out, "refusal": refusal}
+        return {"status": self.status, "out": self.out, "refusal": " or ".join(sorted(self.refusals))}
+
+
+# What a program answers that stops by a fault of its own. It may say anything of that.
+STOP = Wanted(STOPPED, "")
 
 
 class Text:
@@ -69,24 +72,20 @@ class Text:
         try:
             tree = reader.template()
         except Refused as why:
-            self.refused = Wanted(REFUSED, "", why.kinds, self.place() if why.is_lexers else None)
+            self.refused = Wanted(REFUSED, "", lines(self.lexer, why.refusals, ours))
             return
         if reader.stops:
-            self.refused = Wanted(STOPPED, "")
+            self.refused = STOP
             return
         self.tree = tree
         self.walk = names.Walk().template(tree)
 
     def tokens(self) -> Wanted:
         """What `tokens` has to print."""
-        refusal = self.lexer.refusal
+        out, refusal = lexing.show(self.lexer), self.lexer.refusal
         if not refusal:
-            return Wanted(DONE, lexing.show(self.lexer))
-        return Wanted(REFUSED, lexing.show(self.lexer), {refusal.kind}, self.place())
-
-    def place(self) -> Optional[str]:
-        """Where a refusal of the tokenizer has to be. The other program may tell another place."""
-        return lexing.show_refusal(self.lexer) if self.choice.is_ours else None
+            return Wanted(DONE, out)
+        return Wanted(REFUSED, out, lines(self.lexer, [refusal], self.choice.is_ours))
 
     def code(self) -> Wanted:
         """What `code` has to print."""
@@ -106,12 +105,18 @@ class Text:
         if self.refused:
             return self.refused
         found = names.findings(self.walk)
-        lines = [words.format(name, Places(self.lexer.text).show(at)) for words, name, at in found]
-        return Wanted(FOUND if lines else DONE, "".join(f"{it}\n" for it in lines))
+        printed = [words.format(name, lexing.show_place(self.lexer, at)) for words, name, at in found]
+        return Wanted(FOUND if found else DONE, "".join(f"{it}\n" for it in printed))
 
     def answer(self, command: str) -> Wanted:
         """What a command has to print."""
         return {"tokens": self.tokens, "code": self.code, "names": self.names, "lint": self.lint}[command]()
+
+
+def lines(lexer: Lexer, refusals: Iterable[Refusal], has_place: bool) -> FrozenSet[str]:
+    """The lines that tell refusals. The place of the other program's may be another one."""
+    shown = [(it.kind, lexing.show_place(lexer, it.at) if has_place else "") for it in refusals]
+    return frozenset(f"mjc: {kind} at {place}" for kind, place in shown)
 
 
 def expression(source: str, ours: bool = True, unicode: Unicode = KNOWN_LETTERS):
@@ -121,8 +126,7 @@ def expression(source: str, ours: bool = True, unicode: Unicode = KNOWN_LETTERS)
     try:
         tree = ExpressionReader(lexer, choice).standalone()
     except Refused as why:
-        place = lexing.show_refusal(lexer) if ours and why.is_lexers else None
-        return Wanted(REFUSED, "", why.kinds, place), choice
+        return Wanted(REFUSED, "", lines(lexer, why.refusals, ours)), choice
     return Wanted(DONE, layout.show_expression(tree, choice)), choice
 
 
@@ -139,7 +143,7 @@ def main() -> int:
             wanted = Text(file.read(), config.of_options(options), ours).answer(command)
     sys.stdout.buffer.write(wanted.out.encode())
     if wanted.status == REFUSED:
-        print(f"mjc: {wanted.show()['refusal']}", file=sys.stderr)
+        print(wanted.show()["refusal"], file=sys.stderr)
     return wanted.status
 
 

@@ -18,6 +18,7 @@ ANY, NUMBER, HOLDER = "any", "number", "holder"
 
 NAMES = ["a", "b", "c", "x", "y", "item", "user"]
 ODD_NAMES = ["loop", "self", "super", "caller", "é", "_p", "名前", "ignore", "x1", "endfor", "with"]
+ODD_NAMES += ["e\u0301", "x·1"]
 TARGETS = ["a", "b", "c", "x", "y", "item", "é", "caller", "super"]
 FILTERS = ["f", "upper", "default", "a.b", "é"]
 TESTS = ["t", "defined", "odd", "a.b"]
@@ -346,7 +347,8 @@ class Maker:
         """An attribute, or an item whose key is a number behind a dot."""
         if self.chance(0.15):
             return f"{self.name()}.{self.one(('0', '1', '2.0', '12'))}"
-        return f"{self.base(depth)}.{self.one(['b', 'c', 'k', 'for', 'é'])}"
+        found = f"{self.base(depth)}.{self.one(['b', 'c', 'k', 'for', 'é'])}"
+        return f"{found}.{self.one(['b', 'd', 'in'])}" if self.chance(0.1) else found
 
     def item(self, depth: int) -> str:
         """An item."""
@@ -514,8 +516,11 @@ class Maker:
         return self.enclosed(head, inner, "endfor")
 
     def leave(self, _depth: int, _place: Place) -> str:
-        """A break or a continue, mostly under a condition."""
+        """A break or a continue, mostly under a condition, and now and then within what has to be closed."""
         found = self.block_tag(self.one(("break", "continue")))
+        while self.chance(0.3):
+            head = self.one(("with", "with x = a", "autoescape a", "filter f", "set x"))
+            found = self.enclosed(head, found, f"end{head.split()[0]}")
         return found if self.chance(0.4) else self.enclosed(f"if {self.name()}", found, "endif")
 
     def if_(self, depth: int, place: Place) -> str:
@@ -558,7 +563,7 @@ class Maker:
     def block(self, depth: int, _place: Place) -> str:
         """A block, the name of which no other has."""
         self.blocks += 1
-        name = f"b{self.blocks}"
+        name = f"{self.one(('b', 'b', 'a', 'é'))}{self.blocks}"
         head = f"block {name}{' scoped' if self.chance(0.1) else ''}"
         end = f"endblock{f' {name}' if self.chance(0.3) else ''}"
         if self.chance(0.08):

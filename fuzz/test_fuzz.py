@@ -9,6 +9,9 @@ import config
 import model
 import rules
 import texts
+import wrong
+import wrong_code  # noqa: F401
+import wrong_texts  # noqa: F401
 from programs import Answer
 from syntaxes import SYNTAXES
 
@@ -40,7 +43,7 @@ class Case(unittest.TestCase):
     def refused(self, source: str, *kinds: str, ours: bool = True):
         """A template is refused, as one of these kinds."""
         found = text(source, ours=ours).code()
-        self.assertEqual((found.status, found.out, found.kinds), (1, "", set(kinds or ["SyntaxError"])))
+        self.assertEqual((found.status, found.out, found.kinds()), (1, "", set(kinds or ["SyntaxError"])))
 
     def accepted(self, source: str, ours: bool = True):
         """A template is accepted."""
@@ -54,11 +57,12 @@ class Case(unittest.TestCase):
     def expression_refused(self, source: str, kind: str = "SyntaxError", ours: bool = True):
         """An expression by itself is refused."""
         found = model.expression(source, ours)[0]
-        self.assertEqual((found.status, found.out, found.kinds), (1, "", {kind}))
+        self.assertEqual((found.status, found.out, found.kinds()), (1, "", {kind}))
 
     def tokens(self, source: str, wanted: list, *options: str, ours: bool = True):
         """The tokens of a text are these."""
-        self.assertEqual(text(source, *options, ours=ours).tokens(), model.Wanted(0, "".join(f"{it}\n" for it in wanted)))
+        found = text(source, *options, ours=ours).tokens()
+        self.assertEqual(found, model.Wanted(0, "".join(f"{it}\n" for it in wanted)))
 
     def data(self, source: str, wanted: list, *options: str, ours: bool = True):
         """The data of a text is this."""
@@ -72,8 +76,8 @@ class Tokens(Case):
     def test_tags(self):
         wanted = ['1:0-1:6 TemplateData("Hello ")', "1:6-1:8 VariableStart", '1:9-1:13 Ident("name")']
         self.tokens("Hello {{ name }}!", [*wanted, "1:14-1:16 VariableEnd", '1:16-1:17 TemplateData("!")'])
-        wanted = ["1:0-1:2 VariableStart", '1:3-1:7 Ident("name")', "1:8-1:11 VariableEnd", '1:13-1:14 TemplateData("x")']
-        self.tokens("{{ name -}}  x", wanted)
+        wanted = ["1:0-1:2 VariableStart", '1:3-1:7 Ident("name")', "1:8-1:11 VariableEnd"]
+        self.tokens("{{ name -}}  x", [*wanted, '1:13-1:14 TemplateData("x")'])
         wanted = ['1:0-1:1 TemplateData("é")', "1:1-1:3 VariableStart", '1:4-1:5 Ident("é")', "1:6-1:8 VariableEnd"]
         self.tokens("é{{ é }}", wanted)
         self.tokens("", [])
@@ -100,8 +104,9 @@ class Tokens(Case):
         self.tokens("# set a = 1\r\nx", wanted, "--line-statement", "#")
 
     def test_lines(self):
-        source = "## This block is\n## completely removed\n<ul>\n  # for item in [1, 2]\n    ## this is a comment that is "
-        source += "also removed including leading whitespace\n    <li>{{ item }}\n  # endfor\n</ul>"
+        source = "## This block is\n## completely removed\n<ul>\n  # for item in [1, 2]\n"
+        source += "    ## this is a comment that is also removed including leading whitespace\n"
+        source += "    <li>{{ item }}\n  # endfor\n</ul>"
         self.data(source, ["<ul>\n", "    <li>", "\n", "</ul>"], *LINES)
         self.data("## a\r\nb", ["b"], *LINES)
         self.data("## a\r\nb", ["\nb"], *LINES, ours=False)
@@ -127,13 +132,18 @@ class Tokens(Case):
     def test_place_of_a_refusal(self):
         found = text("a\n{{ x $ }}").tokens()
         wanted = '1:0-2:0 TemplateData("a\\n")\n2:0-2:2 VariableStart\n2:3-2:4 Ident("x")\n'
-        self.assertEqual(found, model.Wanted(1, wanted, {"SyntaxError"}, "2:5"))
-        self.assertEqual(text("{{ x $ }}").code().place, "1:5")
-        self.assertEqual(text("{{ x y $ }}").code().place, None)
+        self.assertEqual(found, model.Wanted(1, wanted, {"mjc: SyntaxError at 2:5"}))
+        for source, place in (("{{ x $ }}", "1:5"), ("{{ x y $ }}", "1:5"), ("{{ a", "1:3"), ("{% do x %}", "1:6")):
+            self.assertEqual(text(source).code(), model.Wanted(1, "", {f"mjc: SyntaxError at {place}"}))
+        self.assertEqual(model.expression("")[0], model.Wanted(1, "", {"mjc: SyntaxError at 0:0"}))
+        self.assertEqual(text("{{ x", ours=False).code().refusals, {"mjc: SyntaxError at "})
 
     def test_refusal_behind_a_string(self):
         self.expression_refused("'a' $")
         self.expression("'a' $", '0 LoadConst("a")', ours=False)
+        self.expression_refused("'\\n' $", ours=False)
+        self.expression_refused("'a' 'b' $", ours=False)
+        self.expression_refused("'a' 1.5", ours=False)
         self.refused("{{ 'a' '\\q' }}", "BadEscape")
         self.refused("{{ 'a' '\\q' }}", "SyntaxError", ours=False)
 
@@ -241,12 +251,14 @@ class Statements(Case):
         self.code("{% if a %}x{% else %}y{% endif %}", steps, hint=4)
         steps = '0 Lookup("a"), 1 JumpIfFalse(3), 2 Jump(6), 3 Lookup("b"), 4 JumpIfFalse(6), 5 EmitRaw("y")'
         self.code("{% if a %}{% elif b %}y{% endif %}", steps, hint=2)
-        steps = '0 EmitRaw("<div>\\n"), 1 LoadConst(true), 2 JumpIfFalse(4), 3 EmitRaw("    yay\\n"), 4 EmitRaw("</div>")'
+        steps = '0 EmitRaw("<div>\\n"), 1 LoadConst(true), 2 JumpIfFalse(4), 3 EmitRaw("    yay\\n")'
+        steps += ', 4 EmitRaw("</div>")'
         source = "<div>\n  {% if True %}\n    yay\n  {% endif %}\n</div>"
         self.code(source, steps, "--trim-blocks", "--lstrip-blocks", hint=64)
 
     def test_loops(self):
-        steps = '0 LoadConst(0), 1 Lookup("y"), 2 PushLoop(0), 3 Iterate(14), 4 DupTop, 5 StoreLocal("x"), 6 Lookup("x")'
+        steps = '0 LoadConst(0), 1 Lookup("y"), 2 PushLoop(0), 3 Iterate(14), 4 DupTop, 5 StoreLocal("x")'
+        steps += ', 6 Lookup("x")'
         steps += ", 7 JumpIfFalse(12), 8 Swap, 9 LoadConst(1), 10 Add, 11 Jump(13), 12 DiscardTop, 13 Jump(3)"
         steps += ', 14 PopLoopFrame, 15 BuildList(none), 16 PushLoop(1), 17 Iterate(22), 18 StoreLocal("x")'
         steps += ', 19 Lookup("x"), 20 Emit, 21 Jump(17), 22 PopLoopFrame'
@@ -264,15 +276,16 @@ class Statements(Case):
         steps = ', 4 BeginCapture(Capture), 5 EmitRaw("a"), 6 EndCapture, 7 DiscardTop, 8 Jump(2), 9 EndCapture'
         source = "{% for x in y %}{% set s %}a{% continue %}{% endset %}{% endfor %}"
         self.code(source, head.format(12) + steps + ', 10 StoreLocal("s"), 11 Jump(2), 12 PopLoopFrame', hint=2)
-        steps = ', 4 Lookup("z"), 5 PushAutoEscape, 6 PopAutoEscape, 7 Jump(10), 8 PopAutoEscape, 9 Jump(2), 10 PopLoopFrame'
+        steps = ', 4 Lookup("z"), 5 PushAutoEscape, 6 PopAutoEscape, 7 Jump(10), 8 PopAutoEscape, 9 Jump(2)'
         source = "{% for x in y %}{% autoescape z %}{% break %}{% endautoescape %}{% endfor %}"
-        self.code(source, head.format(10) + steps)
+        self.code(source, f"{head.format(10)}{steps}, 10 PopLoopFrame")
 
     def test_leaving_an_else(self):
         self.refused("{% for x in y %}{% else %}{% break %}{% endfor %}")
         self.accepted("{% for x in y %}{% else %}{% break %}{% endfor %}", ours=False)
-        steps = '0 Lookup("b"), 1 PushLoop(1), 2 Iterate(14), 3 StoreLocal("a"), 4 Lookup("y"), 5 PushLoop(1), 6 Iterate(9)'
-        steps += ', 7 StoreLocal("x"), 8 Jump(6), 9 PushDidNotIterate, 10 PopLoopFrame, 11 JumpIfFalse(13), 12 Jump(14)'
+        steps = '0 Lookup("b"), 1 PushLoop(1), 2 Iterate(14), 3 StoreLocal("a"), 4 Lookup("y"), 5 PushLoop(1)'
+        steps += ', 6 Iterate(9), 7 StoreLocal("x"), 8 Jump(6), 9 PushDidNotIterate, 10 PopLoopFrame'
+        steps += ", 11 JumpIfFalse(13), 12 Jump(14)"
         source = "{% for a in b %}{% for x in y %}{% else %}{% break %}{% endfor %}{% endfor %}"
         self.code(source, f"{steps}, 13 Jump(2), 14 PopLoopFrame")
 
@@ -281,8 +294,9 @@ class Statements(Case):
         self.code("{% set a, b.c = x %}", steps)
         steps = '0 BeginCapture(Capture), 1 EmitRaw("x"), 2 EndCapture, 3 ApplyFilter("f", 1, 0), 4 LoadConst(1)'
         self.code("{% filter f|g(1) %}x{% endfilter %}", f'{steps}, 5 ApplyFilter("g", 2, 1), 6 Emit', hint=2)
-        for source in ("{% set loop = a %}", "{% set loop.a = b %}", "{% set a, = 1 %}", "{% with a = 1, %}{% endwith %}"):
-            self.refused(source)
+        for assigned in ("loop = a", "loop.a = b", "a, = 1", "= 1"):
+            self.refused(f"{{% set {assigned} %}}")
+        self.refused("{% with a = 1, %}{% endwith %}")
 
     def test_value_of_do(self):
         self.code("{% do f(x) %}", '0 Lookup("x"), 1 CallFunction("f", 1), 2 DiscardTop')
@@ -302,8 +316,9 @@ class Statements(Case):
 
     def test_macro_within_a_macro(self):
         steps = '0 Jump(14), 1 Jump(7), 2 Lookup("x"), 3 Emit, 4 Lookup("a"), 5 Emit, 6 Return, 7 Enclose("a")'
-        steps += ', 8 Enclose("x"), 9 GetClosure, 10 LoadConst([]), 11 BuildMacro("b", 2, 0), 12 StoreLocal("b"), 13 Return'
-        steps += ', 14 Enclose("a"), 15 Enclose("x"), 16 GetClosure, 17 LoadConst([]), 18 BuildMacro("a", 1, 0)'
+        steps += ', 8 Enclose("x"), 9 GetClosure, 10 LoadConst([]), 11 BuildMacro("b", 2, 0), 12 StoreLocal("b")'
+        steps += ', 13 Return, 14 Enclose("a"), 15 Enclose("x"), 16 GetClosure'
+        steps += ', 17 LoadConst([]), 18 BuildMacro("a", 1, 0)'
         source = "{% macro a() %}{% macro b() %}{{ x }}{{ a }}{% endmacro %}{% endmacro %}"
         self.code(source, f'{steps}, 19 StoreLocal("a")')
 
@@ -389,7 +404,7 @@ class Names(Case):
         self.findings(source, "free a at 1:18", "free b at 1:39", "macro f unused at 1:3")
         self.findings("{% macro f(a) %}{{ a }}{% endmacro %}{{ f(1) }}{{ a }}", "free a at 1:50")
         self.findings("{% set x = 1 %}{{ x }}")
-        self.assertEqual(text("{{ x").lint(), model.Wanted(1, "", {"SyntaxError"}))
+        self.assertEqual(text("{{ x").lint(), model.Wanted(1, "", {"mjc: SyntaxError at 1:3"}))
 
 
 class Rules(Case):
@@ -419,7 +434,7 @@ class Answers(unittest.TestCase):
     """When an answer is what is wanted."""
 
     def test_answers(self):
-        wanted = model.Wanted(1, "a\n", {"SyntaxError"}, "1:5")
+        wanted = model.Wanted(1, "a\n", {"mjc: SyntaxError at 1:5"})
         found = Answer(1, "a\n", "mjc: SyntaxError at 1:5")
         self.assertTrue(wanted.is_met(found))
         for other in (
@@ -431,8 +446,40 @@ class Answers(unittest.TestCase):
             found._replace(refusal=""),
         ):
             self.assertFalse(wanted.is_met(other))
-        self.assertTrue(wanted._replace(place=None).is_met(found._replace(refusal="mjc: SyntaxError at 1:6")))
+        self.assertTrue(wanted._replace(refusals={"mjc: SyntaxError at "}).is_met(found))
+        self.assertFalse(wanted._replace(refusals={"mjc: BadEscape at "}).is_met(found))
         self.assertFalse(model.Wanted(0, "").is_met(Answer(0, "", "more")))
+
+
+class Wrong(unittest.TestCase):
+    """What wrong programs change."""
+
+    def changed(self, name: str, old: str, new: str, command: str = "code"):
+        """A wrong program prints `new` where the real one prints `old`."""
+        call = wrong.Call(command, [], "", None, lambda *_: wrong.Output(0, old, ""))
+        self.assertEqual(wrong.FAULTS[name](call), wrong.Output(0, new, ""))
+
+    def test_code(self):
+        old = code('0 Lookup("a"), 1 JumpIfFalse(4), 2 CallFunction("f", 0), 3 Emit, 4 EmitRaw("x")', b="0 Emit")
+        new = code(
+            '0 Lookup("a"), 1 JumpIfFalse(5), 2 CallFunction("f", 0), 3 DiscardTop, 4 Emit, 5 EmitRaw("x")', b="0 Emit"
+        )
+        self.changed("an output's value is dropped before it is emitted", old, new)
+        self.changed("a condition that fails skips one instruction more", old, old.replace("False(4)", "False(5)"))
+        old = code('0 Jump(2), 1 Return, 2 GetClosure, 3 BuildMacro("m", 1, 0), 4 Jump(0)')
+        new = code('0 PopFrame, 1 Jump(3), 2 Return, 3 GetClosure, 4 BuildMacro("m", 2, 0), 5 PopFrame, 6 Jump(0)')
+        self.changed("a scope more is closed before each jump", old, new)
+        self.changed("`not in` is `in`", code("0 In, 1 Not, 2 Jump(2)"), code("0 In, 1 Jump(1)"))
+
+    def test_other_output(self):
+        self.changed("nested names have no attributes", "plain a\nnested a.b\n", "plain a\nnested a\n", "names")
+        self.changed("the last event is missing", "Emit\nPopFrame\nfinished\n", "Emit\nfinished\n", "replay")
+        token = "1:0-1:2 VariableStart\n"
+        self.changed("columns are counted from 1", token, "1:1-1:3 VariableStart\n", "tokens")
+        self.changed("columns are counted from 1", token, token, "code")
+
+    def test_many(self):
+        self.assertGreater(len(wrong.FAULTS), 100)
 
 
 class Texts(unittest.TestCase):

@@ -28,8 +28,108 @@ SPACES = [" ", "\n", "\t", "\r", "\r\n", "\x0b", "\x0c", "\x1c", "\x85", "\xa0",
 
 # What may be cut where it stands before or after a tag.
 SPACE_ROUND_TAGS = (" ", "\n", "  ", "\n  ", "  \n", "\n\n", "\t", " a\n  ", "\n a ", "x ", "\u3000\n ", "\x0c\n")
-# What nests by standing many times before and after an expression.
-NESTS = (("(", ")"), ("[", "]"), ("-", ""), ("not ", ""), ("x**", ""), ("x[", "]"), ("{1:", "}"))
+# What the tokenizer refuses where it stands behind a string.
+BEHIND_STRINGS = ("$", "'\\q'", "?", "'", "1_", "1.5", "\x0b", "! a", '"\\u12"')
+# What a text may end in, which may be stripped.
+ENDS = ("\n", "\n\n", "\r\n", "\r", "\n\r", "\r\r\n", " \n")
+# What nests by standing many times before and after an expression, and how often it may.
+NESTS = (
+    ("(", ")", 149),
+    ("[", "]", 149),
+    ("{1:", "}", 149),
+    ("x[", "]", 298),
+    ("f(", ")", 298),
+    ("x|f(", ")", 298),
+    ("-", "", 298),
+    ("not ", "", 298),
+    ("x**", "", 298),
+    ("x if x else ", "", 298),
+)
+# The same for tags of the default syntax, with what stands before and behind all of them.
+TAG_NESTS = (
+    ("", "{% if x %}", "{% endif %}", "", 299),
+    ("", "{% for x in y %}", "{% endfor %}", "", 299),
+    ("", "{% with %}", "{% endwith %}", "", 299),
+    ("{% if x %}", "{% elif x %}", "", "{% endif %}", 298),
+    ("{% set ", "(", ")", " = y %}", 299),
+    ("{% for ", "(", ")", " in y %}{% endfor %}", 299),
+)
+# Statements of the default syntax that are well written but mostly not allowed.
+ROUND_MISTAKES = (("", ""), ("x ", ""), ("", "\n"), ("{% if a %}", "{% endif %}"), ("{{ a }}", "{{ b }}"))
+MISTAKES = """
+{% break %}
+{% if a %}{% continue %}{% endif %}
+{% for a in b %}{% else %}{% break %}{% endfor %}
+{% for a in b %}{% else %}{% with %}{% continue %}{% endwith %}{% endfor %}
+{% for a in b %}{% for x in y %}{% else %}{% break %}{% endfor %}{% endfor %}
+{% for a in b %}{% macro m() %}{% break %}{% endmacro %}{% endfor %}
+{% for a in b %}{% call f() %}{% continue %}{% endcall %}{% endfor %}
+{% for a in b %}{% block z %}{% continue %}{% endblock %}{% endfor %}
+{% block z %}{% endblock %}{% block z %}{% endblock %}
+{% block z %}{% endblock y %}
+{% block z %}x{% endblock z %}
+{% block z required %}x{% endblock %}
+{% block z required %}{{ x }}{% endblock %}
+{% block z required %}{% block y %}{% endblock %}{% endblock %}
+{% block z required scoped %}{% endblock %}
+{% block z scoped required %} {% endblock z %}
+{% block z required %}x{{ '\\q' }}{% endblock %}
+{% macro m() %}{% block z %}{% endblock %}{% endmacro %}
+{% call f() %}{% if a %}{% block z %}{% endblock %}{% endif %}{% endcall %}
+{% do x %}
+{% do x.y %}
+{% do f()|g %}
+{% call x %}{% endcall %}
+{% call f() if x else g() %}{% endcall %}
+{% set loop = x %}
+{% set self.a = x %}
+{% set (a, None) %}{% endset %}
+{% for true in x %}{% endfor %}
+{% for loop in x %}{% endfor %}
+{% with loop = 1 %}{% endwith %}
+{% macro m(loop) %}{% endmacro %}
+{% call(self) f() %}{% endcall %}
+{% from 'p' import loop %}
+{% from 'p' import a as self %}
+{% from 'p' import _p %}
+{% from 'p' import _p as a %}
+{% from 'p' import a as _p %}
+{% macro loop() %}{% endmacro %}
+{% macro m(a=1, b) %}{% endmacro %}
+{% macro m(a, b=1,) %}{% endmacro %}
+{% import 'p' as 1 %}
+{% import 'p' as a() %}
+{% import 'p' as (a, b) %}
+{% import 'p' as [a, b.c] %}
+{% import 'p' as f().c with context %}
+{{ f(a=1, b) }}
+{{ f(**a, b) }}
+{{ f(a=1, *b) }}
+{{ f(a.b=1) }}
+{% for a.b in c %}{% endfor %}
+{% with a.b = 1 %}{% endwith %}
+{% with a = 1, %}{% endwith %}
+{% set a, = 1 %}
+{% set a, %}x{% endset %}
+{% include 'p' with context ignore missing with context %}
+{% include 'p' ignore missing without context %}
+{% from 'p' import a, with context %}
+{% from 'p' import a with context, b %}
+{{ a is t if b }}
+{{ a is t + b }}
+{{ a is not in b }}
+{{ a not b }}
+{{ 'a' '\\q' }}
+{{ a '\\q' }}
+{{ a + '\\ud800' }}
+{% do x '\\q' %}
+{% if a %}{% else %}{% else %}{% endif %}
+{% if a %}{% else %}{% elif b %}{% endif %}
+{% for a in b %}{% elif c %}{% endfor %}
+{% endif %}
+{{ a. 1.5 }}
+{{ a.1.5 }}
+""".strip().split("\n")
 
 
 class File(NamedTuple):
@@ -49,7 +149,9 @@ def make(seed: int, count: int, broken: int, expressions: int) -> File:
     maker = TextMaker(random, syntax)
     made = [maker.template() for _ in range(count)]
     breaker = Breaker(random, syntax, made)
-    broken_texts = [breaker.text() for _ in range(broken)]
+    # Each third one is a mistake, and from file to file all of them have their turn.
+    in_turn = seed * -(-broken // 3)
+    broken_texts = [breaker.text() if at % 3 else breaker.mistake(in_turn + at // 3) for at in range(broken)]
     by_themselves = [breaker.expression(maker) for _ in range(expressions)]
     return File(seed, syntax, made, broken_texts, by_themselves)
 
@@ -64,7 +166,8 @@ class TextMaker(Maker):
     def template(self) -> str:
         """A template, rather a small one."""
         depth = self.one((0, 1, 1, 1, 2, 2, 3))
-        return "".join(self.node(depth, Place()) for _ in range(self.one((1, 1, 1, 2, 2, 3, 4))))
+        found = "".join(self.node(depth, Place()) for _ in range(self.one((1, 1, 1, 2, 2, 3, 4))))
+        return found + self.one(ENDS) if self.chance(0.1) else found
 
     def node(self, depth: int, place: Place) -> str:
         """Data, an output or a statement, mostly behind data, since what space is cut depends on it."""
@@ -84,9 +187,9 @@ class TextMaker(Maker):
         return f"t{self.random.randrange(70)}" if self.chance(0.6) else super().test_name()
 
     def data(self, depth: int, place: Place) -> str:
-        """Text of a template. Its line ends are seldom other than those of both programs."""
+        """Text of a template, half of which has no line ends but newlines."""
         found = super().data(depth, place)
-        return found if self.chance(0.02) else found.replace("\r\n", "\n").replace("\r", " ")
+        return found if self.chance(0.5) else found.replace("\r\n", "\n").replace("\r", " ")
 
     def control(self) -> str:
         """The control byte of a tag."""
@@ -99,13 +202,17 @@ class TextMaker(Maker):
             return super().block_tag(inner)
         end = f" {self.syntax.line_comment} a comment" if self.syntax.line_comment and self.chance(0.02) else ""
         control = self.one("-+") if self.chance(0.03) else ""
-        return f"\n{self.one(('', '', '  ', chr(9)))}{prefix}{control} {inner}{end}\n"
+        return f"{self.line_end()}{self.one(('', '', '  ', chr(9)))}{prefix}{control} {inner}{end}{self.line_end()}"
+
+    def line_end(self) -> str:
+        """A line end, mostly a newline."""
+        return "\n" if self.chance(0.8) else self.one(("\r\n", "\r\n", "\r", "\n\r", "\u3000\n", " \t\r\n"))
 
     def comment(self, depth: int, place: Place) -> str:
         """A comment."""
         prefix = self.syntax.line_comment
         if prefix is not None and self.chance(0.5):
-            return f"{self.one(('', ' ', chr(10)))}{prefix} a comment\n"
+            return f"{self.one(('', ' ', chr(10)))}{prefix} a comment{self.line_end()}"
         if self.chance(0.1):
             return self.markers.comment[0] + self.control() + self.markers.comment[1]
         return super().comment(depth, place)
@@ -133,20 +240,47 @@ class Breaker:
     def text(self) -> str:
         """A broken text."""
         way = self.random.random()
-        if way < 0.01:
-            return self.nesting()
-        if way < 0.011:
-            return self.arguments()
-        found = self.row() if way < 0.4 else self.changed(self.random.choice(self.made))
+        if way < 0.06:
+            found = self.nesting()
+        elif way < 0.09:
+            found = self.arguments()
+        elif way < 0.12:
+            found = self.far()
+        elif way < 0.45:
+            found = self.row()
+        else:
+            found = self.changed(self.random.choice(self.made))
         return found.replace("\x1e", " ")
+
+    def in_syntax(self, text: str) -> str:
+        """A text of the default syntax in this one."""
+        pairs = (*Markers().block, *Markers().variable), (*self.syntax.markers.block, *self.syntax.markers.variable)
+        for old, new in zip(*pairs):
+            text = text.replace(old, new)
+        return text
+
+    def mistake(self, number: int) -> str:
+        """A statement that is well written but mostly not allowed, with something before and behind it."""
+        before, after = self.random.choice(ROUND_MISTAKES)
+        return self.in_syntax(before + MISTAKES[number % len(MISTAKES)] + after)
+
+    def far(self) -> str:
+        """A template in a line, or behind a column, where counting stops."""
+        return self.random.choice("\nxé") * self.random.randint(65_520, 65_540) + self.random.choice(self.made)
 
     def expression(self, maker: TextMaker) -> str:
         """An expression by itself, which may be broken."""
-        found = maker.expression(self.random.choice((0, 1, 2, 3)))
         way = self.random.random()
-        if way < 0.6:
-            return found
-        found = self.changed(found) if way < 0.85 else " ".join(self.part() for _ in range(4))
+        if way < 0.03:
+            return self.nested_expression()
+        found = maker.expression(self.random.choice((0, 1, 2, 3)))
+        if way < 0.1:
+            found = self.random.choice(("'a'", "'a' ", f"{found} ~ 'b' ", f"{found} 'a' "))
+            found += self.random.choice(BEHIND_STRINGS)
+        elif way < 0.3:
+            found = self.changed(found)
+        elif way < 0.4:
+            found = " ".join(self.part() for _ in range(4))
         return found.replace("\x1e", " ")
 
     def part(self) -> str:
@@ -186,21 +320,30 @@ class Breaker:
 
     def arguments(self) -> str:
         """A call with about as many arguments as are allowed."""
-        inner = ",".join(["a"] * self.random.choice((1999, 2000, 2001)))
+        inner = ",".join(["a"] * self.random.choice((1999, 2000, 2000, 2001, 2001)))
         call = self.random.choice(("f({})", "x|f({})", "x is f({})", "x.f({})", "self.f({})", "f(*a,{})", "f({},a=1)"))
-        start, end = self.syntax.markers.variable
-        return f"{start} {call.format(inner)} {end}"
+        return self.in_syntax(f"{{{{ {call.format(inner)} }}}}")
 
     def nesting(self) -> str:
         """A text that nests about as deep as one of the programs allows."""
-        count = self.random.choice((70, 74, 75, 76, 145, 148, 149, 150, 151, 152, 298, 299, 300, 301))
-        start, end = self.syntax.markers.variable
-        before, after = self.random.choice(NESTS)
-        inner = before * count + "x" + after * count
-        if self.random.random() < 0.3:
-            start, end = self.syntax.markers.block
-            return f"{start} if x {end}" * count + "x" + f"{start} endif {end}" * count
-        return f"{start} {inner} {end}"
+        if self.random.random() < 0.6:
+            return self.in_syntax(f"{{{{ {self.nested_expression()} }}}}")
+        before, head, foot, behind, most = self.random.choice(TAG_NESTS)
+        count = self.depth(most)
+        return self.in_syntax(f"{before}{head * count}x{foot * count}{behind}")
+
+    def nested_expression(self) -> str:
+        """An expression that nests about as deep as one of the programs allows."""
+        before, after, most = self.random.choice(NESTS)
+        count = self.depth(most)
+        return before * count + "x" + after * count
+
+    def depth(self, most: int) -> int:
+        """How often something stands that may stand so often. The other program allows half of that."""
+        way = self.random.random()
+        if way < 0.6:
+            return most + self.random.choice((-1, 0, 0, 1, 1, 2))
+        return most // 2 + self.random.choice((-1, 0, 1, 2)) if way < 0.9 else self.random.randint(10, most)
 
 
 def main():
