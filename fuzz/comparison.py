@@ -20,10 +20,11 @@ TEXTS = (
     "templates that are refused",
     "broken texts",
     "expressions by themselves",
+    "texts in odd syntaxes",
     "templates, replay",
     "rows",
 )
-IN_FILES, ALONE, REFUSED, BROKEN, EXPRESSIONS, REPLAYED, ROWS = TEXTS
+IN_FILES, ALONE, REFUSED, BROKEN, EXPRESSIONS, ODD, REPLAYED, ROWS = TEXTS
 COMMANDS = ("tokens", "code", "names", "lint")
 EXPRESSION = "expression"
 # The word that stands for standard input.
@@ -79,9 +80,9 @@ class Comparison:
 
     def file(self, seed: int):
         """Compares what a seed makes."""
-        file = texts.make(seed, self.words.templates, self.words.broken, self.words.expressions)
+        file = texts.make(seed, self.words.templates, self.words.broken, self.words.expressions, self.words.odd)
         self.counts[f"files of the syntax {file.syntax.name}"] += 1
-        options = file.syntax.options()
+        options = file.options
         syntax = config.of_options(options)
         if self.upstream:
             self.upstream_answers(seed, options, file.templates + file.broken)
@@ -97,8 +98,17 @@ class Comparison:
             self.alone(Case(seed, options, text), BROKEN)
         self.many(seed, options, accepted)
         self.expressions(seed, file.expressions)
+        for of_syntax, text in file.odd:
+            self.odd(Case(seed, of_syntax, text))
         for at in range(self.words.replays):
             self.replay(seed * self.words.replays + at)
+
+    def odd(self, case: Case):
+        """Compares what both programs print for a text with a syntax of its own."""
+        self.alone(case, ODD)
+        if self.upstream:
+            path = self.upstream.write("text", case.text)
+            self.upstream_answer(case, *(self.upstream.one(it, case.options, path) for it in ("tokens", "code")))
 
     def replay(self, seed: int):
         """Compares runs of the code of a template with the machine."""
@@ -128,7 +138,7 @@ class Comparison:
     def many(self, seed: int, options: list, accepted: List[str]):
         """Compares templates as one file, and each alone where that is not what is wanted.
 
-        No two templates of a file have a block of one name.
+        No two templates of a file have a block of one name. The first ones have been compared alone.
         """
         if not accepted:
             return
@@ -141,7 +151,7 @@ class Comparison:
                 self.one_by_one(case, accepted, wanted, command, found)
                 return
         self.count_rules(wanted.choice.used)
-        self.counts[IN_FILES] += len(accepted)
+        self.counts[IN_FILES] += len(accepted[ALONE_OF_A_FILE:])
         self.counts["files of many templates"] += 1
         self.counts["bytes in files of many templates"] += len(case.text.encode())
 
@@ -149,7 +159,7 @@ class Comparison:
         """Compares each template alone. If none is wrong, the file is."""
         self.counts["files that were compared template by template"] += 1
         reported = len(self.differences)
-        for text in accepted:
+        for text in accepted[ALONE_OF_A_FILE:]:
             self.alone(case._replace(text=text), ALONE)
         if reported == len(self.differences):
             self.report(f"{command} of many templates", case, wanted, command, found)

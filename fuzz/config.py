@@ -18,8 +18,12 @@ DEFAULTS = {"--block": ("{%", "%}"), "--variable": ("{{", "}}"), "--comment": ("
 
 
 class Config(NamedTuple):
-    """Delimiters and prefixes with what each start begins, flags, and the patterns that are made of them."""
+    """Delimiters and prefixes with what each start begins, flags, and the patterns that are made of them.
 
+    It can be built unless a delimiter is empty, or two starts or prefixes are the same.
+    """
+
+    can_be_built: bool
     starts: dict
     ends: dict
     trim: bool
@@ -49,13 +53,13 @@ def of_options(options: list) -> Config:
 
 def build(pairs: dict, prefixes: dict, flags: set) -> Config:
     """The configuration of these pairs of delimiters, prefixes and flags."""
-    starts = {pairs["--block"][0]: BLOCK, pairs["--variable"][0]: VARIABLE, pairs["--comment"][0]: COMMENT}
-    for prefix, kind in zip(PREFIXES, (LINE_STATEMENT, LINE_COMMENT)):
-        if prefixes[prefix]:
-            starts[prefixes[prefix]] = kind
+    given = [(pairs[option][0], kind) for option, kind in zip(PAIRS, (BLOCK, VARIABLE, COMMENT))]
+    given += [(prefixes[it], kind) for it, kind in zip(PREFIXES, (LINE_STATEMENT, LINE_COMMENT)) if prefixes[it]]
+    starts = dict(given)
     ends = {BLOCK: pairs["--block"][1], VARIABLE: pairs["--variable"][1], COMMENT: pairs["--comment"][1]}
     longest = sorted(starts, key=len, reverse=True)
     return Config(
+        len(starts) == len(given) and all(all(it) for it in pairs.values()),
         starts,
         ends,
         *(flag in flags for flag in FLAGS),

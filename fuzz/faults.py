@@ -184,7 +184,7 @@ def main() -> int:
     parser.add_argument("--only", default="", help="try those whose words have this in them")
     parser.add_argument("--width", type=int, default=80, help="how much of a text is printed")
     parser.add_argument("--folder", help="where files are written for the programs; one in memory is faster")
-    parser.set_defaults(templates=80, broken=24, expressions=4, replays=2)
+    parser.set_defaults(templates=80, broken=24, expressions=4, odd=6, replays=2)
     return run(parser.parse_args())
 
 

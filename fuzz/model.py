@@ -7,6 +7,7 @@ Where they differ on purpose, `Rules` chooses. Nothing here is taken from the co
 """
 
 import sys
+from functools import cached_property
 from typing import FrozenSet, Iterable, NamedTuple, Set
 
 import config
@@ -58,6 +59,7 @@ class Wanted(NamedTuple):
 
 # What a program answers that stops by a fault of its own. It may say anything of that.
 STOP = Wanted(STOPPED, "")
+INVALID = Wanted(REFUSED, "", frozenset({"mjc: InvalidDelimiter at 0:0"}))
 
 
 class Text:
@@ -65,9 +67,14 @@ class Text:
 
     def __init__(self, source: str, syntax: config.Config, ours: bool = True, unicode: Unicode = KNOWN_LETTERS):
         self.choice = rules.Rules(ours)
+        # The tree of the template, or else what each command that needs it answers.
+        self.tree = self.refused = None
+        # What each command answers where the syntax cannot be built.
+        self.not_begun = None if syntax.can_be_built else INVALID
+        if self.not_begun:
+            self.refused = self.not_begun
+            return
         self.lexer = Lexer(source, syntax, self.choice, unicode).template()
-        # The tree of the template with a walk through it, or else what each command that needs them answers.
-        self.tree = self.walk = self.refused = None
         reader = TemplateReader(self.lexer, self.choice)
         try:
             tree = reader.template()
@@ -78,10 +85,16 @@ class Text:
             self.refused = STOP
             return
         self.tree = tree
-        self.walk = names.Walk().template(tree)
+
+    @cached_property
+    def walk(self) -> names.Walk:
+        """A walk through the tree by the rules of the port."""
+        return names.Walk().template(self.tree)
 
     def tokens(self) -> Wanted:
         """What `tokens` has to print."""
+        if self.not_begun:
+            return self.not_begun
         out, refusal = lexing.show(self.lexer), self.lexer.refusal
         if not refusal:
             return Wanted(DONE, out)

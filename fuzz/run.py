@@ -162,6 +162,7 @@ def main() -> int:
     parser.add_argument("--templates", type=int, default=80, help="how many templates a file has")
     parser.add_argument("--broken", type=int, default=24, help="how many broken texts go with a file")
     parser.add_argument("--expressions", type=int, default=4, help="how many expressions go with a file")
+    parser.add_argument("--odd", type=int, default=6, help="how many texts in odd syntaxes go with a file")
     parser.add_argument("--replays", type=int, default=2, help="how many runs of code go with a file")
     parser.add_argument("--found", help="a file that each difference is added to, as a row")
     parser.add_argument("--examples", help="a file that gets the shortest text of each rule, as rows")

@@ -27,6 +27,7 @@ DATA = [
     'say "x"', "back\\slash", "{ }", "%", "}} ", "%} ", "\x0b", "\u2028", "-", "1",
 ]  # fmt: skip
 TEXTS = ["", "a", "b", "x", "abc", "k", "é", "😀", "a\nb", 'q"q', "it's", "\\", "\t", "\r", "a]", "fault", "{{ x }}"]
+TEXTS += ["\ufb01"]
 SMALL_NUMBERS = list(range(11))
 LARGE_NUMBERS = [2**63, 2**64 - 1, 2**64, 2**127 - 1, 2**127, 2**128 - 2, 2**128 - 1, 10**30, 100, 127, 128, 129]
 # Parts of lists and maps that are compared. A list of constants alone would be compared before the code runs.
@@ -34,6 +35,8 @@ ITEMS = ["0", "1", "2", '"a"', '"é"', "none", "true", "false", "[1]", "[]", "(1
 ITEMS += ['{"a": 1}', '{"a": x, "b": [1]}', '{"b": [1], "a": x}', "[none]"]
 # Equal maps that are printed differently.
 TWINS = ['{"a": [], "b": [1]}', '{"b": [1], "a": []}', '{"b": 0, "a": [], "b": [1]}']
+# Arguments of a call of `loop` that is no recursion, or is one in the upstream crate alone.
+OTHER_ARGUMENTS = ["*x", "**x", "a=x", "a=1", "", "a, b", "a, *b", "*a, b=1"]
 ORDERS = ["==", "!=", "<", "<=", ">", ">="]
 
 
@@ -456,8 +459,8 @@ class Maker:
         way = self.weighted({"value": 20, "super": 1, "loop": 1, "block": 1})
         inner = {
             "value": self.value,
-            "super": lambda: "super()",
-            "loop": lambda: f"loop({self.expression(1)})",
+            "super": lambda: "super()" if self.chance(0.8) else "super(a)",
+            "loop": lambda: f"loop({self.expression(1) if self.chance(0.6) else self.one(OTHER_ARGUMENTS)})",
             "block": lambda: f"self.{self.one(['b1', 'b2'])}()",
         }[way]()
         return self.tag(self.markers.variable, inner)

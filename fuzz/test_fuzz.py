@@ -3,6 +3,7 @@
 import re
 import sys
 import unittest
+from random import Random
 
 import comparison
 import config
@@ -13,7 +14,7 @@ import wrong
 import wrong_code  # noqa: F401
 import wrong_texts  # noqa: F401
 from programs import Answer
-from syntaxes import SYNTAXES
+from syntaxes import SYNTAXES, odd
 
 sys.setrecursionlimit(20_000)
 LINES = ["--line-statement", "#", "--line-comment", "##"]
@@ -128,6 +129,13 @@ class Tokens(Case):
         self.expression_refused("'\\é'", "BadEscape")
         for source in ("{{ ( }}", '{{ "a }}', "{% raw %}x", "{{ x"):
             self.refused(source)
+
+    def test_syntax_that_cannot_be_built(self):
+        for words in ("--block {{ }", "--line-comment {#", "--comment  -", "--variable a "):
+            options = words.split(" ")
+            for command in ("tokens", "code", "names", "lint"):
+                self.assertEqual(text("x", *options).answer(command), model.INVALID)
+        self.code("x", '0 EmitRaw("x")', "--block", "", "a", "--block", "b", "c", hint=2)
 
     def test_place_of_a_refusal(self):
         found = text("a\n{{ x $ }}").tokens()
@@ -487,7 +495,13 @@ class Texts(unittest.TestCase):
 
     def test_a_seed_makes_the_same(self):
         for seed in range(20):
-            self.assertEqual(texts.make(seed, 3, 3, 3), texts.make(seed, 3, 3, 3))
+            self.assertEqual(texts.make(seed, 3, 3, 3, 3), texts.make(seed, 3, 3, 3, 3))
+
+    def test_options(self):
+        random = Random("options")
+        for _ in range(200):
+            made = odd(random)
+            self.assertEqual(config.of_options(made.options())[:6], config.of_options(made.spelled(random))[:6])
 
     def test_twenty_syntaxes(self):
         self.assertEqual(len({tuple(it.options()) for it in SYNTAXES}), 20)

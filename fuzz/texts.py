@@ -10,7 +10,7 @@ import sys
 from random import Random
 from typing import NamedTuple
 
-from syntaxes import FLAGS, SYNTAXES, Syntax
+from syntaxes import FLAGS, SYNTAXES, Syntax, odd
 from templates import Maker, Markers, Place
 
 WORDS = """
@@ -24,10 +24,11 @@ MARKS = """
 18446744073709551615 18446744073709551616 340282366920938463463374607431768211455
 340282366920938463463374607431768211456 é 日本 😀 ª · ℘ ０
 """.split()
-SPACES = [" ", "\n", "\t", "\r", "\r\n", "\x0b", "\x0c", "\x1c", "\x85", "\xa0", "\u2028", "\u3000", ""]
+SPACES = [" ", "\0", "\n", "\t", "\r", "\r\n", "\x0b", "\x0c", "\x1c", "\x85", "\xa0", "\u2028", "\u3000", ""]
 
 # What may be cut where it stands before or after a tag.
 SPACE_ROUND_TAGS = (" ", "\n", "  ", "\n  ", "  \n", "\n\n", "\t", " a\n  ", "\n a ", "x ", "\u3000\n ", "\x0c\n")
+SPACE_ROUND_TAGS += ("\x85\n ", "\n\xa0", "\x1c\n", "\n\x1c", "\u2028", "\r\n", "\r", "\n\x0b ")
 # What the tokenizer refuses where it stands behind a string.
 BEHIND_STRINGS = ("$", "'\\q'", "?", "'", "1_", "1.5", "\x0b", "! a", '"\\u12"')
 # What a text may end in, which may be stripped.
@@ -133,17 +134,21 @@ MISTAKES = """
 
 
 class File(NamedTuple):
-    """What a seed makes: a syntax, templates, broken texts, and expressions by themselves."""
+    """What a seed makes: a syntax with its options, templates, broken texts and expressions by themselves in it, and
+    further texts, each with the options of a syntax of odd parts.
+    """
 
     seed: int
     syntax: Syntax
+    options: list
     templates: list
     broken: list
     expressions: list
+    odd: list
 
 
-def make(seed: int, count: int, broken: int, expressions: int) -> File:
-    """The file of a seed, with so many templates, broken texts and expressions by themselves."""
+def make(seed: int, count: int, broken: int, expressions: int, odd_syntaxes: int = 0) -> File:
+    """The file of a seed, with so many templates, broken texts, expressions by themselves and odd syntaxes."""
     random = Random(f"file {seed}")
     syntax = SYNTAXES[seed % len(SYNTAXES)].with_flags(it for it in FLAGS if random.random() < 0.08)
     maker = TextMaker(random, syntax)
@@ -153,7 +158,18 @@ def make(seed: int, count: int, broken: int, expressions: int) -> File:
     in_turn = seed * -(-broken // 3)
     broken_texts = [breaker.text() if at % 3 else breaker.mistake(in_turn + at // 3) for at in range(broken)]
     by_themselves = [breaker.expression(maker) for _ in range(expressions)]
-    return File(seed, syntax, made, broken_texts, by_themselves)
+    texts = [in_odd_syntax(random) for _ in range(odd_syntaxes)]
+    return File(seed, syntax, syntax.spelled(random), made, broken_texts, by_themselves, texts)
+
+
+def in_odd_syntax(random: Random) -> tuple:
+    """The options of a syntax of odd parts, and a text in it."""
+    syntax = odd(random)
+    made = TextMaker(random, syntax).template()
+    breaker = Breaker(random, syntax, [made])
+    way = random.random()
+    text = made if way < 0.6 else breaker.row() if way < 0.8 else breaker.changed(made)
+    return syntax.spelled(random), text.replace("\x1e", " ")
 
 
 class TextMaker(Maker):
@@ -167,7 +183,8 @@ class TextMaker(Maker):
         """A template, rather a small one."""
         depth = self.one((0, 1, 1, 1, 2, 2, 3))
         found = "".join(self.node(depth, Place()) for _ in range(self.one((1, 1, 1, 2, 2, 3, 4))))
-        return found + self.one(ENDS) if self.chance(0.1) else found
+        found = found + self.one(ENDS) if self.chance(0.1) else found
+        return f"\ufeff{found}" if self.chance(0.01) else found
 
     def node(self, depth: int, place: Place) -> str:
         """Data, an output or a statement, mostly behind data, since what space is cut depends on it."""
@@ -354,7 +371,7 @@ def main():
     parser.add_argument("--broken", type=int, default=5)
     words = parser.parse_args()
     file = make(words.seed, words.templates, words.broken, 0)
-    print(file.syntax.name, *file.syntax.options(), file=sys.stderr)
+    print(file.syntax.name, *file.options, file=sys.stderr)
     for text in file.templates + file.broken:
         sys.stdout.buffer.write(text.encode("utf-8", "surrogatepass") + b"\n\x1e\n")
 

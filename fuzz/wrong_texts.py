@@ -41,6 +41,8 @@ def without_option(option: str):
     return wrong
 
 
+WORDS_OF_OPTIONS = {"block": 3, "variable": 3, "comment": 3, "line-statement": 2, "line-comment": 2}
+WORDS_OF_OPTIONS.update({"trim-blocks": 1, "lstrip-blocks": 1, "keep-newline": 1})
 FLAGS = ("--trim-blocks", "--lstrip-blocks", "--keep-newline")
 
 fault("all line ends are newlines before the text is read")(
@@ -53,6 +55,8 @@ fault("a carriage return at the end is kept")(
 fault("tabs are four spaces")(read_as(lambda source: source.replace("\t", "    ")))
 fault("letters are put into their plain form")(read_as(lambda source: unicodedata.normalize("NFKC", source)))
 fault("an ideographic space is a space")(read_as(lambda source: source.replace("\u3000", " ")))
+fault("a byte order mark is taken off")(read_as(lambda source: source[source.startswith("\ufeff") :]))
+fault("a NUL is a space")(read_as(lambda source: source.replace("\0", " ")))
 fault("the text ends at 16384 characters")(read_as(lambda source: source[:16384]))
 
 
@@ -67,6 +71,38 @@ def no_comments(call: Call) -> Output:
 for flag in FLAGS:
     fault(f"`{flag}` is not known")(without_option(flag))
 fault("`--line-comment` is not known")(without_option("--line-comment"))
+
+
+@fault("of an option that is given twice the first counts")
+def first_option(call: Call) -> Output:
+    """The last one is not looked at."""
+    groups: List[List[str]] = []
+    for word in call.options:
+        if word.startswith("--") and word[2:] in WORDS_OF_OPTIONS and (not groups or is_whole(groups[-1])):
+            groups.append([])
+        groups[-1].append(word)
+    first = {it[0]: it for it in reversed(groups)}
+    return call.real(options=[word for it in first.values() for word in it])
+
+
+def is_whole(group: List[str]) -> bool:
+    """Whether an option has all its words."""
+    return len(group) == WORDS_OF_OPTIONS[group[0][2:]]
+
+
+def built_anyway(is_meant):
+    """A fault that takes the default syntax where one cannot be built."""
+
+    def wrong(call: Call) -> Output:
+        found = call.real()
+        refused_syntax = "InvalidDelimiter" in found.error and is_meant(call.options)
+        return call.real(options=[]) if refused_syntax else found
+
+    return wrong
+
+
+fault("two starts may be the same")(built_anyway(lambda options: "" not in options))
+fault("a delimiter may be empty")(built_anyway(lambda options: "" in options))
 fault("`--trim-blocks` is always on")(
     lambda call: call.real(options=[*call.options, *([] if call.command == "expr" else ["--trim-blocks"])])
 )
