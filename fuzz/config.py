@@ -71,6 +71,6 @@ def build(pairs: dict, prefixes: dict, flags: set) -> Config:
 
 
 def tag(word: str, end: str) -> str:
-    """The pattern of a tag that has a word alone, behind its start. A control is taken where it stands."""
+    """The pattern of a tag that has a word alone, behind its start. Space and a control are taken where they stand."""
     space = ASCII_SPACE.pattern
-    return f"{space}{word}{space}(?:([-+])|(?![-+])){re.escape(end)}"
+    return f"{space}{word}{space}(?![ \\t\\n\\x0c\\r])(?:([-+])|(?![-+])){re.escape(end)}"

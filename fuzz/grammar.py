@@ -347,9 +347,12 @@ class ExpressionReader:
         if self.meets("Pow"):
             return trees.Argument(trees.MERGED, "", self.expression())
         value = self.expression()
-        if type(value) is trees.Variable and self.meets("Assign"):
-            return trees.Argument(trees.KEYWORD, value.name, self.expression())
-        return trees.Argument(trees.PLAIN, "", value)
+        if self.kind != "Assign":
+            return trees.Argument(trees.PLAIN, "", value)
+        if type(value) is not trees.Variable:
+            self.refuse()
+        self.advance()
+        return trees.Argument(trees.KEYWORD, value.name, self.expression())
 
     def primary(self) -> Expression:
         """A constant, a variable, or what stands in brackets."""

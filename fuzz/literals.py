@@ -172,7 +172,8 @@ def write_number(number: int, random) -> str:
         digits = str(number)
         at = random.randrange(len(digits))
         return f"{digits[:at]}_{digits[at:]}" if at else digits
-    return random.choice((hex, oct, bin))(number)
+    found = random.choice((hex, oct, bin))(number)
+    return found.upper() if random.random() < 0.3 else found
 
 
 def write_text(content: str, random) -> str:
@@ -197,5 +198,6 @@ def write_letter(letter: str, mark: str, random) -> str:
         return SPELLED[letter]
     if random.random() < 0.03:
         units = letter.encode("utf-16-le")
-        return "".join(f"\\u{int.from_bytes(units[at : at + 2], 'little'):04x}" for at in range(0, len(units), 2))
+        digits = random.choice(("04x", "04X"))
+        return "".join(f"\\u{int.from_bytes(units[at : at + 2], 'little'):{digits}}" for at in range(0, len(units), 2))
     return letter

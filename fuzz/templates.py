@@ -27,7 +27,7 @@ DATA = [
     'say "x"', "back\\slash", "{ }", "%", "}} ", "%} ", "\x0b", "\u2028", "-", "1",
 ]  # fmt: skip
 TEXTS = ["", "a", "b", "x", "abc", "k", "é", "😀", "a\nb", 'q"q', "it's", "\\", "\t", "\r", "a]", "fault", "{{ x }}"]
-TEXTS += ["\ufb01"]
+TEXTS += ["\ufb01", "a/b\b\f", "a b", "#}"]
 SMALL_NUMBERS = list(range(11))
 LARGE_NUMBERS = [2**63, 2**64 - 1, 2**64, 2**127 - 1, 2**127, 2**128 - 2, 2**128 - 1, 10**30, 100, 127, 128, 129]
 # Parts of lists and maps that are compared. A list of constants alone would be compared before the code runs.
@@ -35,6 +35,8 @@ ITEMS = ["0", "1", "2", '"a"', '"é"', "none", "true", "false", "[1]", "[]", "(1
 ITEMS += ['{"a": 1}', '{"a": x, "b": [1]}', '{"b": [1], "a": x}', "[none]"]
 # Equal maps that are printed differently.
 TWINS = ['{"a": [], "b": [1]}', '{"b": [1], "a": []}', '{"b": 0, "a": [], "b": [1]}']
+# What may stand in a comment or a raw block.
+COMMENTS = ("", "{{ x }}", "a\n  b\n", " {% raw %}", "\n", "-", "a -", "#")
 # Arguments of a call of `loop` that is no recursion, or is one in the upstream crate alone.
 OTHER_ARGUMENTS = ["*x", "**x", "a=x", "a=1", "", "a, b", "a, *b", "*a, b=1"]
 ORDERS = ["==", "!=", "<", "<=", ">", ">="]
@@ -448,11 +450,11 @@ class Maker:
 
     def comment(self, _depth: int, _place: Place) -> str:
         """A comment."""
-        return self.tag(self.markers.comment, "a comment")
+        return self.tag(self.markers.comment, self.one(("a comment",) * 4 + COMMENTS))
 
     def raw(self, _depth: int, _place: Place) -> str:
         """A raw block."""
-        return self.enclosed("raw", self.one((" {{ x }} ", "{% if %}", "", "\n  a\n")), "endraw")
+        return self.enclosed("raw", self.one((" {{ x }} ", "{% if %}", "", "\n  a\n", *COMMENTS)), "endraw")
 
     def output(self, _depth: int, _place: Place) -> str:
         """An output tag. Three forms of it have code of their own."""
@@ -570,12 +572,15 @@ class Maker:
         head = f"block {name}{' scoped' if self.chance(0.1) else ''}"
         end = f"endblock{f' {name}' if self.chance(0.3) else ''}"
         if self.chance(0.08):
-            return self.enclosed(f"{head} required", " \n", end)
+            blank = (" \n", "", " \u3000", self.tag(self.markers.comment, "c"), self.enclosed("raw", " ", "endraw"))
+            return self.enclosed(f"{head} required", self.one(blank), end)
         return self.enclosed(head, self.body(depth, Place()), end)
 
     def file(self) -> str:
         """The name of another template."""
-        return self.one(("'p'", "'q.txt'", "['p', 'q']")) if self.chance(0.7) else self.primary(1, ANY)
+        if self.chance(0.7):
+            return self.one(("'p'", "'q.txt'", "['p', 'q']"))
+        return self.primary(1, ANY) if self.chance(0.7) else self.expression(1)
 
     def context(self) -> str:
         """Words that say whether another template gets the context."""

@@ -93,6 +93,8 @@ class Tokens(Case):
         self.tokens("{% raw -%}  a {%- endraw %}b", wanted)
         self.data("{% raw %}{{ a }}{% endraw %}", ["{{ a }}"])
         self.data("{% raw %}{% endraw %}", [""])
+        self.data(". raw -\t}a. endraw -\t}", ["a"], "--block", ".", "\t}")
+        self.data(". raw \t}a. endraw \t}", [], "--block", ".", "\t}")
 
     def test_comments(self):
         self.tokens("a {#-#} b", ['1:0-1:1 TemplateData("a")', '1:7-1:9 TemplateData(" b")'])

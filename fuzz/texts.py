@@ -31,6 +31,10 @@ SPACE_ROUND_TAGS = (" ", "\n", "  ", "\n  ", "  \n", "\n\n", "\t", " a\n  ", "\n
 SPACE_ROUND_TAGS += ("\x85\n ", "\n\xa0", "\x1c\n", "\n\x1c", "\u2028", "\r\n", "\r", "\n\x0b ")
 # What the tokenizer refuses where it stands behind a string.
 BEHIND_STRINGS = ("$", "'\\q'", "?", "'", "1_", "1.5", "\x0b", "! a", '"\\u12"')
+# What may stand behind the prefix of a comment that is a line.
+LINE_COMMENTS = (" a comment", " a comment", "", "-", "- x", " {{ x }}", "+", " {#", "\t")
+# What may stand between the parts of a tag.
+SPACES_IN_TAGS = ("\n", "\t", "  ", "\x0c", "\r\n", "\n  ", "\r")
 # What a text may end in, which may be stripped.
 ENDS = ("\n", "\n\n", "\r\n", "\r", "\n\r", "\r\r\n", " \n")
 # What nests by standing many times before and after an expression, and how often it may.
@@ -128,6 +132,21 @@ MISTAKES = """
 {% if a %}{% else %}{% elif b %}{% endif %}
 {% for a in b %}{% elif c %}{% endfor %}
 {% endif %}
+{% macro m(a, a) %}{{ a }}{% endmacro %}
+{% macro m(caller, x=caller) %}{{ caller() }}{% endmacro %}
+{% macro m() %}{{ self.b() }}{{ m }}{{ loop }}{% endmacro %}{{ m }}
+{% macro m() %}{% endmacro %}{% macro m() %}{% endmacro %}
+{% block endblock %}{% endblock endblock %}
+{% set if = 1 %}{{ if }}
+{% for not in in %}{% endfor %}
+{% for in in in %}{% endfor %}
+{% set (in) = x %}
+{% set not, or = x %}
+{{ not in not }}
+{{ x is not not }}
+{{ x is in in x }}
+{{ x if if else else }}
+{{ {}[()] }}
 {{ a. 1.5 }}
 {{ a.1.5 }}
 """.strip().split("\n")
@@ -212,6 +231,12 @@ class TextMaker(Maker):
         """The control byte of a tag."""
         return self.one("-+") if self.chance(0.1) else ""
 
+    def tag(self, pair: tuple, inner: str) -> str:
+        """A tag between two marks, now and then with other space between its parts."""
+        if self.chance(0.05):
+            inner = "".join(self.one(SPACES_IN_TAGS) if it == " " and self.chance(0.4) else it for it in inner)
+        return super().tag(pair, inner)
+
     def block_tag(self, inner: str) -> str:
         """A block tag, or a line that is a statement."""
         prefix = self.syntax.line_statement
@@ -229,7 +254,7 @@ class TextMaker(Maker):
         """A comment."""
         prefix = self.syntax.line_comment
         if prefix is not None and self.chance(0.5):
-            return f"{self.one(('', ' ', chr(10)))}{prefix} a comment{self.line_end()}"
+            return f"{self.one(('', ' ', chr(10)))}{prefix}{self.one(LINE_COMMENTS)}{self.line_end()}"
         if self.chance(0.1):
             return self.markers.comment[0] + self.control() + self.markers.comment[1]
         return super().comment(depth, place)
