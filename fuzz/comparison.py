@@ -80,18 +80,18 @@ class Comparison:
 
     def file(self, seed: int):
         """Compares what a seed makes."""
-        file = texts.make(seed, self.words.templates, self.words.broken, self.words.expressions, self.words.odd)
+        file = self.make(seed)
         self.counts[f"files of the syntax {file.syntax.name}"] += 1
         options = file.options
-        syntax = config.of_options(options)
         if self.upstream:
             self.upstream_answers(seed, options, file.templates + file.broken)
         accepted = []
         for text in file.templates:
-            if model.Text(text, syntax).tree is not None:
+            case = Case(seed, options, text)
+            if self.text(case).tree is not None:
                 accepted.append(text)
             else:
-                self.alone(Case(seed, options, text), REFUSED)
+                self.alone(case, REFUSED)
         for text in accepted[:ALONE_OF_A_FILE]:
             self.alone(Case(seed, options, text), ALONE)
         for text in file.broken:
@@ -102,6 +102,10 @@ class Comparison:
             self.odd(Case(seed, of_syntax, text))
         for at in range(self.words.replays):
             self.replay(seed * self.words.replays + at)
+
+    def make(self, seed: int) -> texts.File:
+        """The file of a seed."""
+        return texts.make(seed, self.words.templates, self.words.broken, self.words.expressions, self.words.odd)
 
     def odd(self, case: Case):
         """Compares what both programs print for a text with a syntax of its own."""
@@ -198,9 +202,9 @@ class Comparison:
         wanted: Optional[model.Text] = None
         for way in self.ways(case, False):
             wanted = wanted or way
-            if way.tokens().is_met(tokens) and way.code().is_met(code):
+            if way.answer("tokens").is_met(tokens) and way.answer("code").is_met(code):
                 return way
-        command, found = ("code", code) if wanted.tokens().is_met(tokens) else ("tokens", tokens)
+        command, found = ("code", code) if wanted.answer("tokens").is_met(tokens) else ("tokens", tokens)
         self.report(f"{command} of the other program", case, wanted, command, found)
         return wanted
 
@@ -269,7 +273,7 @@ class Comparison:
     def differs(self, case: Case, theirs: model.Text) -> bool:
         """Whether the two programs have different tokens or code for a text."""
         ours = self.text(case)
-        return not (ours.tokens().is_like(theirs.tokens()) and ours.code().is_like(theirs.code()))
+        return not all(ours.answer(it).is_like(theirs.answer(it)) for it in ("tokens", "code"))
 
     def keep_example(self, case: Case, theirs: model.Text):
         """Keeps a text where it is the shortest for the one rule that explains it."""

@@ -18,7 +18,10 @@ import time
 from typing import Dict, List, Optional
 
 import comparison
+import lexing
+import model
 import replays
+import texts
 import wrong_code  # noqa: F401
 import wrong_texts  # noqa: F401
 from programs import Program
@@ -77,13 +80,29 @@ class Found(Exception):
 
 
 class Trial(comparison.Comparison):
-    """A comparison that ends at the first difference."""
+    """A comparison that ends at the first difference. All have the same texts, so what the model makes of them is kept."""
+
+    files: Dict[int, texts.File] = {}
+    made: Dict[tuple, model.Text] = {}
 
     def __init__(self, words, folder: str, fault: Fault):
         super().__init__(words, folder)
         self.mjc = WrongProgram(words.mjc, folder, fault)
         self.machine = WrongReplays(words.mjc, folder, self.mjc.seconds, fault)
         self.machine.write("answers", "")
+
+    def make(self, seed: int) -> texts.File:
+        """The file of a seed, which is made once."""
+        if seed not in self.files:
+            self.files[seed] = super().make(seed)
+        return self.files[seed]
+
+    def text(self, case: comparison.Case, ours: bool = True, unicode=lexing.KNOWN_LETTERS) -> model.Text:
+        """What the model makes of a text, once."""
+        key = tuple(case.options), case.text, ours, unicode
+        if key not in self.made:
+            self.made[key] = super().text(case, ours, unicode)
+        return self.made[key]
 
     def keep(self, found: dict):
         """Ends at a difference."""
@@ -163,8 +182,8 @@ def be(name: str, mjc: str, arguments: List[str]) -> int:
     command, *options = arguments
     files = 2 if command == REPLAY else 1
     options, last = options[:-files], options[-files:]
-    texts = last if command == "expr" else [sys.stdin.read() if it == "-" else read(it) for it in last]
-    found = FAULTS[name](Call(command, options, texts[0], texts[1] if files == 2 else None, real))
+    given = last if command == "expr" else [sys.stdin.read() if it == "-" else read(it) for it in last]
+    found = FAULTS[name](Call(command, options, given[0], given[1] if files == 2 else None, real))
     sys.stdout.buffer.write(found.out.encode())
     sys.stderr.write(found.error)
     return found.status

@@ -8,7 +8,7 @@ Where they differ on purpose, `Rules` chooses. Nothing here is taken from the co
 
 import sys
 from functools import cached_property
-from typing import FrozenSet, Iterable, NamedTuple, Set
+from typing import Dict, FrozenSet, Iterable, NamedTuple, Set
 
 import config
 import layout
@@ -67,6 +67,7 @@ class Text:
 
     def __init__(self, source: str, syntax: config.Config, ours: bool = True, unicode: Unicode = KNOWN_LETTERS):
         self.choice = rules.Rules(ours)
+        self.answers: Dict[str, Wanted] = {}
         # The tree of the template, or else what each command that needs it answers.
         self.tree = self.refused = None
         # What each command answers where the syntax cannot be built.
@@ -123,7 +124,10 @@ class Text:
 
     def answer(self, command: str) -> Wanted:
         """What a command has to print."""
-        return {"tokens": self.tokens, "code": self.code, "names": self.names, "lint": self.lint}[command]()
+        if command not in self.answers:
+            make = {"tokens": self.tokens, "code": self.code, "names": self.names, "lint": self.lint}[command]
+            self.answers[command] = make()
+        return self.answers[command]
 
 
 def lines(lexer: Lexer, refusals: Iterable[Refusal], has_place: bool) -> FrozenSet[str]:

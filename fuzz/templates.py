@@ -18,10 +18,10 @@ ANY, NUMBER, HOLDER = "any", "number", "holder"
 
 NAMES = ["a", "b", "c", "x", "y", "item", "user"]
 ODD_NAMES = ["loop", "self", "super", "caller", "é", "_p", "名前", "ignore", "x1", "endfor", "with"]
-ODD_NAMES += ["e\u0301", "x·1"]
+ODD_NAMES += ["e\u0301", "x·1", "ª", "℘", "x０"]
 TARGETS = ["a", "b", "c", "x", "y", "item", "é", "caller", "super"]
-FILTERS = ["f", "upper", "default", "a.b", "é"]
-TESTS = ["t", "defined", "odd", "a.b"]
+FILTERS = ["f", "upper", "default", "a.b", "é", "a . b", "a. b"]
+TESTS = ["t", "defined", "odd", "a.b", "a .b"]
 DATA = [
     "a", "x ", " y", "\n", "  \n  ", "hello\n", "<b>", "</b>\n", "é", "日本", "😀", "\t", "\r\n", "\r",
     'say "x"', "back\\slash", "{ }", "%", "}} ", "%} ", "\x0b", "\u2028", "-", "1",
@@ -32,6 +32,7 @@ SMALL_NUMBERS = list(range(11))
 LARGE_NUMBERS = [2**63, 2**64 - 1, 2**64, 2**127 - 1, 2**127, 2**128 - 2, 2**128 - 1, 10**30, 100, 127, 128, 129]
 # Parts of lists and maps that are compared. A list of constants alone would be compared before the code runs.
 ITEMS = ["0", "1", "2", '"a"', '"é"', "none", "true", "false", "[1]", "[]", "(1,)", "[2, 1]", "x", "y", "(a if false)"]
+ITEMS += ['"\ufb01"', '"\U0001f600"']
 ITEMS += ['{"a": 1}', '{"a": x, "b": [1]}', '{"b": [1], "a": x}', "[none]"]
 # Equal maps that are printed differently.
 TWINS = ['{"a": [], "b": [1]}', '{"b": [1], "a": []}', '{"b": 0, "a": [], "b": [1]}']

@@ -134,6 +134,7 @@ fault("a missing else is undefined")(steps(r"^LoadConst\(silent\)", "LoadConst(u
 fault("the step of a slice is 1")(replaced(["LoadConst", "Slice"], ["LoadConst(1)", "Slice"]))
 fault("a constant's text has its tabs as they are")(steps(r"\\t", "\t"))
 fault("large integers are cut")(steps(r"\d{20,}", lambda it: str(int(it[0]) % 2**64)))
+fault("a form feed of a constant is an f")(steps("\x0c", "f"))
 fault("a truth value is looked up")(steps(r"^LoadConst\(true\)$", 'Lookup("true")'))
 
 kind("arguments and ids")
@@ -141,6 +142,8 @@ kind("arguments and ids")
 fault("the operand of a filter is not counted")(
     steps(r"^(ApplyFilter\(.*, )(\d+)(, \d+\))$", lambda it: f"{it[1]}{int(it[2]) - 1}{it[3]}")
 )
+fault("a filter's name has no space")(steps(r"^(ApplyFilter\(\"\w+) *\. *", r"\1."))
+fault("a test's name has no space")(steps(r"^(PerformTest\(\"\w+) *\. *", r"\1."))
 fault("a method's object is not counted")(steps(r"^(CallMethod\(.*, )(\d+)\)$", lambda it: f"{it[1]}{int(it[2]) - 1})"))
 fault("spread arguments are counted as one")(steps(r"^(Call\w+\(.*)none\)$", r"\g<1>1)"))
 fault("one batch more is unpacked")(steps(r"^UnpackLists\((\d+)\)$", lambda it: f"UnpackLists({int(it[1]) + 1})"))

@@ -60,6 +60,24 @@ fault("a NUL is a space")(read_as(lambda source: source.replace("\0", " ")))
 fault("the text ends at 16384 characters")(read_as(lambda source: source[:16384]))
 
 
+def taken_for(letter: str, other: str):
+    """A fault that takes a character for another one, and prints it as it was."""
+
+    def wrong(call: Call) -> Output:
+        found = call.real(call.source.replace(letter, other))
+        return found._replace(out=found.out.replace(other, letter))
+
+    return wrong
+
+
+for code in (0x0B, 0x85, 0xA0, 0x2028, 0x3000):
+    fault(f"U+{code:04X} is no white space")(taken_for(chr(code), "\ue000"))
+fault("U+001C is white space")(taken_for("\x1c", "\u2000"))
+for letter in ("ª", "℘", "·", "０", "\u0301"):
+    fault(f"U+{ord(letter):04X} is no part of a name")(taken_for(letter, "\ue000"))
+fault("texts are ordered by their UTF-16 units")(taken_for("\ufb01", "\U0001fae0"))
+
+
 @fault("comments are taken out first")
 def no_comments(call: Call) -> Output:
     """Comments of the default syntax are no part of the text."""
@@ -142,6 +160,9 @@ fault("the control before an end is not part of it")(
 )
 fault("a string with escapes is as one without")(tokens(lambda *it: token(*it[:4], re.sub("^String", "Str", it[4]))))
 fault("an integer of 128 bits is as one of 64")(tokens(lambda *it: token(*it[:4], re.sub("^Int128", "Int", it[4]))))
+fault("2 to the power of 64 has 64 bits")(
+    tokens(lambda *it: token(*it[:4], it[4].replace(f"Int128({2**64})", f"Int({2**64})")))
+)
 fault("`//` is two tokens")(
     tokens(
         lambda *it: "\n".join(token(it[0], it[1] + at, it[2], it[1] + at + 1, "Div") for at in (0, 1))
@@ -254,6 +275,9 @@ fault("an alias that begins with `_` is refused")(refusing(r"as _p"))
 fault("a required block is refused")(refusing(r"block \w+ required"))
 fault("`for` with no target is refused")(refusing(r"for\s+in "))
 fault("a `from` without names is refused")(refusing(r"import\s*[-+]?[%\])}>]"))
+fault("upper-case digits of an escape are refused")(refusing(r"\\u[0-9a-f]*[A-F]"))
+fault("an upper-case radix is refused")(refusing(r"\b0[XBO]"))
+fault("a tag of several lines is refused")(refusing(r"\{[{%][^%}]*\n"))
 fault("`not` is no variable")(refusing(r"[-+*/~]\s*not\b"))
 fault("a slice with a step is refused")(refusing(r"\[[^\[\]:]*:[^\[\]:]*:[^\[\]:]*\]"))
 fault("what nests may nest 140 deep")(refusing(DEEP.pattern.replace("147", "140")))
