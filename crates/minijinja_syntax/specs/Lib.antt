@@ -5,6 +5,7 @@ pub mod SpanWords
 pub mod Tokens
 pub mod Streams
 pub mod Errors
+pub mod DetailWords
 pub mod Syntax
 pub mod private
 pub mod Markers

@@ -1,6 +1,7 @@
 //! Errors: why a text is refused, in which words, and where.
-ghost use Rattle.std.specs.Prelude.{◌≡◌, Option};
+ghost use Rattle.std.specs.Prelude.{◌≡◌, Option, Some};
 ghost use Rattle.std.specs.Option.{option_map};
+ghost use Rattle.minijinja_syntax.specs.DetailWords.{body_words, detail_words, expected_words, found_words, open_words};
 ghost use Rattle.minijinja_syntax.specs.Errors.{kind_of, detail_of, name_of, span_of};
 ghost use Rattle.minijinja_syntax.specs.declared.tokens.Span.{Span};
 
@@ -54,6 +55,8 @@ pub enum BodyStatement {
 
 /// The word that the statement begins with. The one that ends it is `end` and that word.
 impl fmt::Display for BodyStatement {
+    ghost output = { λ s. Some (body_words s) };
+
     fn fmt<W: fmt::Write>(&self, f: &mut fmt::Formatter<W>) -> fmt::Result {
         f.write_str(match self {
             BodyStatement::For => "for",
@@ -78,6 +81,8 @@ pub struct OpenStatement {
 
 /// Writes `endif for the if of line 3`.
 impl fmt::Display for OpenStatement {
+    ghost output = { λ o. Some (open_words o) };
+
     fn fmt<W: fmt::Write>(&self, f: &mut fmt::Formatter<W>) -> fmt::Result {
         let OpenStatement { statement, line } = *self;
         write!(f, "end{statement} for the {statement} of line {line}")
@@ -184,6 +189,8 @@ pub enum Expected {
 }
 
 impl fmt::Display for Expected {
+    ghost output = { λ e. Some (expected_words e) };
+
     fn fmt<W: fmt::Write>(&self, f: &mut fmt::Formatter<W>) -> fmt::Result {
         f.write_str(self.words())
     }
@@ -191,7 +198,9 @@ impl fmt::Display for Expected {
 
 impl Expected {
     /// The words for it.
-    fn words(self) -> &'static str {
+    fn words(self) -> &'static str
+        ensures { result.now ≡ expected_words self }
+    {
         match self {
             Expected::Expression => "expression",
             Expected::Identifier => "identifier",
@@ -262,6 +271,8 @@ pub enum Found {
 }
 
 impl fmt::Display for Found {
+    ghost output = { λ x. Some (found_words x) };
+
     fn fmt<W: fmt::Write>(&self, f: &mut fmt::Formatter<W>) -> fmt::Result {
         f.write_str(match self {
             Found::String => "string",
@@ -342,6 +353,8 @@ pub enum Detail<'s> {
 }
 
 impl fmt::Display for Detail<'_> {
+    ghost output = { λ d. Some (detail_words d) };
+
     fn fmt<W: fmt::Write>(&self, f: &mut fmt::Formatter<W>) -> fmt::Result {
         match self {
             Detail::InvalidDelimiter => f.write_str("invalid delimiter"),
