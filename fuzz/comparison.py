@@ -3,7 +3,7 @@
 import re
 import unicodedata
 from collections import Counter
-from typing import Iterable, List, NamedTuple, Optional
+from typing import Dict, Iterable, List, NamedTuple, Optional
 
 import config
 import lexing
@@ -62,6 +62,8 @@ class Comparison:
         self.differences = []
         # For each rule the shortest text that it was used for.
         self.examples = {}
+        # What the model has made of the texts of one file.
+        self.models: Dict[tuple, model.Text] = {}
 
     def compared(self) -> int:
         """How many texts have been compared."""
@@ -81,6 +83,7 @@ class Comparison:
     def file(self, seed: int):
         """Compares what a seed makes."""
         file = self.make(seed)
+        self.models.clear()
         self.counts[f"files of the syntax {file.syntax.name}"] += 1
         options = file.options
         if self.upstream:
@@ -169,8 +172,12 @@ class Comparison:
             self.report(f"{command} of many templates", case, wanted, command, found)
 
     def text(self, case: Case, ours: bool = True, unicode=lexing.KNOWN_LETTERS) -> model.Text:
-        """What the model makes of a text."""
-        return model.Text(case.text, config.of_options(case.options), ours, unicode)
+        """What the model makes of a text, once for each file of texts."""
+        key, other = ((tuple(case.options), case.text, it, unicode) for it in (ours, not ours))
+        if key not in self.models:
+            syntax = config.of_options(case.options)
+            self.models[key] = model.Text(case.text, syntax, ours, unicode, self.models.get(other))
+        return self.models[key]
 
     def ways(self, case: Case, ours: bool) -> Iterable[model.Text]:
         """What the model makes of a text, in more than one way where it has characters that Python does not know."""
@@ -321,4 +328,4 @@ def is_shorter(examples: dict, rule: str, case: Case) -> bool:
 
 def has_unknown_letter(text: str) -> bool:
     """Whether a character is in the text that Python's version of Unicode does not know."""
-    return not text.isascii() and any(unicodedata.category(it) == "Cn" for it in text)
+    return not text.isascii() and any(unicodedata.category(it) == "Cn" for it in set(text))

@@ -19,6 +19,7 @@ LEVELS = [
     {"Tilde": "StringConcat"},
     {"Mul": "Mul", "Div": "Div", "FloorDiv": "IntDiv", "Mod": "Rem"},
 ]
+LEVEL_OF = {kind: level for level, kinds in enumerate(LEVELS) for kind in kinds}
 COMPARISONS = {"Eq", "Ne", "Lt", "Lte", "Gt", "Gte"}
 STRINGS = (STR, STRING)
 INTEGERS = (INT, INT128)
@@ -211,14 +212,13 @@ class ExpressionReader:
         return ""
 
     def operation(self, level: int) -> Expression:
-        """An expression of one of the levels of binary operators."""
-        if level == len(LEVELS):
-            return self.power()
-        found, operators = self.operation(level + 1), LEVELS[level]
-        while self.kind in operators:
-            name = operators[self.kind]
+        """An expression of this level of binary operators, of which those of higher levels are operands."""
+        found = self.power()
+        while self.kind in LEVEL_OF and LEVEL_OF[self.kind] >= level:
+            of_kind = LEVEL_OF[self.kind]
+            name = LEVELS[of_kind][self.kind]
             self.advance()
-            found = trees.binary(name, found, self.operation(level + 1))
+            found = trees.binary(name, found, self.operation(of_kind + 1))
         return found
 
     def power(self) -> Expression:

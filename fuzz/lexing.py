@@ -412,7 +412,10 @@ class Places:
             self.line += count
             self.line_start = self.text.rfind("\n", self.at, at) + 1
         self.at = at
-        return f"{min(self.line, GREATEST_COLUMN)}:{min(at - self.line_start, GREATEST_COLUMN)}"
+        line, column = self.line, at - self.line_start
+        if line > GREATEST_COLUMN or column > GREATEST_COLUMN:
+            line, column = min(line, GREATEST_COLUMN), min(column, GREATEST_COLUMN)
+        return f"{line}:{column}"
 
 
 def show(lexer: Lexer) -> str:

@@ -8,7 +8,7 @@ Where they differ on purpose, `Rules` chooses. Nothing here is taken from the co
 
 import sys
 from functools import cached_property
-from typing import Dict, FrozenSet, Iterable, NamedTuple, Set
+from typing import Dict, FrozenSet, Iterable, NamedTuple, Optional, Set
 
 import config
 import layout
@@ -62,41 +62,77 @@ STOP = Wanted(STOPPED, "")
 INVALID = Wanted(REFUSED, "", frozenset({"mjc: InvalidDelimiter at 0:0"}))
 
 
-class Text:
-    """A template's text as one of the programs has to take it. Each part is made once."""
+class Reading:
+    """The tokens and the tree of a template's text. Where it needed no rule, both programs read the text so."""
 
-    def __init__(self, source: str, syntax: config.Config, ours: bool = True, unicode: Unicode = KNOWN_LETTERS):
-        self.choice = rules.Rules(ours)
-        self.answers: Dict[str, Wanted] = {}
-        # The tree of the template, or else what each command that needs it answers.
-        self.tree = self.refused = None
-        # What each command answers where the syntax cannot be built.
-        self.not_begun = None if syntax.can_be_built else INVALID
-        if self.not_begun:
-            self.refused = self.not_begun
-            return
-        self.lexer = Lexer(source, syntax, self.choice, unicode).template()
-        reader = TemplateReader(self.lexer, self.choice)
+    def __init__(self, source: str, syntax: config.Config, choice: rules.Rules, unicode: Unicode):
+        self.lexer = Lexer(source, syntax, choice, unicode).template()
+        reader = TemplateReader(self.lexer, choice)
+        # The tree, or else the refusals that may be told.
+        self.tree, self.refusals = None, ()
         try:
-            tree = reader.template()
+            self.tree = reader.template()
         except Refused as why:
-            self.refused = Wanted(REFUSED, "", lines(self.lexer, why.refusals, ours))
-            return
-        if reader.stops:
-            self.refused = STOP
-            return
-        self.tree = tree
+            self.refusals = why.refusals
+        self.stops = reader.stops
+        self.needed_no_rule = not choice.used
+
+    @cached_property
+    def tokens(self) -> str:
+        """The tokens as they are printed."""
+        return lexing.show(self.lexer)
 
     @cached_property
     def walk(self) -> names.Walk:
         """A walk through the tree by the rules of the port."""
         return names.Walk().template(self.tree)
 
+
+class Text:
+    """A template's text as one of the programs has to take it. Each part is made once.
+
+    `other` is what the other program has to take the same text as, if that is known.
+    """
+
+    def __init__(
+        self,
+        source: str,
+        syntax: config.Config,
+        ours: bool = True,
+        unicode: Unicode = KNOWN_LETTERS,
+        other: Optional["Text"] = None,
+    ):
+        self.choice = rules.Rules(ours)
+        self.answers: Dict[str, Wanted] = {}
+        # The tree of the template, or else what each command that needs it answers.
+        self.tree = self.refused = self.reading = None
+        # What each command answers where the syntax cannot be built.
+        self.not_begun = None if syntax.can_be_built else INVALID
+        if self.not_begun:
+            self.refused = self.not_begun
+            return
+        if other and other.reading.needed_no_rule:
+            self.reading = other.reading
+        else:
+            self.reading = Reading(source, syntax, self.choice, unicode)
+        self.lexer = self.reading.lexer
+        if self.reading.refusals:
+            self.refused = Wanted(REFUSED, "", lines(self.lexer, self.reading.refusals, ours))
+        elif self.reading.stops:
+            self.refused = STOP
+        else:
+            self.tree = self.reading.tree
+
+    @property
+    def walk(self) -> names.Walk:
+        """A walk through the tree by the rules of the port."""
+        return self.reading.walk
+
     def tokens(self) -> Wanted:
         """What `tokens` has to print."""
         if self.not_begun:
             return self.not_begun
-        out, refusal = lexing.show(self.lexer), self.lexer.refusal
+        out, refusal = self.reading.tokens, self.lexer.refusal
         if not refusal:
             return Wanted(DONE, out)
         return Wanted(REFUSED, out, lines(self.lexer, [refusal], self.choice.is_ours))

@@ -9,6 +9,7 @@ import comparison
 import config
 import model
 import rules
+import run
 import texts
 import wrong
 import wrong_code  # noqa: F401
@@ -435,6 +436,18 @@ class Rules(Case):
         self.used("{% macro f(a=a) %}{{ b }}{% endmacro %}", rules.CLOSURE)
         self.used("{% block a required %} {% endblock %}")
 
+    def test_readings_that_need_no_rule(self):
+        made = texts.make(7, 40, 20, 0)
+        syntax, shared = config.of_options(made.options), 0
+        for source in made.templates + made.broken:
+            theirs = model.Text(source, syntax, False)
+            ours, alone = model.Text(source, syntax, other=theirs), model.Text(source, syntax)
+            shared += ours.reading is theirs.reading
+            for command in comparison.COMMANDS:
+                self.assertEqual(ours.answer(command), alone.answer(command))
+            self.assertEqual(ours.choice.used, alone.choice.used)
+        self.assertTrue(0 < shared < 60)
+
     def test_unknown_letters(self):
         self.assertTrue(comparison.has_unknown_letter("a\u0378"))
         self.assertFalse(comparison.has_unknown_letter("aé日\ue000"))
@@ -459,6 +472,18 @@ class Answers(unittest.TestCase):
         self.assertTrue(wanted._replace(refusals={"mjc: SyntaxError at "}).is_met(found))
         self.assertFalse(wanted._replace(refusals={"mjc: BadEscape at "}).is_met(found))
         self.assertFalse(model.Wanted(0, "").is_met(Answer(0, "", "more")))
+
+
+class Runs(unittest.TestCase):
+    """The numbers of several runs."""
+
+    def test_sums(self):
+        one = {"first": 1, "last": 9, "processes": 2, "seconds": 4, "differences": 1}
+        runs = [{**one, "counts": {comparison.BROKEN: 6, "x": 1}}, {**one, "counts": {comparison.ALONE: 2, "x": 3}}]
+        wanted = ["texts 8", "  broken texts: 6", "  templates alone: 2", "  x: 4", "differences: 2"]
+        self.assertEqual(run.report_counts(runs), wanted)
+        wanted = "seeds 1 to 9, 2 processes, 4 seconds, 6 texts, 2 in a second"
+        self.assertEqual(run.report_run(runs[0]), wanted)
 
 
 class Wrong(unittest.TestCase):

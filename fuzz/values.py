@@ -237,7 +237,8 @@ QUOTED = str.maketrans(ESCAPES)
 
 def quote(content: str) -> str:
     """A text in double quotes, with five characters escaped and all else as it is."""
-    return f'"{content.translate(QUOTED)}"'
+    # A name has none of them.
+    return f'"{content if content.isidentifier() else content.translate(QUOTED)}"'
 
 
 def show(value: Value) -> str:
