@@ -117,7 +117,7 @@ class Text:
             self.reading = Reading(source, syntax, self.choice, unicode)
         self.lexer = self.reading.lexer
         if self.reading.refusals:
-            self.refused = Wanted(REFUSED, "", lines(self.lexer, self.reading.refusals, ours))
+            self.refused = Wanted(REFUSED, "", lines_of_parse(self.lexer, self.reading.refusals, ours))
         elif self.reading.stops:
             self.refused = STOP
         else:
@@ -172,6 +172,14 @@ def lines(lexer: Lexer, refusals: Iterable[Refusal], has_place: bool) -> FrozenS
     return frozenset(f"mjc: {kind} at {place}" for kind, place in shown)
 
 
+def lines_of_parse(lexer: Lexer, refusals: Iterable[Refusal], ours: bool) -> FrozenSet[str]:
+    """The lines that tell refusals of a whole text. The other program looks for floats last: a bad escape may come first."""
+    shown = lines(lexer, refusals, ours)
+    if not ours and any(it.is_float and "\\" in lexer.text[it.at :] for it in refusals):
+        return shown | {f"mjc: {lexing.BAD_ESCAPE} at "}
+    return shown
+
+
 def expression(source: str, ours: bool = True, unicode: Unicode = KNOWN_LETTERS):
     """What `expr` has to print for an expression by itself, and the rules that were asked for."""
     choice = rules.Rules(ours)
@@ -179,7 +187,7 @@ def expression(source: str, ours: bool = True, unicode: Unicode = KNOWN_LETTERS)
     try:
         tree = ExpressionReader(lexer, choice).standalone()
     except Refused as why:
-        return Wanted(REFUSED, "", lines(lexer, why.refusals, ours)), choice
+        return Wanted(REFUSED, "", lines_of_parse(lexer, why.refusals, ours)), choice
     return Wanted(DONE, layout.show_expression(tree, choice)), choice
 
 
