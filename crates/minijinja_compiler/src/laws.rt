@@ -1,6 +1,7 @@
 //! The laws of the definitions that the contracts of all layers use, and what one of them says of
 //! compiled code.
 ghost use Rattle.std.specs.Prelude.{◌≡◌, Bool, true, [], ◌∷◌, All, IfSome, codes, length, map};
+ghost use Rattle.std.specs.Str.{IsUtf8};
 ghost use Rattle.minijinja_syntax.specs.Syntax.{Syntax, default_syntax};
 ghost use Rattle.minijinja_syntax.specs.Texts.{Text};
 ghost use Rattle.minijinja_syntax.specs.declared.tokens.Span.{Span};
@@ -11,7 +12,7 @@ ghost use Rattle.minijinja_tree.specs.Tree.{blocks};
 ghost use Rattle.minijinja_tree.specs.declared.ast.Stmt.{Stmt};
 ghost use Rattle.minijinja_tree_expr.specs.declared.ast.Expr.{Expr};
 ghost use Rattle.minijinja_meta.specs.Mentions.{free, in_order, names_of, nested_names, plain_names, way};
-ghost use Rattle.minijinja_meta.specs.Segments.{HasNoDot, before_dot};
+ghost use Rattle.minijinja_meta.specs.Segments.{before_dot};
 ghost use Rattle.minijinja_instructions.specs.InstructionLists.{Instructions, marks_of};
 ghost use Rattle.minijinja_instructions.specs.Instructions.{code_of};
 ghost use Rattle.minijinja_semantics.specs.Correct.{a_statement};
@@ -25,6 +26,7 @@ ghost use Rattle.minijinja_parser.specs.Answers.{ExprHasPlacesAt, HasPlacesAt, I
 ghost use Rattle.minijinja_parser.specs.Derived.{expr_place, template_place};
 ghost use Rattle.minijinja_compiler.specs.Headline.{IsCompiled, IsCompiledExpr};
 ghost use Rattle.minijinja_compiler.specs.Identifiers.{IsIdentifierOf};
+ghost use Rattle.minijinja_compiler.specs.Utf8Delimiters.{HasUtf8Delimiters};
 ghost use Rattle.minijinja_compiler.specs.declared.compile.Compiled.{Compiled};
 
 pub use minijinja_grammar::laws::{
@@ -50,17 +52,18 @@ pub fn plain_names_are_undeclared<V: TemplateValue>()
         (stmt_tree V.contents s) }
 {}
 
-/// The names that occur free in a parsed tree are those of identifiers of the text. So where no
-/// identifier has a dot, the first segments of the nested names that
-/// [`find_undeclared`](crate::meta::find_undeclared) returns are the plain ones, as texts too.
+/// The names that occur free in a parsed tree are those of identifiers of the text. Where the text
+/// and the delimiters are UTF-8, as every `str` is, no identifier has a dot. So the first segments of
+/// the nested names that [`find_undeclared`](crate::meta::find_undeclared) returns are the plain
+/// ones, as texts too.
 pub fn names_are_identifiers<V: TemplateValue>()
     ensures tokens { (syntax : Syntax) (source : Text) (s : Stmt V V.Fault) →
         IsTemplateOf V.functions V.contents syntax source s → All
         (IsIdentifierOf (template_place syntax source).tokens)
         (names_of (free (way (stmt_node V.contents s)))) }
     ensures texts { (syntax : Syntax) (source : Text) (s : Stmt V V.Fault) →
+        IsUtf8 source → HasUtf8Delimiters syntax →
         IsTemplateOf V.functions V.contents syntax source s →
-        ((x : Text) → IsIdentifierOf (template_place syntax source).tokens x → HasNoDot x) →
         in_order (map before_dot (nested_names (way (stmt_node V.contents s)))) ≡ plain_names
         (way (stmt_node V.contents s)) }
 {}

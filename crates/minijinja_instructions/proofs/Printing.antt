@@ -1,5 +1,5 @@
 -- The words of an instruction are known where those of its value are.
-use Rattle.std.proofs.Common.{◌≡◌, Option, Some, refl}
+use Rattle.std.proofs.Common.{◌≡◌, Some, refl}
 use Rattle.minijinja_syntax.specs.Texts.{Text}
 use Rattle.minijinja_instructions.specs.InstructionWords.{instruction_output, instruction_words}
 use Rattle.minijinja_instructions.specs.declared.instructions.Instruction.{Instruction}

@@ -1,5 +1,5 @@
 -- Refusals of the tokenizer have a span.
-use Rattle.std.proofs.Common.{◌≡◌, ℕ, Bool, true, false, List, [], ◌∷◌, cond, refl, ap, subst}
+use Rattle.std.proofs.Common.{ℕ, Bool, true, false, List, [], ◌∷◌, cond, refl, ap, subst}
 use Rattle.std.specs.Prelude.{◌==◌, IsSome, is_some, length}
 use Rattle.minijinja_syntax.specs.Errors.{span_of}
 use Rattle.minijinja_syntax.specs.Texts.{Text}
@@ -11,7 +11,7 @@ use Rattle.minijinja_lexer.specs.TagParts.{Close, Closed, Broken, Refused}
 use Rattle.minijinja_lexer.specs.Tags.{Tag, Variable}
 use Rattle.minijinja_lexer.specs.TextTokens.{refusal, behind_expression, close_ending, close_stream, ending_of, segment_ending, stream_at, stream_in, text_of, tokens_of_expression, tokens_of_expression_at, tokens_of_template}
 use Rattle.minijinja_grammar.specs.Places.{Place}
-use Rattle.minijinja_parser.specs.Placing.{HasSpan, IsPlaced, IsPlacedAt, IsPlacedInText, at_token, at_last, at_refusal}
+use Rattle.minijinja_parser.specs.Placing.{IsPlaced, IsPlacedAt, IsPlacedInText, at_token, at_last, at_refusal}
 
 -- if it is a refusal, it has a span
 abbrev pub EndsSomewhere : Ending → Type 0

@@ -6,7 +6,7 @@ use Rattle.minijinja_syntax.specs.declared.tokens.Span.{Span}
 use Rattle.minijinja_syntax.specs.declared.error.Error.{Error}
 use Rattle.minijinja_syntax.specs.declared.error.ErrorKind.{ErrorKind}
 use Rattle.minijinja_syntax.specs.declared.error.ErrorKind.TheVariants.{OutOfMemory, SyntaxError, BadEscape}
-use Rattle.minijinja_grammar.specs.internal.Forms.{Form, Read, got, short, wrong, one, read_one, reads, Takes}
+use Rattle.minijinja_grammar.specs.internal.Forms.{Form, Read, got, short, wrong, one, read_one, reads}
 use Rattle.minijinja_grammar.specs.Places.{Place}
 use Rattle.minijinja_grammar.specs.internal.Whole.{IsWholeOf}
 use Rattle.minijinja_grammar.specs.Derived.{FitsSoFar}

@@ -1,6 +1,5 @@
--- What a parser is to its callers, and how it ends.
+-- How a parser ends.
 use Rattle.std.specs.Prelude.{◌≡◌, ◌⊎◌, Option, Result, Ok, Err}
-use Rattle.minijinja_syntax.specs.Texts.{Text}
 use Rattle.minijinja_syntax.specs.Errors.{kind_of, span_of}
 use Rattle.minijinja_syntax.specs.Streams.{ended, finished, refused}
 use Rattle.minijinja_syntax.specs.declared.tokens.Span.{Span}
@@ -10,11 +9,6 @@ use Rattle.minijinja_syntax.specs.declared.error.ErrorKind.TheVariants.{OutOfMem
 use Rattle.minijinja_grammar.specs.Places.{Place}
 use Rattle.minijinja_grammar.specs.Derived.{FitsSoFar}
 use Rattle.minijinja_parser_tokens.specs.TokenStreams.{stream_at}
-
--- the name of its source, and the place that it has come to
-pub record Parsing : Type 0 where
-  pub filename : Text
-  pub place : Place
 
 -- every token was read
 abbrev pub IsSpent : Place → Type 0

@@ -62,10 +62,10 @@ pub struct Parser<'s, 'c> {
 }
 
 impl<'s, 'c> Model for Parser<'s, 'c> {
-    ghost use Rattle.minijinja_parser.specs.Parsing.{Parsing};
+    ghost use Rattle.minijinja_parser_tokens.specs.TokenStreams.{Streaming};
     ghost use Rattle.minijinja_parser.specs.declared.parser.Parser.TheInside.{Inside};
 
-    ghost Value = { Parsing };
+    ghost Value = { Streaming };
 
     ghost view = { λ (a : Inside). record { filename = a.filename.now; place = a.tokens.place } };
 }
