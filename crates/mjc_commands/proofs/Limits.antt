@@ -4,8 +4,8 @@ use Rattle.minijinja_syntax.specs.Errors.{kind_of}
 use Rattle.minijinja_syntax.specs.declared.error.Error.{Error}
 use Rattle.minijinja_syntax.specs.declared.error.ErrorKind.TheVariants.{SourceTooLong, TooManyInstructions}
 use Rattle.minijinja_parser.specs.Answers.{IsTooLong}
-use Rattle.minijinja_parser.specs.Causes.{IsLimit}
-use Rattle.minijinja_compiler.specs.Headline.{IsCompileLimit}
+use Rattle.minijinja_parser.specs.Causes.{IsCause, IsLimit}
+use Rattle.minijinja_compiler.specs.Headline.{IsCompileCause, IsCompileLimit}
 use Rattle.mjc_commands.specs.Failure.{IsRefusedAs}
 use Rattle.mjc_commands.specs.Showing.{IsMemory}
 use Rattle.mjc_commands.specs.declared.failure.Failure.{Failure}
@@ -20,3 +20,9 @@ limit_of_failure long many e failure same l m (inr (inr is)) = inr (inr (m is))
 pub limit_of_parse : (long : Type 0) (e : Error) (failure : Failure) → IsRefusedAs (kind_of e) failure → (IsTooLong e → long) → IsLimit e → IsMemory failure ⊎ long
 limit_of_parse long e failure same l (inl memory) = inl (subst (λ k. IsRefusedAs k failure) memory same)
 limit_of_parse long e failure same l (inr is) = inr (l is)
+
+-- why a text is not parsed is why it is not compiled
+pub cause_of_parse : (e : Error) → IsCause e → IsCompileCause e
+cause_of_parse e (inl refusal) = inl refusal
+cause_of_parse e (inr (inl memory)) = inr (inl memory)
+cause_of_parse e (inr (inr long)) = inr (inr (inl long))

@@ -1,16 +1,16 @@
 -- Options are read one after the other, and in one way only.
-use Rattle.std.proofs.Common.{inl, inr, ◌≡◌, ◌≢◌, refl, sym, ◌∙◌, ap, subst, arith, ℕ, zero, suc, ◌+◌, ◌≤◌, ◌<◌, length, slice_index_or, Bool, List, [], ◌∷◌, ◌++◌, drop, append_assoc, true, false, Option, None, Some, IfSome, IsSome, codes, nat_eq, if◌then◌else◌}
+use Rattle.std.proofs.Common.{inl, inr, ◌⊎◌, ◌≡◌, ◌≢◌, refl, sym, ◌∙◌, ap, subst, arith, ℕ, zero, suc, ◌+◌, ◌≤◌, ◌<◌, length, slice_index_or, Bool, List, [], ◌∷◌, ◌++◌, drop, append_assoc, true, false, Option, None, Some, IfSome, IsSome, codes, nat_eq, if◌then◌else◌}
 use Rattle.std.specs.List.{All, fold, flat_map, starts_with}
 use Rattle.std.specs.Str.{bytes_eq}
 use Rattle.std.specs.Borrow.{Bor}
-use Rattle.std.proofs.lemmas.List.{drop-map, drop-drop}
+use Rattle.std.proofs.lemmas.List.{drop-map, drop-drop, length-map}
 use Rattle.std.proofs.lemmas.List.Elements.{All-map}
 use Rattle.std.proofs.lemmas.Slice.Eq.{bytes_eq-Decides}
 use Rattle.minijinja_syntax.specs.Texts.{Text}
 use Rattle.minijinja_syntax.specs.Syntax.{Syntax}
-use Rattle.mjc_commands.specs.Each.{AskForEach, IsOnEach}
+use Rattle.mjc_commands.specs.Each.{AskForEach, AskForSeveral, IsOnEach}
 use Rattle.mjc_commands.specs.Settings.{Setting, block, variable, comment, line_statement, line_comment, trim_blocks, lstrip_blocks, keep_newline, words_of, with_setting, syntax_with, texts}
-use Rattle.mjc_commands.specs.Usage.{AreApart, IsFile, Mark, bare, marked, IsPlain, Request, Task, tokens, code, names, lint, expression, replay, option_words, path_words, paths_of, command_word, Asks}
+use Rattle.mjc_commands.specs.Usage.{AreApart, IsFile, Mark, bare, marked, IsPlain, Request, Task, tokens, code, names, lint, expression, replay, option_words, path_words, paths_of, command_word, Asks, IsUsage}
 use Rattle.mjc_commands.specs.private.AtOptions.{option_named, setting_of, first_setting, Takes}
 use Rattle.mjc_commands.specs.private.AtUsage.{AsksInput, BeginWithFile, IsOnTemplate, Name, input_request, stands}
 use Rattle.mjc_commands.specs.declared.options.OptionName.{OptionName}
@@ -230,14 +230,15 @@ pub none_marked : (words : List (Bor Text)) → length words ≡ 0 → (paths : 
 none_marked [] none paths same = cc
 none_marked (w ∷ ws) none paths same = absurd (omega arith)
 
-files_of : (words : List (Bor Text)) → All (IsFile bare) (texts words) → All (λ word. IsFile bare word.now) words
-files_of [] all k d below = absurd (omega arith)
-files_of (w ∷ ws) all zero d below = all zero d.now (omega arith)
-files_of (w ∷ ws) all (suc k) d below = files_of ws (λ j e less. all (suc j) e (omega arith)) k d (omega arith)
+-- what holds of each text holds of each word
+pub each_text : (P : Text → Type 0) (words : List (Bor Text)) → All P (texts words) → All (λ word. P word.now) words
+each_text P [] all k d below = absurd (omega arith)
+each_text P (w ∷ ws) all zero d below = all zero d.now (omega arith)
+each_text P (w ∷ ws) all (suc k) d below = each_text P ws (λ j e less. all (suc j) e (omega arith)) k d (omega arith)
 
 -- words that neither begin with `--` nor are all files name no paths
 pub names_nothing : (words : List (Bor Text)) → ((paths : List Text) → texts words ≡ codes "--" ∷ paths → ⊥) → (All (λ word. IsFile bare word.now) words → ⊥) → (paths : List Text) → Name (texts words) paths → ⊥
-names_nothing words unmarked none paths (stands bare is files) = none (files_of words (subst (All (IsFile bare)) (sym is) files))
+names_nothing words unmarked none paths (stands bare is files) = none (each_text (IsFile bare) words (subst (All (IsFile bare)) (sym is) files))
 names_nothing words unmarked none paths (stands marked is files) = unmarked paths is
 
 -- on a template every request is allowed
@@ -348,3 +349,77 @@ expr_words [] d e least below same = absurd (omega arith)
 expr_words (a ∷ []) d e least below same = absurd (omega arith)
 expr_words (a ∷ b ∷ []) d e least below same = ap (λ (w : Text). w ∷ b.now ∷ []) ((bytes_eq-Decides a.now (codes "expr")).0 same)
 expr_words (a ∷ b ∷ c ∷ rest) d e least below same = absurd (omega arith)
+
+-- words that name several paths begin with no option
+several_begin : (mark : Mark) (paths : List Text) → 2 ≤ length paths → All (IsFile mark) paths → BeginWithFile (path_words mark paths)
+several_begin mark [] several files = absurd (omega arith)
+several_begin mark (path ∷ rest) several files = names_begin mark path rest files
+
+-- of several files, the words left by the options name the paths
+pub several_read : {Made : List Setting → Type 0} (args : List (Bor Text)) (word : Bor Text) (rest left : List (Bor Text)) → args ≡ word ∷ rest → ((settings : List Setting) (behind : List Text) → BeginWithFile behind → texts rest ≡ option_words settings behind → (texts left ≡ behind) × Made settings) → (task : Task) (syntax : Syntax) (paths : List Text) (asks : AskForSeveral args task syntax paths) → (texts left ≡ path_words asks.asked.mark paths) × Made asks.asked.settings
+several_read args word rest left e heeded task syntax paths asks =
+    let same = sym (ap texts e) ∙ asks.asked.words in
+    heeded asks.asked.settings (path_words asks.asked.mark paths) (several_begin asks.asked.mark paths asks.several asks.asked.files) cc
+
+-- and the first word is that of the command
+pub several_word : (args : List (Bor Text)) (word : Bor Text) (rest : List (Bor Text)) → args ≡ word ∷ rest → (task : Task) (syntax : Syntax) (paths : List Text) → AskForSeveral args task syntax paths → word.now ≡ command_word task
+several_word args word rest e task syntax paths asks = let same = sym (ap texts e) ∙ asks.asked.words in cc
+
+-- several paths are neither none nor one
+pub not_several : (words : List (Bor Text)) (paths : List Text) → texts words ≡ paths → length words ≤ 1 → 2 ≤ length paths → ⊥
+not_several words paths same few several =
+    let long : length paths ≡ length words = ap length (sym same) ∙ length-map words (λ (word : Bor Text). word.now) in
+    omega (arith, long)
+
+-- such a task has one of two words
+each_word : (task : Task) → IsOnEach task → (word : Text) → word ≡ command_word task → (word ≡ codes "names") ⊎ (word ≡ codes "lint")
+each_word names each word is = inl is
+each_word lint each word is = inr is
+each_word tokens each word is = absurd each
+each_word code each word is = absurd each
+each_word expression each word is = absurd each
+each_word (replay answers) each word is = absurd each
+
+-- and a command of such a word has one path
+one_path : (task : Task) (file : Text) (word : Text) → word ≡ command_word task → (word ≡ codes "names") ⊎ (word ≡ codes "lint") → length (paths_of task file) ≡ 1
+one_path tokens file word is either = refl
+one_path code file word is either = refl
+one_path names file word is either = refl
+one_path lint file word is either = refl
+one_path expression file word is either = refl
+one_path (replay answers) file word is (inl named) = cc
+one_path (replay answers) file word is (inr linted) = cc
+
+-- a word is not two that differ
+no_two_words : (word a b : Text) → bytes_eq a b ≡ false → word ≡ a → word ≡ b → ⊥
+no_two_words word a b apart first second = words_differ a b apart (sym first ∙ second)
+
+-- it is the word of no command of another kind
+no_other_word : (word : Text) → (word ≡ codes "names") ⊎ (word ≡ codes "lint") → (word ≡ codes "expr") ⊎ ((word ≡ codes "--help") ⊎ (word ≡ codes "-h") ⊎ (word ≡ codes "help")) ⊎ (word ≡ codes "--version") → ⊥
+no_other_word word (inl named) (inl other) = no_two_words word (codes "names") (codes "expr") refl named other
+no_other_word word (inl named) (inr (inl (inl other))) = no_two_words word (codes "names") (codes "--help") refl named other
+no_other_word word (inl named) (inr (inl (inr (inl other)))) = no_two_words word (codes "names") (codes "-h") refl named other
+no_other_word word (inl named) (inr (inl (inr (inr other)))) = no_two_words word (codes "names") (codes "help") refl named other
+no_other_word word (inl named) (inr (inr other)) = no_two_words word (codes "names") (codes "--version") refl named other
+no_other_word word (inr linted) (inl other) = no_two_words word (codes "lint") (codes "expr") refl linted other
+no_other_word word (inr linted) (inr (inl (inl other))) = no_two_words word (codes "lint") (codes "--help") refl linted other
+no_other_word word (inr linted) (inr (inl (inr (inl other)))) = no_two_words word (codes "lint") (codes "-h") refl linted other
+no_other_word word (inr linted) (inr (inl (inr (inr other)))) = no_two_words word (codes "lint") (codes "help") refl linted other
+no_other_word word (inr linted) (inr (inr other)) = no_two_words word (codes "lint") (codes "--version") refl linted other
+
+first_word : (args : List (Bor Text)) (word : Bor Text) (rest : List (Bor Text)) (w : Text) (ws : List Text) → args ≡ word ∷ rest → texts args ≡ w ∷ ws → word.now ≡ w
+first_word args word rest w ws e is = let same = sym (ap texts e) ∙ is in cc
+
+-- words that ask for a task on several files ask for nothing else
+pub several_alone : {Made : List Setting → Type 0} (args : List (Bor Text)) (word : Bor Text) (rest left : List (Bor Text)) (task : Task) (paths : List Text) → args ≡ word ∷ rest → ((settings : List Setting) (behind : List Text) → BeginWithFile behind → texts rest ≡ option_words settings behind → (texts left ≡ behind) × Made settings) → IsOnEach task → word.now ≡ command_word task → Name (texts left) paths → 2 ≤ length paths → IsUsage args → ⊥
+several_alone args word rest left task paths e heeded each is (stands mark same files) several (inl usage) =
+    let request = usage.request in
+    let one : length (paths_of request.task request.file) ≡ 1 = one_path request.task request.file word.now (word_asked args word rest request e usage.asks) (each_word task each word.now is) in
+    let named = name_asked args word rest left e heeded request usage.asks in
+    let listed : length (paths_of request.task request.file) ≡ length paths = ap length (name_once mark (texts left) (paths_of request.task request.file) paths named same files) in
+    omega (arith, one, listed, several)
+several_alone args word rest left task paths e heeded each is named several (inr (inl usage)) = no_other_word word.now (each_word task each word.now is) (inl (first_word args word rest _ _ e usage.asks.words))
+several_alone args word rest left task paths e heeded each is named several (inr (inr (inl (inl help)))) = no_other_word word.now (each_word task each word.now is) (inr (inl (inl (first_word args word rest _ _ e help))))
+several_alone args word rest left task paths e heeded each is named several (inr (inr (inl (inr (inl help))))) = no_other_word word.now (each_word task each word.now is) (inr (inl (inr (inl (first_word args word rest _ _ e help)))))
+several_alone args word rest left task paths e heeded each is named several (inr (inr (inl (inr (inr help))))) = no_other_word word.now (each_word task each word.now is) (inr (inl (inr (inr (first_word args word rest _ _ e help)))))
+several_alone args word rest left task paths e heeded each is named several (inr (inr (inr version))) = no_other_word word.now (each_word task each word.now is) (inr (inr (first_word args word rest _ _ e version)))

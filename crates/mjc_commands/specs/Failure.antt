@@ -1,9 +1,12 @@
 -- How a run ends, and the status of the process for each ending.
-use Rattle.std.specs.Prelude.{◌≡◌, ◌≢◌, ◌⊎◌, ℕ, Result, Ok, Err}
+use Rattle.std.specs.Prelude.{◌≡◌, ◌≢◌, ◌⊎◌, ℕ, Option, None, Some, Result, Ok, Err}
 use Rattle.std.specs.IoError.{error_kind}
 use Rattle.std.specs.declared.io.Error as io
 use Rattle.std.specs.declared.io.ErrorKind.TheVariants as kind
+use Rattle.minijinja_syntax.specs.Errors.{kind_of, span_of}
+use Rattle.minijinja_syntax.specs.declared.error.Error.{Error}
 use Rattle.minijinja_syntax.specs.declared.error.ErrorKind.{ErrorKind}
+use Rattle.minijinja_syntax.specs.declared.tokens.Span.{Span}
 use Rattle.mjc_commands.specs.declared.failure.Failure.{Failure}
 use Rattle.mjc_commands.specs.declared.failure.Failure.TheVariants.{Usage, CannotRead, Refused, BadAnswer, CannotWrite}
 use Rattle.mjc_commands.specs.declared.run.Ending.{Ending}
@@ -43,6 +46,14 @@ IsRefusedAs kind Usage = ⊥
 IsRefusedAs kind (CannotRead path) = ⊥
 IsRefusedAs kind (BadAnswer line) = ⊥
 IsRefusedAs kind CannotWrite = ⊥
+
+-- the failure that tells of an error: its kind, and where it starts, which is 0:0 without a place
+abbrev pub refusal_at : ErrorKind → Option Span → Failure
+refusal_at kind None = Refused kind 0 0
+refusal_at kind (Some s) = Refused kind s.start_line s.start_col
+
+abbrev pub refusal_of : Error → Failure
+refusal_of e = refusal_at (kind_of e) (span_of e)
 
 -- the failure is a line of the answers of which this holds
 abbrev pub IsBadAnswer : (ℕ → Type 0) → Failure → Type 0

@@ -1,12 +1,19 @@
 -- The definitions of this crate.
 pub mod Settings
 pub mod Usage
+pub mod Commands
 pub mod Each
 pub mod Failure
+pub mod FailureWords
 pub mod Linting
 pub mod Reading
 pub mod Watched
 pub mod AnswerFile
 pub mod TemplateRuns
 pub mod Showing
+pub mod PrintedTokens
+pub mod Printed
+pub mod Output
+pub mod Refusals
+pub mod Runs
 pub mod private

@@ -102,9 +102,21 @@ pub record IsExprUsage (args : List (Bor Text)) : Type 0 where
   pub text : Text
   pub asks : AsksExpr args text
 
+-- the words ask how the program is used
+abbrev pub AsksHelp : List (Bor Text) → Type 0
+AsksHelp args = (texts args ≡ codes "--help" ∷ []) ⊎ (texts args ≡ codes "-h" ∷ []) ⊎ (texts args ≡ codes "help" ∷ [])
+
+-- the words ask for the program's version
+abbrev pub AsksVersion : List (Bor Text) → Type 0
+AsksVersion args = texts args ≡ codes "--version" ∷ []
+
+-- the words ask about the program itself
+abbrev pub IsAboutUsage : List (Bor Text) → Type 0
+IsAboutUsage args = AsksHelp args ⊎ AsksVersion args
+
 -- the words ask for something
 abbrev pub IsUsage : List (Bor Text) → Type 0
-IsUsage args = IsFileUsage args ⊎ IsExprUsage args
+IsUsage args = IsFileUsage args ⊎ IsExprUsage args ⊎ IsAboutUsage args
 
 -- the words ask for a syntax that cannot be built
 pub record IsUnbuildable (args : List (Bor Text)) : Type 0 where

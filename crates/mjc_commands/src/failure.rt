@@ -1,10 +1,11 @@
 //! Why a run of the program fails, and the status that it ends with.
-ghost use Rattle.std.specs.Prelude.{◌≡◌, ◌≢◌};
+ghost use Rattle.std.specs.Prelude.{◌≡◌, ◌≢◌, ◌⊎◌, ◌↔◌, IsTrue, None};
 ghost use Rattle.std.specs.IoError.{error_kind};
 ghost use Rattle.std.specs.declared.io.ErrorKind.TheVariants as kind;
 ghost use Rattle.minijinja_syntax.specs.Errors.{kind_of};
 ghost use Rattle.minijinja_syntax.specs.declared.error.ErrorKind.TheVariants.{OutOfMemory, SourceTooLong};
-ghost use Rattle.mjc_commands.specs.Failure.{status_of, IsRefusedAs};
+ghost use Rattle.mjc_commands.specs.Failure.{refusal_at, refusal_of, status_of, IsRefused, IsRefusedAs};
+ghost use Rattle.mjc_commands.specs.FailureWords.{kind_word};
 
 use minijinja_compiler::error::{Error, ErrorKind};
 use std::alloc::{AllocError, AllocFailed};
@@ -32,7 +33,8 @@ pub enum Failure<'p> {
 
 impl<'p> Failure<'p> {
     fn without_place(kind: ErrorKind) -> Self
-        ensures { IsRefusedAs kind result }
+        ensures kind { IsRefusedAs kind result }
+        ensures value { result ≡ refusal_at kind None }
     {
         Failure::Refused {
             kind,
@@ -43,7 +45,8 @@ impl<'p> Failure<'p> {
 
     /// The failure of a text of 2^32 bytes or more.
     pub fn source_too_long() -> Self
-        ensures { IsRefusedAs SourceTooLong result }
+        ensures kind { IsRefusedAs SourceTooLong result }
+        ensures value { result ≡ refusal_at SourceTooLong None }
     {
         Failure::without_place(ErrorKind::SourceTooLong)
     }
@@ -52,6 +55,7 @@ impl<'p> Failure<'p> {
     fn memory_or(error: &io::Error, other: Failure<'p>) -> Self
         ensures memory { error_kind error.now ≡ kind.OutOfMemory → IsRefusedAs OutOfMemory result }
         ensures other { error_kind error.now ≢ kind.OutOfMemory → result ≡ other.entry }
+        ensures either { IsRefusedAs OutOfMemory result ⊎ (result ≡ other.entry) }
     {
         if error.kind() == io::ErrorKind::OutOfMemory {
             Failure::without_place(ErrorKind::OutOfMemory)
@@ -74,6 +78,7 @@ impl<'p> Failure<'p> {
         ensures other { error_kind error.now ≢ kind.OutOfMemory →
             result ≡ Failure.CannotRead path.entry }
         ensures status { error_kind error.now ≢ kind.OutOfMemory → status_of result ≡ 2 }
+        ensures refused { IsRefused result → IsRefusedAs OutOfMemory result }
     {
         Failure::memory_or(error, Failure::CannotRead(path))
     }
@@ -82,12 +87,14 @@ impl<'p> Failure<'p> {
     pub fn of_write(error: &io::Error) -> Self
         ensures memory { error_kind error.now ≡ kind.OutOfMemory → IsRefusedAs OutOfMemory result }
         ensures other { error_kind error.now ≢ kind.OutOfMemory → result ≡ Failure.CannotWrite }
+        ensures refused { IsRefused result → IsRefusedAs OutOfMemory result }
     {
         Failure::memory_or(error, Failure::CannotWrite)
     }
 
     /// The failure where the syntax or the text is refused.
     pub fn of_refusal(error: &Error<'_>) -> Self
+        ensures value { result ≡ refusal_of error.now }
         ensures status { status_of result ≡ 1 }
         ensures kind { IsRefusedAs (kind_of error.now) result }
     {
@@ -99,6 +106,16 @@ impl<'p> Failure<'p> {
             kind: error.kind(),
             line,
             column,
+        }
+    }
+
+    /// Whether memory ran out.
+    pub fn is_out_of_memory(&self) -> bool
+        ensures { IsTrue result ↔ IsRefusedAs OutOfMemory self.now }
+    {
+        match self {
+            Failure::Refused { kind, .. } => *kind == ErrorKind::OutOfMemory,
+            _ => false,
         }
     }
 
@@ -136,6 +153,11 @@ impl<T: Drop> From<AllocFailed<T>> for Failure<'_> {
 }
 
 impl fmt::Display for Failure<'_> {
+    ghost use Rattle.std.specs.Prelude.{Some};
+    ghost use Rattle.mjc_commands.specs.FailureWords.{failure_words};
+
+    ghost output = { λ failure. Some (failure_words failure) };
+
     fn fmt<W: fmt::Write>(&self, f: &mut fmt::Formatter<W>) -> fmt::Result {
         match self {
             Failure::Usage => write!(
@@ -143,12 +165,25 @@ impl fmt::Display for Failure<'_> {
                 "usage: mjc tokens|code|names|lint|replay [OPTION..] FILE [ANSWERS], mjc expr TEXT"
             ),
             Failure::CannotRead(path) => write!(f, "mjc: cannot read {path}"),
-            Failure::Refused { kind, line, column } => write!(
-                f,
-                "mjc: {kind:?} at {line}:{column}"
-            ),
+            Failure::Refused { kind, line, column } => {
+                write!(f, "mjc: {} at {line}:{column}", kind_word(*kind))
+            }
             Failure::BadAnswer(line) => write!(f, "mjc: bad answer on line {line}"),
             Failure::CannotWrite => write!(f, "mjc: cannot write"),
         }
+    }
+}
+
+/// The name of a kind, as it is printed.
+fn kind_word(kind: ErrorKind) -> &'static str
+    ensures { result.now ≡ kind_word kind }
+{
+    match kind {
+        ErrorKind::InvalidDelimiter => "InvalidDelimiter",
+        ErrorKind::SyntaxError => "SyntaxError",
+        ErrorKind::BadEscape => "BadEscape",
+        ErrorKind::OutOfMemory => "OutOfMemory",
+        ErrorKind::SourceTooLong => "SourceTooLong",
+        ErrorKind::TooManyInstructions => "TooManyInstructions",
     }
 }

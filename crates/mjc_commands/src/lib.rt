@@ -4,6 +4,7 @@
 pub mod answers;
 pub mod each;
 pub mod failure;
+mod help;
 mod labelled;
 mod options;
 mod print;
@@ -14,4 +15,4 @@ pub mod watched;
 
 pub use minijinja_replay::replay;
 pub use print::PrintedToken;
-pub use usage::{answers_named, file_named};
+pub use usage::{Action, Command, FileCommand, parse};

@@ -56,7 +56,8 @@ impl<'a> Options<'a> {
     ghost use Rattle.minijinja_syntax.specs.Syntax.{IsBuildable, default_syntax};
     ghost use Rattle.minijinja_syntax.specs.Errors.{IsOutOfMemory, IsInvalidDelimiter};
     ghost use Rattle.mjc_commands.specs.Settings.{texts};
-    ghost use Rattle.mjc_commands.specs.private.AtOptions.{syntax_of, Takes, first_setting, setting_of};
+    ghost use Rattle.mjc_commands.specs.Commands.{syntax_of};
+    ghost use Rattle.mjc_commands.specs.private.AtOptions.{Takes, first_setting, setting_of};
 
     /// The options of no words: the syntax of Jinja2.
     pub fn none() -> Self

@@ -10,7 +10,8 @@ ghost use Rattle.minijinja_tree.specs.Tree.{Stmt};
 ghost use Rattle.minijinja_semantics.specs.Answers.{AreFew};
 ghost use Rattle.minijinja_semantics.specs.Correct.{DoesStmt};
 ghost use Rattle.minijinja_instructions.specs.Instructions.{code_of};
-ghost use Rattle.minijinja_replay.specs.Replay.{answer_of};
+ghost use Rattle.minijinja_replay.specs.Replay.{IsRun, answer_of};
+ghost use Rattle.minijinja_replay.specs.declared.replay.Entry.TheVariants as entry;
 ghost use Rattle.mjc_commands.specs.TemplateRuns.{IsCode, RunsAsMeant};
 
 use minijinja_compiler::compile::Compiled;
@@ -28,6 +29,11 @@ pub fn replay_template(
 ) -> Result<Run<Value>, Error<'static>>
     requires compiled { IsCode code.now }
     requires few { AreFew (map (answer_of contents_of) answers.items) }
+
+    // The run is that of the machine.
+    ensures run { IfOk result (IsRun value_functions contents_of (λ fault. fault)
+        (code_of contents_of code.now.instructions) entry.Start []
+        (map (answer_of contents_of) answers.items)) }
 
     // The record of the run, and how it ends, are those of the meaning of the tree that the code was
     // made of.

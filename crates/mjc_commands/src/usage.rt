@@ -1,12 +1,14 @@
 //! The command line of `mjc`: commands, options and files.
-ghost use Rattle.std.specs.Prelude.{◌≡◌, ◌≤◌, ◌↔◌, length, drop, List, [], ◌∷◌, IsSome, IfSome, IsSomeAnd, IsNone, IsTrue, codes};
+ghost use Rattle.std.specs.Prelude.{◌≡◌, ◌≤◌, ◌⊎◌, ◌↔◌, length, drop, List, [], ◌∷◌, IsSome, IfSome, IsSomeAnd, IsNone, IsTrue, codes, count_by};
 ghost use Rattle.std.specs.List.{All, fold};
+ghost use Rattle.std.specs.Str.{bytes_eq};
+ghost use Rattle.minijinja_syntax.specs.Syntax.{Syntax};
 ghost use Rattle.minijinja_syntax.specs.Texts.{Text};
 ghost use Rattle.mjc_commands.specs.Settings.{Setting, texts, with_setting};
-ghost use Rattle.mjc_commands.specs.Each.{AskForEach, IsOnEach};
-ghost use Rattle.mjc_commands.specs.Usage.{IsUsage, IsFileUsage, IsExprUsage, IsReplayUsage, Request, Asks, AsksExpr, AreApart, IsFile, Task, bare, command_word, option_words, replay};
-ghost use Rattle.mjc_commands.specs.private.AtOptions.{syntax_of};
-ghost use Rattle.mjc_commands.specs.private.AtUsage.{AsksInput, BeginWithFile, IsActionOn, IsCommandFor, IsFileCommandFor, IsExprCommandFor, IsOnTemplate, IsTemplateUsage, Name, input_request, task_of};
+ghost use Rattle.mjc_commands.specs.Each.{AskForEach, AskForSeveral, IsOnEach};
+ghost use Rattle.mjc_commands.specs.Usage.{IsAboutUsage, IsUsage, IsFileUsage, IsExprUsage, Request, Asks, AsksExpr, AsksHelp, AsksVersion, AreApart, IsFile, Task, bare, command_word, option_words, replay};
+ghost use Rattle.mjc_commands.specs.Commands.{syntax_of, IsAskedBy, IsCommandFor, IsFileCommandFor, IsExprCommandFor, task_of};
+ghost use Rattle.mjc_commands.specs.private.AtUsage.{AsksInput, BeginWithFile, IsActionOn, IsOnTemplate, IsTemplateUsage, Name, input_request};
 
 use crate::options::Options;
 
@@ -28,14 +30,61 @@ pub enum Action<'a> {
     Replay(&'a str),
 }
 
+impl<'a> Action<'a> {
+    ghost use Rattle.std.specs.Prelude.{◌≡◌};
+    ghost use Rattle.std.specs.Option.{option_map};
+    ghost use Rattle.mjc_commands.specs.Commands.{answers_in, task_of};
+
+    /// The path of the file of answers, if it runs code on them.
+    fn answers(self) -> Option<&'a str>
+        ensures { option_map (λ path. path.now) result ≡ answers_in (task_of self.entry) }
+    {
+        match self {
+            Action::Replay(answers) => Some(answers),
+            Action::Tokens | Action::Code | Action::Names | Action::Lint | Action::Expression =>
+                None,
+        }
+    }
+}
+
 /// What the command line asks for.
 #[derive(Drop)]
 pub enum Command<'a> {
+    /// Print how the program is used.
+    Help,
+    /// Print the name and the version of the program.
+    Version,
     /// Print the tokens, the code, the names, the findings or a run of a file, or the code of the
     /// expression that it is.
     File(FileCommand<'a>),
     /// Print the code of this expression.
     Expr(&'a str),
+}
+
+impl<'a> Command<'a> {
+    ghost use Rattle.std.specs.Prelude.{◌≡◌};
+    ghost use Rattle.std.specs.Option.{option_map};
+    ghost use Rattle.mjc_commands.specs.Commands.{answers_of, file_of};
+
+    /// The path of the file that it reads, if it reads one. `-` is standard input.
+    pub fn file(&self) -> Option<&'a str>
+        ensures { option_map (λ path. path.now) result ≡ file_of self.now }
+    {
+        match self {
+            Command::File(command) => Some(command.file),
+            Command::Expr(_) | Command::Help | Command::Version => None,
+        }
+    }
+
+    /// The path of the file of answers that it reads, if it reads one. `-` is standard input.
+    pub fn answers(&self) -> Option<&'a str>
+        ensures { option_map (λ path. path.now) result ≡ answers_of self.now }
+    {
+        match self {
+            Command::File(command) => command.action.answers(),
+            Command::Expr(_) | Command::Help | Command::Version => None,
+        }
+    }
 }
 
 /// A command on a file.
@@ -212,9 +261,44 @@ fn parse_expr_command<'a>(args: &[&'a str]) -> Option<&'a str>
     }
 }
 
-/// Parses the words of a command: `expr` and a text, or a command on a file.
+/// Parses a word that asks about the program itself.
+fn parse_about_command<'a>(args: &[&'a str]) -> Option<Command<'a>>
+    ensures help { AsksHelp args.now → IsSomeAnd result (λ command. command ≡ Command.Help) }
+    ensures version { AsksVersion args.now →
+        IsSomeAnd result (λ command. command ≡ Command.Version) }
+    ensures asked { IfSome result (λ command. IsAskedBy args.now command ×
+        IsAboutUsage args.now) }
+{
+    match args {
+        ["--help"] | ["-h"] | ["help"] => Some(Command::Help),
+        ["--version"] => Some(Command::Version),
+        _ => None,
+    }
+}
+
+/// Parses the words after the program's name: `expr` and a text, a command on a file, or a word that
+/// asks about the program itself.
 pub fn parse<'a>(args: &[&'a str]) -> Option<Command<'a>>
     ensures usage { IsSome result ↔ IsUsage args.now }
+    ensures asked { IfSome result (IsAskedBy args.now) }
+    ensures file { (request : Request) → Asks args.now request → IsSomeAnd result
+        (IsFileCommandFor request) }
+    ensures expr { (text : Text) → AsksExpr args.now text → IsSomeAnd result
+        (IsExprCommandFor text) }
+    ensures help { AsksHelp args.now → IsSomeAnd result (λ command. command ≡ Command.Help) }
+    ensures version { AsksVersion args.now →
+        IsSomeAnd result (λ command. command ≡ Command.Version) }
+{
+    match parse_about_command(args) {
+        Some(command) => Some(command),
+        None => parse_work_command(args),
+    }
+}
+
+/// Parses the words of a command on an expression or on a file.
+fn parse_work_command<'a>(args: &[&'a str]) -> Option<Command<'a>>
+    ensures usage { IsSome result ↔ (IsFileUsage args.now ⊎ IsExprUsage args.now) }
+    ensures asked { IfSome result (IsAskedBy args.now) }
     ensures file { (request : Request) → Asks args.now request → IsSomeAnd result
         (IsFileCommandFor request) }
     ensures expr { (text : Text) → AsksExpr args.now text → IsSomeAnd result
@@ -228,8 +312,10 @@ pub fn parse<'a>(args: &[&'a str]) -> Option<Command<'a>>
 
 /// What the word of a command on several files asks for.
 fn action_on_each<'a>(word: &str) -> Option<Action<'a>>
-    ensures { IfSome result (λ action. IsOnEach (task_of action) ×
+    ensures found { IfSome result (λ action. IsOnEach (task_of action) ×
         (word.now ≡ command_word (task_of action))) }
+    ensures asked { (task : Task) → IsOnEach task → word.now ≡ command_word task →
+        IsSomeAnd result (λ action. task_of action ≡ task) }
 {
     match word {
         "names" => Some(Action::Names),
@@ -238,18 +324,30 @@ fn action_on_each<'a>(word: &str) -> Option<Action<'a>>
     }
 }
 
+/// Whether one of the files at most is standard input.
+fn are_apart(paths: &[&str]) -> bool
+    ensures { IsTrue result ↔ (count_by (λ path. bytes_eq path (codes "-")) (texts paths.now) ≤ 1) }
+{
+    paths.iter().filter(|path| **path == "-").count() <= 1
+}
+
 /// Parses the words of a command on several files: `names` or `lint`, options, and the files. One of
 /// them at most is standard input.
 pub fn parse_several<'w, 'a>(args: &'w [&'a str]) -> Option<(FileCommand<'a>, &'w [&'a str])>
-    ensures { IfSome result (λ asked. AskForEach args.now (task_of asked.0.action)
+    ensures found { IfSome result (λ asked. AskForEach args.now (task_of asked.0.action)
         (syntax_of asked.0.options) (texts asked.1.now)) }
+    ensures asked { (task : Task) → (syntax : Syntax) → (paths : List Text) →
+        AskForSeveral args.now task syntax paths → IsSomeAnd result
+        (λ asked. (task_of asked.0.action ≡ task) × (syntax_of asked.0.options ≡ syntax) ×
+        (texts asked.1.now ≡ paths)) }
+    ensures apart { IsSome result → ¬ IsUsage args.now }
 {
     let (word, rest) = args.split_first()?;
     let action = action_on_each(*word)?;
     let mut options = Options::none();
     let paths = paths_in(read_options(&mut options, rest))?;
     let (file, others) = paths.split_first()?;
-    if others.is_empty() || paths.iter().filter(|path| **path == "-").count() > 1 {
+    if others.is_empty() || !are_apart(paths) {
         return None;
     }
     let command = FileCommand {
@@ -258,27 +356,4 @@ pub fn parse_several<'w, 'a>(args: &'w [&'a str]) -> Option<(FileCommand<'a>, &'
         file: *file,
     };
     Some((command, paths))
-}
-
-/// The file that the words name.
-pub fn file_named<'a>(args: &[&'a str]) -> Option<&'a str>
-    ensures usage { IsSome result ↔ IsFileUsage args.now }
-    ensures file { (request : Request) → Asks args.now request → IsSomeAnd result
-        (λ path. path.now ≡ request.file) }
-{
-    let command = parse_file_command(args)?;
-    Some(command.file)
-}
-
-/// The file of answers that the words name.
-pub fn answers_named<'a>(args: &[&'a str]) -> Option<&'a str>
-    ensures usage { IsSome result ↔ IsReplayUsage args.now }
-    ensures file { (request : Request) → Asks args.now request → IfSome result
-        (λ path. request.task ≡ replay path.now) }
-{
-    let command = parse_file_command(args)?;
-    match command.action {
-        Action::Replay(answers) => Some(answers),
-        Action::Tokens | Action::Code | Action::Names | Action::Lint | Action::Expression => None,
-    }
 }

@@ -1,8 +1,8 @@
 //! A stream that remembers the error of the last call that failed, for contracts to speak of.
 ghost use Rattle.std.specs.Prelude.{◌≡◌, None, IfOk, IfSome, IsErr, OnOk, string_bytes};
-ghost use Rattle.std.specs.Io.KnownBytes.{Appends, IsAtEnd, Keeps};
+ghost use Rattle.std.specs.Io.KnownBytes.{IsAtEnd};
 ghost use Rattle.mjc_commands.specs.Reading.{IsNoText};
-ghost use Rattle.mjc_commands.specs.Watched.{stream_of, IsUnfailed, Notes};
+ghost use Rattle.mjc_commands.specs.Watched.{error_of, stream_of, IsKept, IsUnfailed, IsWritten, Notes, Watches};
 
 use std::alloc::Global;
 use std::fmt::Display;
@@ -11,15 +11,16 @@ use std::io::{self, Read, Write};
 /// A reader or a writer, and the error of the last of its calls that failed. No clause of `Read` or
 /// of `Write` says that a call fails, so this type keeps the errors that it returned.
 #[derive(Drop)]
-pub struct Watched<S> {
-    stream: S,
+pub struct Watched<'s, S> {
+    stream: &'s mut S,
     error: Option<io::Error>,
 }
 
-impl<S> Watched<S> {
+impl<'s, S> Watched<'s, S> {
     /// A stream of which no call has failed.
-    pub fn new(stream: S) -> Self
-        ensures stream { stream_of result ≡ stream }
+    pub fn new(stream: &'s mut S) -> Self
+        ensures stream { stream_of result ≡ stream.old }
+        ensures watches { Watches result stream.entry }
         ensures unfailed { IsUnfailed result }
     {
         Watched {
@@ -28,15 +29,15 @@ impl<S> Watched<S> {
         }
     }
 
-    /// The stream without the error.
-    pub fn into_inner(self) -> S
-        ensures { result ≡ stream_of self }
+    /// The error of the last call that failed, if one has.
+    pub fn error(&self) -> Option<io::Error>
+        ensures { result ≡ error_of self.now }
     {
-        self.stream
+        self.error
     }
 }
 
-impl<R: Read> Watched<R> {
+impl<R: Read> Watched<'_, R> {
     /// Reads the whole stream, which has to be UTF-8.
     pub fn read_text(&mut self, alloc: Global) -> io::Result<String>
         ensures text { IfOk result (λ text. IfSome (R.remaining (stream_of self.old))
@@ -56,11 +57,11 @@ impl<R: Read> Watched<R> {
     }
 }
 
-impl<W: Write> Watched<W> {
+impl<W: Write> Watched<'_, W> {
     /// Writes a text; `write!` and `writeln!` call this.
     pub fn write_fmt<D: Display + Drop>(&mut self, text: D) -> io::Result<()>
         ensures bytes { OnOk result (IfSome (D.output text)
-            (Appends (W.contents (stream_of self.old)) (W.contents (stream_of self.new)))) }
+            (IsWritten W.contents self.old self.new)) }
         ensures notes { Notes self.old self.new result }
     {
         match self.stream.write_fmt(text) {
@@ -74,7 +75,7 @@ impl<W: Write> Watched<W> {
 
     /// Writes out what the writer has buffered.
     pub fn flush(&mut self) -> io::Result<()>
-        ensures bytes { Keeps (W.contents (stream_of self.old)) (W.contents (stream_of self.new)) }
+        ensures bytes { IsKept W.contents self.old self.new }
         ensures notes { Notes self.old self.new result }
     {
         match self.stream.flush() {

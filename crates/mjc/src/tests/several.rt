@@ -43,9 +43,10 @@ impl Subject for Several {
         let (a, b) = parted(texts, " | ");
         let args: Vec<&str> = words.split(", ").collect(alloc)?;
         let (mut out, mut err) = (Vec::new(alloc), Vec::new(alloc));
-        let Some(status) = run_each(alloc, &args, &Two { a, b }, &mut out, &mut err) else {
+        let Some(endings) = run_each(alloc, &args, &Two { a, b }, &mut out, &mut err) else {
             return Ok(String::from_str(alloc, "another")?);
         };
+        let status = endings.status;
         let mut text = String::from_utf8(out)?;
         if status > 0 || !err.is_empty() {
             write!(text, "! {status} {}", str::from_utf8(&err)?)?;

@@ -156,14 +156,80 @@ fn output_of_failed_read(alloc: Global, kind: io::ErrorKind) -> Result<String, F
     output(alloc, &["code", "a"], &mut file)
 }
 
-/// By the words that Rust has for that error.
 #[test]
-fn tells_a_folder_from_an_absent_file(rt: HostRuntime) -> Result<(), Fail> {
-    let folder = output_of_failed_read(rt.alloc(), io::ErrorKind::IsADirectory)?;
-    assert!(rt; folder.as_str() == "! 2 mjc: cannot read a\n");
-    let absent = output_of_failed_read(rt.alloc(), io::ErrorKind::NotFound)?;
-    assert!(rt; absent.as_str() == "! 2 mjc: cannot read a\n");
+fn tells_no_folder_from_an_absent_file(rt: HostRuntime) -> Result<(), Fail> {
+    for kind in [io::ErrorKind::IsADirectory, io::ErrorKind::NotFound] {
+        let output = output_of_failed_read(rt.alloc(), kind)?;
+        assert!(rt; output.as_str() == "! 2 mjc: cannot read a\n");
+    }
     Ok(())
+}
+
+/// Words about the program itself: what is printed, in which a file is not read.
+enum About {}
+
+impl Subject for About {
+    fn words(alloc: Global, text: &str) -> Result<String, Fail> {
+        let mut unread = Trickle {
+            rest: b"",
+            end: Err(io::Error::from(io::ErrorKind::NotFound)),
+        };
+        output_of(alloc, text, &mut unread)
+    }
+}
+
+#[test]
+fn tells_its_version(rt: HostRuntime) -> Result<(), Fail> {
+    let rows = r#"
+--version => mjc 1.0.0␊
+"#;
+    hold::<About>(&rt, rt.alloc(), rows)
+}
+
+/// The first word of each line of the help but the first two, as far as it has one.
+fn first_words(alloc: Global, help: &str) -> Result<String, Fail> {
+    let mut words = String::new(alloc);
+    for line in help.lines().skip(2) {
+        if let Some(word) = line.split_whitespace().next() {
+            write!(words, "{word} ")?;
+        }
+    }
+    Ok(words)
+}
+
+/// Each command and each option has a line.
+#[test]
+fn tells_how_it_is_used(rt: HostRuntime) -> Result<(), Fail> {
+    let alloc = rt.alloc();
+    let help = About::words(alloc, "--help")?;
+    let usage =
+        "usage: mjc tokens|code|names|lint|replay [OPTION..] FILE [ANSWERS], mjc expr TEXT\n\n";
+    assert!(rt; help.as_str().starts_with(usage));
+    let words = first_words(alloc, help.as_str())?;
+    let wanted = "commands: tokens code names lint replay expr help --version options, --block \
+        --variable --comment --line-statement --line-comment --trim-blocks --lstrip-blocks \
+        --keep-newline -- A ";
+    assert_eq!(rt; words.as_str(), wanted);
+    assert!(rt; About::words(alloc, "-h")?.as_str() == help.as_str());
+    assert!(rt; About::words(alloc, "help")?.as_str() == help.as_str());
+    Ok(())
+}
+
+/// Where other words stand beside them, they are bad usage.
+#[test]
+fn tells_of_itself_for_one_word_alone(rt: HostRuntime) -> Result<(), Fail> {
+    let rows = r#"
+help, code
+--help, a
+-h, -
+--version, --version
+code, --version
+expr, --help, a
+-help
+--Version
+version
+"#;
+    hold::<Misused>(&rt, rt.alloc(), rows)
 }
 
 /// Also where the file cannot be read.

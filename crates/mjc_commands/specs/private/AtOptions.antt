@@ -1,28 +1,11 @@
--- The syntax in an `Options` value, and how an option is read into it.
+-- How an option is read into a syntax.
 use Rattle.std.specs.Prelude.{◌≡◌, ℕ, List, [], ◌∷◌, drop, codes, Option, None, Some, IsNone, IsSomeAnd, MatchOption, if◌then◌else◌}
 use Rattle.std.specs.Str.{bytes_eq}
 use Rattle.minijinja_syntax.specs.Texts.{Text}
 use Rattle.minijinja_syntax.specs.Syntax.{Syntax}
 use Rattle.mjc_commands.specs.Settings.{Setting, block, variable, comment, line_statement, line_comment, trim_blocks, lstrip_blocks, keep_newline, with_setting}
-use Rattle.mjc_commands.specs.declared.options.Options.{Options}
 use Rattle.mjc_commands.specs.declared.options.OptionName.{OptionName}
 use Rattle.mjc_commands.specs.declared.options.OptionName.TheVariants.{Block, Variable, Comment, LineStatement, LineComment, TrimBlocks, LstripBlocks, KeepNewline}
-
--- the syntax that the fields of `Options` hold
-abbrev pub syntax_of : Options → Syntax
-syntax_of o = record {
-  block_start = o.block.0.now;
-  block_end = o.block.1.now;
-  variable_start = o.variable.0.now;
-  variable_end = o.variable.1.now;
-  comment_start = o.comment.0.now;
-  comment_end = o.comment.1.now;
-  line_statement = o.line_statement.now;
-  line_comment = o.line_comment.now;
-  trim_blocks = o.trim_blocks;
-  lstrip_blocks = o.lstrip_blocks;
-  keep_trailing_newline = o.keep_newline;
-}
 
 -- the option of a word
 unfoldable pub option_named : Text → Option OptionName

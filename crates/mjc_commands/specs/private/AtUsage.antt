@@ -1,25 +1,10 @@
--- The commands that are read from words, and what they are asked to do.
+-- How commands are read from words.
 use Rattle.std.specs.Prelude.{◌≡◌, ◌⊎◌, List, [], ◌∷◌, codes}
 use Rattle.std.specs.List.{All}
 use Rattle.std.specs.Borrow.{Bor}
 use Rattle.minijinja_syntax.specs.Texts.{Text}
-use Rattle.mjc_commands.specs.Settings.{syntax_with, texts}
-use Rattle.mjc_commands.specs.Usage.{Task, tokens, code, names, lint, expression, replay, Request, Asks, Mark, bare, AreApart, IsFile, command_word, path_words, paths_of}
-use Rattle.mjc_commands.specs.private.AtOptions.{syntax_of}
-use Rattle.mjc_commands.specs.declared.usage.Action.{Action}
-use Rattle.mjc_commands.specs.declared.usage.Action.TheVariants.{Tokens, Code, Names, Lint, Expression, Replay}
-use Rattle.mjc_commands.specs.declared.usage.Command.{Command}
-use Rattle.mjc_commands.specs.declared.usage.Command.TheVariants.{File, Expr}
-use Rattle.mjc_commands.specs.declared.usage.FileCommand.{FileCommand}
-
--- the task of an action
-abbrev pub task_of : Action → Task
-task_of Tokens = tokens
-task_of Code = code
-task_of Names = names
-task_of Lint = lint
-task_of Expression = expression
-task_of (Replay answers) = replay answers.now
+use Rattle.mjc_commands.specs.Settings.{texts}
+use Rattle.mjc_commands.specs.Usage.{Task, expression, Request, Asks, Mark, bare, AreApart, IsFile, command_word, path_words, paths_of}
 
 -- the first of these words may name a file, or it is `--`: they begin with no option
 abbrev pub BeginWithFile : List Text → Type 0
@@ -55,19 +40,3 @@ pub record IsActionOn (word : Text) (paths : List Text) (task : Task) (file : Te
   pub named : word ≡ command_word task
   pub listed : paths ≡ paths_of task file
   pub apart : AreApart task file
-
--- the command does what is asked for
-pub record IsCommandFor (request : Request) (command : FileCommand) : Type 0 where
-  pub task : task_of command.action ≡ request.task
-  pub syntax : syntax_of command.options ≡ syntax_with request.settings
-  pub file : command.file.now ≡ request.file
-
--- the command does what is asked for of a file
-abbrev pub IsFileCommandFor : Request → Command → Type 0
-IsFileCommandFor request (File command) = IsCommandFor request command
-IsFileCommandFor request (Expr text) = ⊥
-
--- the command is for the code of this text
-abbrev pub IsExprCommandFor : Text → Command → Type 0
-IsExprCommandFor text (File command) = ⊥
-IsExprCommandFor text (Expr t) = t.now ≡ text

@@ -20,6 +20,15 @@ replay-requires-clause-ends c =
     subst (λ given. EndsInTime value_functions code entry.Start given answers) (sym none)
     (in_time_by value_functions code (a_statement 0 (length code)) _ answers entry.Start (c.requires.compiled.compiled.does [] [] answers c.requires.few) refl refl)
 
+pub returns-clause-run : goal.returns-clause-run
+returns-clause-run c =
+    let code = code_of contents_of c.args.code.now.instructions in
+    let answers = map (answer_of contents_of) c.args.answers.items in
+    let none = ap (λ xs. reverse (map contents_of xs)) c.new.ensures.items in
+    if_ok c.replay.result
+    (λ run is. subst (λ given. IsRun value_functions contents_of (λ fault. fault) code entry.Start given answers run) none is)
+    c.replay.ensures.run
+
 pub returns-clause-meant : goal.returns-clause-meant
 returns-clause-meant c =
     let code = code_of contents_of c.args.code.now.instructions in

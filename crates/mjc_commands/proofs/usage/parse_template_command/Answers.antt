@@ -3,7 +3,8 @@ use Rattle.std.proofs.Common.{ap, sym, subst, ◌∙◌, refl}
 use Rattle.std.specs.List.{fold}
 use Rattle.mjc_commands.specs.Settings.{texts, with_setting}
 use Rattle.mjc_commands.specs.Usage.{path_words, paths_of}
-use Rattle.mjc_commands.specs.private.AtUsage.{IsOnTemplate, Name, task_of}
+use Rattle.mjc_commands.specs.Commands.{task_of}
+use Rattle.mjc_commands.specs.private.AtUsage.{IsOnTemplate, Name}
 use Rattle.mjc_commands.proofs.Requests.{asks, name_asked, name_begin, name_once, paths_begin, rest_asked, same_asked, unasked, word_asked}
 use Rattle.mjc_commands.proofs.usage.parse_template_command.Goals as goal
 

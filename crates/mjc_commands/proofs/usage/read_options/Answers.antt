@@ -1,7 +1,7 @@
 -- Each turn of the loop reads one option, and the last one leaves the paths.
 use Rattle.std.proofs.Common.{arith, ap, subst, length, length-drop}
 use Rattle.mjc_commands.specs.Settings.{texts}
-use Rattle.mjc_commands.specs.private.AtOptions.{syntax_of}
+use Rattle.mjc_commands.specs.Commands.{syntax_of}
 use Rattle.mjc_commands.proofs.Requests.{Reads, over, goes_on, goes_over, read_words}
 use Rattle.mjc_commands.proofs.usage.read_options.Goals as goal
 

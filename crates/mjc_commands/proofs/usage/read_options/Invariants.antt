@@ -3,7 +3,7 @@ use Rattle.std.proofs.Common.{◌-◌, ◌≤◌, List, length, drop}
 use Rattle.minijinja_syntax.specs.Texts.{Text}
 use Rattle.minijinja_syntax.specs.Syntax.{Syntax}
 use Rattle.mjc_commands.specs.Settings.{texts}
-use Rattle.mjc_commands.specs.private.AtOptions.{syntax_of}
+use Rattle.mjc_commands.specs.Commands.{syntax_of}
 use Rattle.mjc_commands.proofs.Requests.{Reads}
 use Rattle.mjc_commands.proofs.usage.read_options.Given as goal
 

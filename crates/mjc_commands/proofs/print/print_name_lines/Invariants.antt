@@ -1,0 +1,13 @@
+-- The names so far are written.
+use Rattle.std.proofs.Common.{◌≡◌}
+use Rattle.std.specs.List.{flat_map}
+use Rattle.std.specs.String.{string_bytes}
+use Rattle.mjc_commands.specs.Printed.{name_line}
+use Rattle.mjc_commands.specs.Watched.{IsWritten, error_of}
+use Rattle.mjc_commands.proofs.print.print_name_lines.Given as goal
+
+abbrev pub invariant-loop-name : goal.invariant-loop-name
+invariant-loop-name g l = record {
+  unfailed : error_of l.out ≡ error_of l.initial.out;
+  written : IsWritten g.W.Write.contents l.initial.out l.out (flat_map (λ name. name_line l.word (string_bytes name.now)) l.yielded);
+}
