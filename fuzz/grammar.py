@@ -349,9 +349,9 @@ class ExpressionReader:
         value = self.expression()
         if self.kind != "Assign":
             return trees.Argument(trees.PLAIN, "", value)
-        if type(value) is not trees.Variable:
-            self.refuse()
         self.advance()
+        if type(value) is not trees.Variable:
+            self.refuse_meaning()
         return trees.Argument(trees.KEYWORD, value.name, self.expression())
 
     def primary(self) -> Expression:

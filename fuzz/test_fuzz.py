@@ -371,6 +371,7 @@ class Statements(Case):
         self.refused("{{ a b '\\q' }}")
         self.refused("{{ a '\\q' }}", "BadEscape")
         self.refused("{% do a '\\q' %}", "BadEscape", "SyntaxError")
+        self.refused("{{ f(5='\\q') }}", "BadEscape", "SyntaxError")
         self.refused("{{ 1.5'\\q' }}")
         self.refused("{{ 1.5'\\q' }}", "BadEscape", "SyntaxError", ours=False)
 
