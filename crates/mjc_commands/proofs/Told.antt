@@ -1,10 +1,14 @@
 -- What is printed and told of the text that a file holds.
-use Rattle.std.proofs.Common.{◌≡◌, inl, Some, None, subst}
+use Rattle.std.proofs.Common.{◌≡◌, ◌∙◌, ◌⊎◌, ap, inl, inr, Some, None, subst}
 use Rattle.std.specs.Prelude.{ℕ, List, Option, IfSome, OnOk, Result, Ok, Err}
+use Rattle.minijinja_syntax.specs.Errors.{IsInvalidDelimiter, IsOutOfMemory, kind_of, span_of}
 use Rattle.minijinja_syntax.specs.Syntax.{Syntax}
 use Rattle.minijinja_syntax.specs.Texts.{Text}
+use Rattle.minijinja_syntax.specs.declared.error.Error.{Error}
+use Rattle.minijinja_syntax.specs.declared.error.ErrorKind.TheVariants.{InvalidDelimiter}
+use Rattle.mjc_commands.specs.Failure.{IsRefusedAs, refusal_at, refusal_of}
 use Rattle.mjc_commands.specs.Output.{Prints}
-use Rattle.mjc_commands.specs.Refusals.{IsRefusalOf}
+use Rattle.mjc_commands.specs.Refusals.{IsRefusalOf, IsSyntaxRefusal}
 use Rattle.mjc_commands.specs.Showing.{IsMemory}
 use Rattle.mjc_commands.specs.Usage.{Task, tokens, code, names, lint, expression, replay}
 use Rattle.mjc_commands.specs.declared.failure.Failure.{Failure}
@@ -34,3 +38,8 @@ pub known_as : {T E : Type 0} (P : Text → Type 0) (r : Result T E) (held : Opt
 known_as P (Ok v) None text known has = tt
 known_as P (Ok v) (Some bytes) text known has = subst P known has
 known_as P (Err e) held text known has = has
+
+-- the error of a syntax that cannot be built is told so
+pub syntax_refusal : (e : Error) (failure : Failure) → failure ≡ refusal_of e → IsRefusedAs (kind_of e) failure → IsInvalidDelimiter e ⊎ IsOutOfMemory e → IsSyntaxRefusal failure
+syntax_refusal e failure is kind (inl invalid) = inr (is ∙ (ap (λ k. refusal_at k (span_of e)) invalid.kind ∙ ap (refusal_at InvalidDelimiter) invalid.span))
+syntax_refusal e failure is kind (inr memory) = inl (subst (λ k. IsRefusedAs k failure) memory.kind kind)

@@ -5,7 +5,7 @@ use Rattle.minijinja_syntax.specs.Syntax.{Syntax, default_syntax}
 use Rattle.minijinja_syntax.specs.Texts.{Text}
 use Rattle.minijinja_syntax.specs.declared.error.Error.{Error}
 use Rattle.minijinja_syntax.specs.declared.error.ErrorKind.{ErrorKind}
-use Rattle.minijinja_syntax.specs.declared.error.ErrorKind.TheVariants.{SourceTooLong}
+use Rattle.minijinja_syntax.specs.declared.error.ErrorKind.TheVariants.{InvalidDelimiter, SourceTooLong}
 use Rattle.minijinja_syntax.specs.declared.tokens.Span.{Span}
 use Rattle.minijinja_value.specs.ValueFunctions.{value_functions}
 use Rattle.minijinja_lexer.specs.TextTokens.{tokens_of_template}
@@ -65,3 +65,7 @@ IsRefusalOf names syntax source failure = IsMemory failure ⊎ IsTemplateRefusal
 IsRefusalOf lint syntax source failure = IsMemory failure ⊎ IsTemplateRefusal syntax source failure
 IsRefusalOf expression syntax source failure = IsExprRefusal source failure
 IsRefusalOf (replay answers) syntax source failure = IsMemory failure ⊎ IsTemplateRefusal syntax source failure
+
+-- the refusal of a syntax that cannot be built, which has no place, or of memory
+abbrev pub IsSyntaxRefusal : Failure → Type 0
+IsSyntaxRefusal failure = IsMemory failure ⊎ (failure ≡ refusal_at InvalidDelimiter None)

@@ -17,7 +17,7 @@ ghost use Rattle.mjc_commands.specs.Linting.{EndsWithFindings, IsLinted, ending_
 ghost use Rattle.mjc_commands.specs.Output.{Adds, AreFindingsIn, IsExprOutput, IsOutput, IsRunOf, Prints};
 ghost use Rattle.mjc_commands.specs.Printed.{names_words};
 ghost use Rattle.mjc_commands.specs.Reading.{IsNoText};
-ghost use Rattle.mjc_commands.specs.Refusals.{IsRefusalOf, IsTemplateRefusal};
+ghost use Rattle.mjc_commands.specs.Refusals.{IsRefusalOf, IsSyntaxRefusal, IsTemplateRefusal};
 ghost use Rattle.mjc_commands.specs.Runs.{RunsOn, RunsOnExpr, Tells};
 ghost use Rattle.mjc_commands.specs.Settings.{syntax_with};
 ghost use Rattle.mjc_commands.specs.Showing.{HasAnswers, IsMemory, IsOfContents, IsShowable, IsShowableExpr, IsTooLarge, OfFile, Succeeds};
@@ -141,6 +141,7 @@ pub fn run_watched<'a, R: Read, Q: Read, W: Write, X: Write>(
 ) -> Result<Ending, Failure<'a>>
     // A syntax that cannot be built is refused before anything is read.
     ensures unbuilt { ¬ HasBuildable command.now → ending_status result ≡ 1 }
+    ensures unbuilt_told { ¬ HasBuildable command.now → IfErr result IsSyntaxRefusal }
     ensures unbuilt_unread { ¬ HasBuildable command.now → file.new ≡ file.old }
     ensures unbuilt_unanswered { ¬ HasBuildable command.now → answers.new ≡ answers.old }
     ensures unbuilt_unwritten { ¬ HasBuildable command.now → out.new ≡ out.old }
@@ -235,12 +236,12 @@ pub(crate) fn syntax_of<'a>(
     ensures unbuilt { ¬ IsBuildable (syntax_of command.now.options) → IsErr result }
     ensures built { IsBuildable (syntax_of command.now.options) → IfErr result IsMemory }
     ensures status { IfErr result (λ failure. status_of failure ≡ 1) }
+    ensures told { IfErr result IsSyntaxRefusal }
 {
-    let syntax = command
-        .options
-        .build(alloc)
-        .map_err(|error| Failure::of_refusal(&error))?;
-    Ok(syntax)
+    match command.options.build(alloc) {
+        Ok(syntax) => Ok(syntax),
+        Err(error) => Err(Failure::of_refusal(&error)),
+    }
 }
 
 /// Does what a command asks of its file. A syntax that cannot be built is refused before anything is
@@ -253,6 +254,8 @@ fn run_on_file<'a, R: Read, Q: Read, W: Write>(
     out: &mut Watched<'_, W>,
 ) -> Result<Ending, Failure<'a>>
     ensures unbuilt { ¬ IsBuildable (syntax_of command.now.options) → ending_status result ≡ 1 }
+    ensures unbuilt_told { ¬ IsBuildable (syntax_of command.now.options) →
+        IfErr result IsSyntaxRefusal }
     ensures unbuilt_unread { ¬ IsBuildable (syntax_of command.now.options) → file.new ≡ file.old }
     ensures unbuilt_unanswered { ¬ IsBuildable (syntax_of command.now.options) →
         answers.new ≡ answers.old }
