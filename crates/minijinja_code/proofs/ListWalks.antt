@@ -12,7 +12,7 @@ use Rattle.minijinja_syntax.specs.Texts.{Text}
 use Rattle.minijinja_value.specs.Values.{Functions}
 use Rattle.minijinja_tree.specs.Erasure.{stmt_tree}
 use Rattle.minijinja_tree.specs.Tree as tree
-use Rattle.minijinja_tree.specs.Tree.{template, data_text, output, assignment, for_loop, if_cond, with_block, set_block, auto_escape, filter_block, named_block, extends, include, import_all, from_import, declare, call_block, do_call, break_loop, continue_loop, Stmts, done, also, Macro, macro, Block, blocks, all_blocks, macro_blocks, names_of_blocks}
+use Rattle.minijinja_tree.specs.Tree.{template, data_text, output, assignment, for_loop, if_cond, with_block, set_block, auto_escape, filter_block, named_block, extends, include, import_all, from_import, declare, call_block, do_call, break_loop, continue_loop, Stmts, done, Macro, macro, Block, blocks, all_blocks, macro_blocks, names_of_blocks}
 use Rattle.minijinja_tree.specs.WellFormed.{AreInner, IsMacro, AreDistinct}
 use Rattle.minijinja_tree.specs.declared.ast.Stmt.{Stmt, size-Stmt}
 use Rattle.minijinja_tree.proofs.Rows.{body_of}

@@ -10,7 +10,7 @@ use Rattle.minijinja_tree.specs.Nodes.{node_of}
 use Rattle.minijinja_tree.specs.Nodes as places
 use Rattle.minijinja_tree_expr.specs.declared.ast.Spanned.{Spanned}
 use Rattle.minijinja_tree.specs.SpannedTrees as spanned
-use Rattle.minijinja_tree.specs.SpannedTrees.{Args, Expr, Optional, Stmt, Stmts, also, bare_expr, bare_macro}
+use Rattle.minijinja_tree.specs.SpannedTrees.{Args, Expr, Optional, Stmt, Stmts, also}
 use Rattle.minijinja_tree.specs.declared.ast.Macro.{Macro}
 use Rattle.minijinja_tree.specs.declared.ast.Stmt.{Stmt as Node}
 use Rattle.minijinja_tree_expr.specs.declared.ast.Expr.{Expr as ExprNode}

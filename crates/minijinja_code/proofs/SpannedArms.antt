@@ -5,7 +5,7 @@ use Rattle.minijinja_tree.specs.Nodes.{node_of, span_of}
 use Rattle.minijinja_tree.specs.Erasure.{expr_tree, macro_tree}
 use Rattle.minijinja_tree.specs.SpannedErasure.{args_of, bindings_of, expr_node, names_of, optional_of, stmt_node, stmts_node, trees}
 use Rattle.minijinja_tree.specs.SpannedTrees as spanned
-use Rattle.minijinja_tree.specs.SpannedTrees.{also, stmts_of, bare_list, bare_macro, bare_stmts}
+use Rattle.minijinja_tree.specs.SpannedTrees.{also, bare_list, bare_macro, bare_stmts}
 use Rattle.minijinja_tree.specs.Tree as tree
 use Rattle.minijinja_tree.proofs.Rows.{body_of}
 use Rattle.minijinja_tree.proofs.Bare.{stmt_is}

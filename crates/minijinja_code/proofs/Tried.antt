@@ -1,6 +1,6 @@
 -- What a call that adds code returns where a call within it fails.
-use Rattle.std.proofs.Common.{◌≡◌, ◌+◌, ◌≤◌, ◌^◌, ◌++◌, ◌∷◌, [], ℕ, Option, Some, None, Result, Ok, Err, length, length-append, sym, ap, subst, ◌∙◌}
-use Rattle.std.specs.Prelude.{IfErr, IfNone, IfSome, IsErrAnd, OnOk}
+use Rattle.std.proofs.Common.{◌≡◌, ◌+◌, ◌∷◌, [], ℕ, Option, Some, None, Result, Ok, Err, length, length-append, sym, ap, subst, ◌∙◌}
+use Rattle.std.specs.Prelude.{IfSome, IsErrAnd}
 use Rattle.minijinja_syntax.specs.declared.error.Error.{Error}
 use Rattle.minijinja_semantics.specs.Code.{Instr}
 use Rattle.minijinja_code.specs.Building.{Building, added}

@@ -1,5 +1,5 @@
 -- The marks of chains of comparisons.
-use Rattle.std.proofs.Common.{◌≡◌, ℕ, zero, suc, ◌+◌, ◌<◌, ◌≤◌, List, [], ◌∷◌, length, drop, get_or, Option, Some, None, refl, sym, ap, ◌∙◌, subst, arith, add-one}
+use Rattle.std.proofs.Common.{◌≡◌, ℕ, zero, suc, ◌+◌, ◌<◌, List, [], ◌∷◌, length, drop, get_or, Option, Some, None, refl, sym, ap, ◌∙◌, subst, arith, add-one}
 use Rattle.std.proofs.lemmas.List.{at_drop_more}
 use Rattle.minijinja_syntax.specs.declared.tokens.Span.{Span}
 use Rattle.minijinja_value.specs.Values.{Functions}
@@ -17,13 +17,12 @@ use Rattle.minijinja_tree_expr.proofs.Bare as Bare
 use Rattle.minijinja_tree_expr.proofs.NodeRows as NodeRows
 use Rattle.minijinja_tree_expr.proofs.SpannedNodes as SpannedNodes
 use Rattle.minijinja_semantics.specs.Layout as layout
-use Rattle.minijinja_semantics.specs.Marks.{Margin, Marking, chain, comparison, comparisons, expr, here, nowhere_else, ◌⟫◌}
-use Rattle.minijinja_emitter.specs.declared.emit.Site.{Site}
+use Rattle.minijinja_semantics.specs.Marks.{Margin, Marking, chain, comparisons, expr, here, nowhere_else, ◌⟫◌}
 use Rattle.minijinja_emitter.specs.internal.Making.{Made}
 use Rattle.minijinja_emitter.specs.internal.Margins.{closed, replaced}
 use Rattle.minijinja_code_expr.specs.internal.Leading.{After, Ready}
 use Rattle.minijinja_code_expr.specs.internal.NodeMarks.{FinishesMarks, finished, site_of, taken_back}
-use Rattle.minijinja_code_expr.specs.private.ChainMarks.{after_comparison, chain_end, last_comparison, last_of}
+use Rattle.minijinja_code_expr.specs.private.ChainMarks.{after_comparison, chain_end}
 use Rattle.minijinja_semantics.proofs.Runs.{append_nil}
 use Rattle.minijinja_code_expr.proofs.CycleMarks.{place_within, taken_none, taken_some}
 use Rattle.minijinja_code_expr.proofs.NodeMarking.{Later, later_here, later_then, replaced_later}

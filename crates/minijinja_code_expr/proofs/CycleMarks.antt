@@ -1,6 +1,5 @@
 -- How the marks of a node are finished, kind by kind.
-use Rattle.std.proofs.Common.{◌≡◌, ℕ, ◌+◌, ◌≤◌, List, [], ◌∷◌, ◌++◌, length, map, Option, Some, None, true, false, refl, sym, ap, ap₂, ◌∙◌, subst, arith, length-append}
-use Rattle.std.specs.Prelude.{Bool}
+use Rattle.std.proofs.Common.{◌≡◌, ℕ, ◌≤◌, [], length, map, Option, Some, None, refl, sym, ap, ap₂, ◌∙◌, subst, arith, length-append}
 use Rattle.minijinja_syntax.specs.declared.tokens.Span.{Span}
 use Rattle.minijinja_value.specs.Values.{Functions}
 use Rattle.minijinja_tree.specs.BinOps.{BinOp}
@@ -8,17 +7,15 @@ use Rattle.minijinja_tree.specs.Folding.{fold}
 use Rattle.minijinja_tree.specs.Operators.{Working, Makes, Divides, IfTrue, IfFalse, working}
 use Rattle.minijinja_tree.specs.Tree as tree
 use Rattle.minijinja_tree_expr.specs.Tree.{UnaryOp}
-use Rattle.minijinja_tree.specs.SpannedTrees.{Expr, unary, binary, compare, bare_expr}
+use Rattle.minijinja_tree.specs.SpannedTrees.{Expr, unary, binary, bare_expr}
 use Rattle.minijinja_tree.specs.WellFormed.{IsWhole}
-use Rattle.minijinja_semantics.specs.Code.{Instr}
 use Rattle.minijinja_semantics.specs.Layout as layout
-use Rattle.minijinja_semantics.specs.Marks.{Margin, Marking, expr, here, operation, unary_operator, ◌⟫◌}
+use Rattle.minijinja_semantics.specs.Marks.{Margin, Marking, expr, operation, unary_operator, ◌⟫◌}
 use Rattle.minijinja_emitter.specs.declared.emit.Site.{Site}
 use Rattle.minijinja_emitter.specs.internal.Making.{Made, Adds, capped, here_of}
 use Rattle.minijinja_emitter.specs.internal.Margins.{closed, replaced}
 use Rattle.minijinja_code_expr.specs.internal.Leading.{After, Ready, before_right}
-use Rattle.minijinja_code_expr.specs.internal.NodeMarks.{FinishesMarks, ending, finished, site_of, taken_back}
-use Rattle.minijinja_code_expr.specs.private.Operating.{Sides}
+use Rattle.minijinja_code_expr.specs.internal.NodeMarks.{FinishesMarks, finished, site_of, taken_back}
 use Rattle.minijinja_code_expr.specs.private.OperatorMarks.{EndsBinaryMarks, EndsUnaryMarks, after_right_marks, before_right_marks}
 use Rattle.minijinja_semantics.proofs.Runs.{append_nil}
 use Rattle.minijinja_code_expr.proofs.NodeMarking.{Later, expr_later, later_then, replaced_later}

@@ -6,7 +6,7 @@ use Rattle.minijinja_value.specs.Values.{Functions}
 use Rattle.minijinja_tree.specs.BinOps.{BinOp}
 use Rattle.minijinja_tree.specs.Erasure as bare
 use Rattle.minijinja_tree.specs.Folding.{constant_keywords, fold, fold_keywords}
-use Rattle.minijinja_tree.specs.SpannedErasure.{args_of, expr_node}
+use Rattle.minijinja_tree.specs.SpannedErasure.{args_of}
 use Rattle.minijinja_tree.specs.SpannedTrees.{Args, Exprs, bare_args, bare_expr, Expr, list, map, tuple}
 use Rattle.minijinja_tree.specs.Tree as tree
 use Rattle.minijinja_tree.specs.WellFormed.{IsWhole}

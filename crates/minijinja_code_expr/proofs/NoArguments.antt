@@ -1,5 +1,5 @@
 -- A call without arguments adds nothing for them.
-use Rattle.std.proofs.Common.{◌≡◌, ℕ, List, [], ◌∷◌, length, Some, arith, refl, sym, ap, ◌∙◌, subst}
+use Rattle.std.proofs.Common.{◌≡◌, ℕ, List, [], ◌∷◌, length, Some, arith, refl, sym, ap}
 use Rattle.minijinja_value.specs.Values.{Functions}
 use Rattle.minijinja_tree.specs.Erasure.{args_of}
 use Rattle.minijinja_tree.specs.Folding.{fold_keywords}

@@ -1,5 +1,5 @@
 -- The marks of a node are those up to its leading operand, and then what finishes the node.
-use Rattle.std.proofs.Common.{◌≡◌, ℕ, ◌≤◌, List, [], ◌∷◌, ◌++◌, length, take, Option, Some, None, refl, sym, ap, ◌∙◌, subst, arith, append_assoc}
+use Rattle.std.proofs.Common.{◌≡◌, ℕ, ◌≤◌, List, [], ◌++◌, length, take, Option, Some, None, refl, sym, ap, ◌∙◌, arith, append_assoc}
 use Rattle.std.proofs.lemmas.List.{take-append-le, take_all}
 use Rattle.minijinja_syntax.specs.declared.tokens.Span.{Span}
 use Rattle.minijinja_value.specs.Values.{Functions}
@@ -11,7 +11,7 @@ use Rattle.minijinja_semantics.specs.Marks.{Mark, Margin, Marking, here, on_line
 use Rattle.minijinja_semantics.specs.Pieces.{start}
 use Rattle.minijinja_emitter.specs.declared.emit.Site.{Site}
 use Rattle.minijinja_emitter.specs.internal.Margins.{closed, opened, replaced}
-use Rattle.minijinja_code_expr.specs.internal.NodeMarks.{base_node, begun, called_on_node, call_ending, ending, finished, given_marks, leading_node, site_of, taken_back, test_node}
+use Rattle.minijinja_code_expr.specs.internal.NodeMarks.{base_node, begun, called_on_node, call_ending, finished, given_marks, leading_node, site_of, taken_back, test_node}
 use Rattle.minijinja_semantics.proofs.Fitting.{fits_expr}
 
 -- marks were added

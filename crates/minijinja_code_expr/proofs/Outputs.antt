@@ -9,7 +9,6 @@ use Rattle.minijinja_tree.specs.WellFormed.{IsWhole}
 use Rattle.minijinja_tree_expr.specs.declared.ast.CallArg.TheBlock as block
 use Rattle.minijinja_tree_expr.specs.declared.ast.Expr.{Expr}
 use Rattle.minijinja_tree_expr.specs.declared.ast.Expr.TheVariants as expr
-use Rattle.minijinja_tree_expr.specs.declared.ast.Expr.TheVariants.{Compare'}
 use Rattle.minijinja_semantics.specs.Calls.{Recursion, Plain, written_loop, written_super, written_function, written}
 use Rattle.minijinja_semantics.proofs.StatementSimulation.{WrittenWhole, written_whole}
 use Rattle.minijinja_code_expr.specs.declared.output.Output.{Output}

@@ -1,5 +1,5 @@
 -- The marks of nodes that wait for their leading operand, while an expression is marked.
-use Rattle.std.proofs.Common.{◌≡◌, ℕ, List, [], ◌∷◌, ◌++◌, length, Option, Some, None, refl, sym, ap, ap₂, ◌∙◌}
+use Rattle.std.proofs.Common.{◌≡◌, ℕ, List, [], ◌∷◌, ◌++◌, length, Some, None, refl, ap, ap₂, ◌∙◌}
 use Rattle.std.specs.Prelude.{false, is_some, reverse}
 use Rattle.std.proofs.lemmas.List.{reverse-append}
 use Rattle.std.specs.Borrow.{Bor}
@@ -16,7 +16,7 @@ use Rattle.minijinja_tree_expr.proofs.Bare.{expr_is}
 use Rattle.minijinja_code_expr.specs.internal.Leading.{called_on, leading}
 use Rattle.minijinja_code_expr.specs.internal.NodeMarks.{begun, called_on_node, finished, leading_node, test_node}
 use Rattle.minijinja_code_expr.specs.declared.pending.PendingNode.{PendingNode}
-use Rattle.minijinja_code_expr.proofs.NodeMarking.{whole_leaf, whole_plain, whole_tested}
+use Rattle.minijinja_code_expr.proofs.NodeMarking.{whole_plain, whole_tested}
 
 module _ {V K C F : Type 0} (f : Functions C F) (c : V → C) where
   -- what the nodes that wait make of the marks, the last one first

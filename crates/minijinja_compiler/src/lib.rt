@@ -16,3 +16,4 @@ pub use minijinja_parser::parser;
 pub use minijinja_syntax::{error, syntax, tokens};
 pub use minijinja_tree::ast;
 pub use minijinja_value::value;
+pub use minijinja_well_formed::well_formed;

@@ -12,14 +12,14 @@ use Rattle.minijinja_tree.specs.BinOps as bin
 use Rattle.minijinja_tree.specs.Tree as bare
 use Rattle.minijinja_tree.specs.Tree.{logical_not, negation}
 use Rattle.minijinja_tree.specs.SpannedTrees as tree
-use Rattle.minijinja_tree.specs.SpannedTrees.{Expr, bare_expr, bare_exprs, bare_comparisons, exprs_of, comparisons_of}
+use Rattle.minijinja_tree.specs.SpannedTrees.{Expr, bare_expr}
 use Rattle.minijinja_grammar.specs.Words.{is, if_word, else_word, not_word}
 use Rattle.minijinja_grammar.specs.Places.{Place}
 use Rattle.minijinja_grammar.specs.internal.Forms.{Turn, go_on, over, Form, pure, nothing, one, source, start, last, new_name, and_then, either, many, Takes, Turns, no_turn, last_turn, turn, Derives, ◌>>=◌}
-use Rattle.minijinja_grammar.specs.Ahead.{comes, held_next, IsCmpOp, one_token, not_in_words, Level, or_level, and_level, sum_level, cat_level, term_level, operator}
+use Rattle.minijinja_grammar.specs.Ahead.{comes, held_next, Level, or_level, operator}
 use Rattle.minijinja_grammar.specs.internal.ExprForms as g
 use Rattle.minijinja_grammar.specs.Ahead as ahead
-use Rattle.minijinja_grammar.specs.internal.ExprForms.{Below, below}
+use Rattle.minijinja_grammar.specs.internal.ExprForms.{Below}
 use Rattle.minijinja_syntax.specs.Positions.{expanded}
 use Rattle.minijinja_grammar.specs.Expressions.{IsExpr, expr, IsCond, cond, IsIfs, no_if, if_alone, if_else, IsLevel, level, IsRow, no_operator, operation, IsSide, IsNot, opposite, no_not, IsCmp, IsPow, no_power, power, IsUnary, IsOperand, negated, IsPrimary}
 use Rattle.minijinja_grammar.proofs.Reading.{side_form, level_form}

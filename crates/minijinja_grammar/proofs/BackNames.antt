@@ -9,10 +9,9 @@ use Rattle.minijinja_tree.specs.SpannedTrees.{Expr, Arg, Args, bare_expr, Stmt}
 use Rattle.minijinja_grammar.specs.Places.{Place}
 use Rattle.minijinja_grammar.specs.internal.Forms.{Turn, go_on, over, Form, pure, nothing, one, source, start, last, and_then, either, many, Turns, no_turn, last_turn, turn, Derives}
 use Rattle.minijinja_grammar.specs.internal.ExprForms as g
-use Rattle.minijinja_grammar.specs.internal.ExprForms.{Below, below}
+use Rattle.minijinja_grammar.specs.internal.ExprForms.{below}
 use Rattle.minijinja_grammar.specs.internal.TargetForms as t
 use Rattle.minijinja_grammar.specs.internal.StmtForms as form
-use Rattle.minijinja_grammar.specs.internal.StmtForms.{Parts, Within, within}
 use Rattle.minijinja_grammar.proofs.FormNames.{param_items, params_if_any, word_if_any}
 use Rattle.minijinja_grammar.proofs.Forms.{complete, same_read}
 use Rattle.minijinja_grammar.proofs.Reading.{expr_is_derived, all_nested}

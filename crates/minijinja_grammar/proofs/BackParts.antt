@@ -15,7 +15,7 @@ use Rattle.minijinja_grammar.specs.internal.Forms.{go_on, over, pure, one, eithe
 use Rattle.minijinja_grammar.specs.Ahead.{comes, held_next, IsDots, no_dot, dot_part, IsName, plain_name, dotted_name, IsTexts, no_text, one_text, IsCmpOp, one_token, not_in_words, sum_level}
 use Rattle.minijinja_grammar.specs.internal.ExprForms as g
 use Rattle.minijinja_grammar.specs.Ahead as ahead
-use Rattle.minijinja_grammar.specs.internal.ExprForms.{Below, below}
+use Rattle.minijinja_grammar.specs.internal.ExprForms.{Below}
 use Rattle.minijinja_grammar.specs.Expressions.{comparison_of, IsLevel, IsCmp, comparison, AreComparisons, no_comparison, compared_to, AreExprs, no_exprs, exprs, AreMoreExprs, no_more_exprs, more_exprs, IsExprIfAny, no_expr, one_expr, IsStep, no_step, by_step}
 use Rattle.minijinja_grammar.proofs.TokenReading.{append_nil}
 use Rattle.minijinja_grammar.proofs.Reading.{bare_all}

@@ -10,13 +10,12 @@ use Rattle.minijinja_syntax.specs.Streams.{SpannedTok}
 use Rattle.minijinja_syntax.specs.Tokens.{Tok, ident, template_data, block_start, comma, paren_open, paren_close}
 use Rattle.minijinja_tree.specs.Tree as bare
 use Rattle.minijinja_tree.specs.SpannedTrees as tree
-use Rattle.minijinja_tree.specs.SpannedTrees.{Expr, Optional, bare_expr, bare_exprs, bare_optional, bare_args, bare_bindings, bare_names, optional_of, exprs_of, args_of, Stmt, bare_stmt, bare_stmts, stmts_of}
+use Rattle.minijinja_tree.specs.SpannedTrees.{Expr, Optional, bare_expr, bare_optional, bare_names, Stmt, bare_stmts, stmts_of}
 use Rattle.minijinja_grammar.specs.Words.{is, is_reserved, as_word, ignore_word, missing_word, with_word, without_word, context_word, scoped_word}
 use Rattle.minijinja_grammar.specs.Places.{Place}
 use Rattle.minijinja_grammar.specs.internal.Forms.{go_on, over, pure, Takes, Turns, no_turn, last_turn, turn, Derives, ◌>>◌}
 use Rattle.minijinja_grammar.specs.Ahead.{comes, held_next}
 use Rattle.minijinja_grammar.specs.internal.ExprForms as g
-use Rattle.minijinja_grammar.specs.internal.ExprForms.{Below}
 use Rattle.minijinja_grammar.specs.internal.TargetForms as t
 use Rattle.minijinja_grammar.specs.Statements.{IsWordIfAny, no_word, one_word, begins_context, IsContextIfAny, no_context, with_context, without_context, IsIgnoreIfAny, no_ignore, ignore_after_context, ignore, IsEndName, no_end_name, same_name, ends_names, IsImport, import_name, import_alias, AreImports, no_imports, last_import, imports, is_blank, IsBlank, blank_end, blank_data}
 use Rattle.minijinja_grammar.specs.Targets.{AreTargets, IsBound, bound_targets, bound_name}

@@ -7,7 +7,7 @@ use Rattle.minijinja_syntax.specs.declared.tokens.Span.{Span}
 use Rattle.minijinja_syntax.specs.Streams.{SpannedTok}
 use Rattle.minijinja_syntax.specs.Tokens.{Tok, ident, block_end, assign, paren_open, paren_close}
 use Rattle.minijinja_tree.specs.Tree as bare
-use Rattle.minijinja_tree.specs.SpannedTrees.{Expr, bare_expr, bare_optional, bare_args, bare_bindings, bare_names, optional_of, Stmt, bare_stmt, bare_stmts, bare_macro, stmts_of}
+use Rattle.minijinja_tree.specs.SpannedTrees.{bare_expr, bare_optional, bare_args, bare_bindings, optional_of, Stmt, bare_stmt, bare_stmts, bare_macro, stmts_of}
 use Rattle.minijinja_tree.specs.SpannedTrees as stmt
 use Rattle.minijinja_grammar.specs.Words.{in_word, else_word, elif_word, recursive_word, as_word, import_word, required_word, endfor_word, endif_word, endwith_word, endset_word, endautoescape_word, endfilter_word, endblock_word, endmacro_word, endcall_word}
 use Rattle.minijinja_grammar.specs.internal.Keywords.{for_keyword, if_keyword, with_keyword, set_keyword, autoescape_keyword, filter_keyword, block_keyword, extends_keyword, include_keyword, import_keyword, from_keyword, macro_keyword, call_keyword, do_keyword, break_keyword, continue_keyword}

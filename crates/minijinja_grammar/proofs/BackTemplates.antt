@@ -16,7 +16,7 @@ use Rattle.minijinja_grammar.specs.internal.Keywords.{Keyword, for_keyword, if_k
 use Rattle.minijinja_grammar.specs.Places.{Place}
 use Rattle.minijinja_grammar.specs.internal.Forms.{Turn, go_on, over, Form, pure, new_name, and_then, either, many, Turns, no_turn, last_turn, turn, Derives}
 use Rattle.minijinja_grammar.specs.internal.ExprForms as g
-use Rattle.minijinja_grammar.specs.internal.ExprForms.{Below, below}
+use Rattle.minijinja_grammar.specs.internal.ExprForms.{below}
 use Rattle.minijinja_syntax.specs.Positions.{expanded}
 use Rattle.minijinja_grammar.specs.Derived.{max_depth, are_distinct, are_new, IsTemplateTree, template_tree}
 use Rattle.minijinja_grammar.specs.Statements.{Ends, at_end_of_text, at_endfor_or_else, at_endfor, at_endif_else_or_elif, at_endif, at_endwith, at_endset, at_endautoescape, at_endfilter, at_endblock, at_endmacro, at_endcall, Context, outside, inside_loop, inside_block, inside_macro, IsBody}

@@ -9,7 +9,6 @@ use Rattle.minijinja_syntax.specs.declared.tokens.Span.{Span}
 use Rattle.minijinja_syntax.specs.Streams.{SpannedTok}
 use Rattle.minijinja_syntax.specs.Tokens.{Tok, ident, str, string, int, int128, mul, pow, dot, comma, colon, assign, pipe, bracket_open, bracket_close, paren_open, paren_close, brace_open, brace_close}
 use Rattle.minijinja_tree.specs.Tree as bare
-use Rattle.minijinja_tree.specs.Tree.{logical_not, negation}
 use Rattle.minijinja_tree.specs.SpannedTrees as tree
 use Rattle.minijinja_tree.specs.SpannedTrees.{Expr, Arg, bare_expr, bare_optional, bare_exprs, bare_args, optional_of, exprs_of, args_of}
 use Rattle.minijinja_grammar.specs.Words.{is, is_true_word, is_false_word, is_none_word, not_word, is_word, text_of, begins_primary, begins_postfix, begins_suffix, begins_expr, begins_arg}

@@ -1,7 +1,6 @@
 -- Where the nodes of a few texts stand, by the rules alone.
-use Rattle.std.proofs.Common.{◌≡◌, ℕ, suc, false, List, [], ◌∷◌, None, refl}
+use Rattle.std.proofs.Common.{◌≡◌, ℕ, suc, false, List, None, refl}
 use Rattle.minijinja_syntax.specs.Texts.{Text}
-use Rattle.minijinja_syntax.specs.declared.tokens.Span.{Span}
 use Rattle.minijinja_syntax.specs.Streams.{SpannedTok}
 use Rattle.minijinja_syntax.specs.Tokens.{pow}
 use Rattle.minijinja_value.specs.Values.{Functions}

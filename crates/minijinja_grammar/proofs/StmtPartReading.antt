@@ -24,7 +24,7 @@ use Rattle.minijinja_grammar.specs.internal.TargetForms as t
 use Rattle.minijinja_grammar.specs.internal.StmtForms as sf
 use Rattle.minijinja_grammar.specs.Expressions.{IsExpr, AreArgsIfAny}
 use Rattle.minijinja_grammar.specs.Statements as rules
-use Rattle.minijinja_grammar.specs.Statements.{begins_context, ends_names, IsWordIfAny, no_word, one_word, IsContextIfAny, no_context, with_context, without_context, IsIgnoreIfAny, no_ignore, ignore_after_context, ignore, IsEndName, no_end_name, same_name, IsImport, import_name, import_alias, AreImports, no_imports, last_import, imports, all_default, defaults_come_last, defaults_of, IsValue, one_value, values, IsChainRow, first_filter, also_filter, IsChain, chain, IsChainIfAny, no_chain, one_chain, IsFilterIfAny, no_filter, one_filter, AreBindings, no_bindings, bindings, AreSomeBindings, last_binding, more_bindings, AreParams, no_params, param, param_with_default, AreMoreParams, no_more_params, more_params, AreParamsIfAny, no_parentheses, params_in_parentheses}
+use Rattle.minijinja_grammar.specs.Statements.{begins_context, IsWordIfAny, no_word, one_word, IsContextIfAny, no_context, with_context, without_context, IsIgnoreIfAny, no_ignore, ignore_after_context, ignore, IsEndName, no_end_name, same_name, IsImport, import_name, import_alias, AreImports, no_imports, last_import, imports, all_default, defaults_come_last, defaults_of, IsValue, one_value, values, IsChainRow, first_filter, also_filter, IsChain, chain, IsChainIfAny, no_chain, one_chain, IsFilterIfAny, no_filter, one_filter, AreBindings, no_bindings, bindings, AreSomeBindings, last_binding, more_bindings, AreParams, no_params, param, param_with_default, AreMoreParams, no_more_params, more_params, AreParamsIfAny, no_parentheses, params_in_parentheses}
 use Rattle.minijinja_grammar.specs.Targets.{IsBound, bound_targets, bound_name}
 use Rattle.minijinja_grammar.specs.TokenSpans.{first_span}
 use Rattle.minijinja_grammar.specs.SpannedExpressions.{end_of_name, spanned_expr, spanned_args_if_any}

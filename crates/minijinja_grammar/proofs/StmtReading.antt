@@ -8,7 +8,7 @@ use Rattle.minijinja_syntax.specs.Streams.{SpannedTok, Ending}
 use Rattle.minijinja_syntax.specs.Tokens.{Tok, ident, template_data, variable_start, variable_end, block_start, block_end, assign, paren_open, paren_close}
 use Rattle.minijinja_tree.specs.Tree as bare
 use Rattle.minijinja_tree.specs.Tree.{blocks, all_blocks, names_of_blocks, block_names, all_block_names}
-use Rattle.minijinja_tree.specs.SpannedTrees.{Expr, Args, bare_expr, bare_optional, bare_args, bare_bindings, bare_names, bare_list, optional_of, exprs_of, args_of, Stmt, stmts_of, bare_stmt, bare_stmts, bare_macro}
+use Rattle.minijinja_tree.specs.SpannedTrees.{Expr, Args, bare_expr, bare_args, optional_of, Stmt, stmts_of, bare_stmt, bare_stmts, bare_macro}
 use Rattle.minijinja_tree.specs.SpannedTrees as node
 use Rattle.minijinja_grammar.specs.Words.{is, else_word, elif_word, in_word, recursive_word, as_word, import_word, scoped_word, required_word, endfor_word, endif_word, endwith_word, endset_word, endautoescape_word, endfilter_word, endblock_word, endmacro_word, endcall_word}
 use Rattle.minijinja_grammar.specs.internal.Keywords.{Keyword, for_keyword, if_keyword, with_keyword, set_keyword, autoescape_keyword, filter_keyword, block_keyword, extends_keyword, include_keyword, import_keyword, from_keyword, macro_keyword, call_keyword, do_keyword, break_keyword, continue_keyword, keyword_of}

@@ -20,7 +20,7 @@ use Rattle.minijinja_grammar.specs.internal.Forms.{Turn, go_on, Form, pure, Take
 use Rattle.minijinja_grammar.specs.Ahead.{comes, held_next, IsDots, no_dot, dot_part, IsName, plain_name, dotted_name, IsTexts, no_text, one_text, IsCmpOp, one_token, not_in_words}
 use Rattle.minijinja_grammar.specs.internal.ExprForms as g
 use Rattle.minijinja_grammar.specs.Ahead as ahead
-use Rattle.minijinja_grammar.specs.internal.ExprForms.{Below, below}
+use Rattle.minijinja_grammar.specs.internal.ExprForms.{Below}
 use Rattle.minijinja_grammar.specs.Expressions.{IsExpr, IsNot, IsPow, IsOperand, IsPrimary}
 use Rattle.minijinja_grammar.specs.SpannedExpressions.{end_of_name, end_of_texts, end_of_operator, spanned_expr, spanned_not, spanned_pow, spanned_operand, spanned_primary}
 

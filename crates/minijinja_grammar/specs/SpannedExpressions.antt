@@ -6,7 +6,7 @@
 -- comparison begin at the token before them, a filter, a test and the `not` of an `is not` at the name,
 -- and an attribute, an item, a slice and a call at the postfix before them, or at the operand where
 -- there is none.
-use Rattle.std.specs.Prelude.{ℕ, suc, true, false, List, [], ◌∷◌, ◌++◌, Option, Some, None}
+use Rattle.std.specs.Prelude.{ℕ, true, false, List, [], ◌∷◌, ◌++◌, Option, Some, None}
 use Rattle.minijinja_syntax.specs.Texts.{Text}
 use Rattle.minijinja_syntax.specs.Positions.{expanded}
 use Rattle.minijinja_syntax.specs.declared.tokens.Span.{Span}
@@ -20,7 +20,7 @@ use Rattle.minijinja_tree.specs.Tree.{logical_not, negation}
 use Rattle.minijinja_tree.specs.SpannedTrees as tree
 use Rattle.minijinja_tree.specs.SpannedTrees.{Expr, variable, constant, slice, unary, binary, compare, if_expr, filter, test, attribute, item, call, list, tuple, absent, present, Arg, optional_of, exprs_of, comparisons_of, args_of}
 use Rattle.minijinja_grammar.specs.TokenSpans.{first_span}
-use Rattle.minijinja_grammar.specs.Ahead.{IsDots, IsName, plain_name, dotted_name, IsTexts, no_text, one_text, IsCmpOp, one_token, not_in_words, Level, or_level, and_level, sum_level, cat_level, term_level}
+use Rattle.minijinja_grammar.specs.Ahead.{IsName, plain_name, dotted_name, IsTexts, no_text, one_text, IsCmpOp, one_token, not_in_words, Level}
 use Rattle.minijinja_grammar.specs.Expressions.{IsExpr, expr, IsCond, cond, IsIfs, no_if, if_alone, if_else, IsLevel, level, IsRow, no_operator, operation, IsSide, side_of_or, side_of_and, side_of_sum, side_of_cat, side_of_term, IsNot, opposite, no_not, IsCmp, comparison, AreComparisons, no_comparison, compared_to, IsPow, no_power, power, IsUnary, suffixed, IsSuffixed, no_suffix, filtered, tested, tested_not, AreArgsIfAny, no_arguments, arguments, AreTestArgs, no_test_args, in_parentheses, bare_arg, IsOperand, negated, no_minus, IsPostfixed, no_postfix, dot_ident, dot_int, dot_int128, subscript, range, called, IsExprIfAny, no_expr, one_expr, IsStep, no_step, by_step, AreArgs, args, AreArgItems, no_arg, positional, keyword, starred, double_starred, AreMoreArgs, no_more_args, more_args, IsPrimary, true_word, false_word, none_word, name, texts, integer, large_integer, empty_tuple, parentheses, tuple_of, list_of, map_of, AreExprs, no_exprs, exprs, AreMoreExprs, no_more_exprs, more_exprs, AreEntries, no_entries, entries, AreMoreEntries, no_more_entries, more_entries}
 
 -- ---- the last tokens of parts that have no node

@@ -4,7 +4,7 @@ use Rattle.std.specs.Prelude.{List, [], map}
 use Rattle.std.proofs.lemmas.List.{append-nil, at_drop_more, at_drop_all}
 use Rattle.minijinja_tree.specs.SpannedErasure.{stmt_node}
 use Rattle.minijinja_tree.specs.SpannedTrees as tree
-use Rattle.minijinja_tree.specs.SpannedTrees.{Expr, Arg, exprs_of, comparisons_of, stmts_of}
+use Rattle.minijinja_tree.specs.SpannedTrees.{stmts_of}
 use Rattle.minijinja_tree.specs.declared.ast.Stmt.{Stmt}
 use Rattle.minijinja_meta.specs.Mentions.{Way, through_stmt, through_stmts}
 use Rattle.minijinja_meta.specs.declared.walker.Walker.{Walker}

@@ -7,12 +7,12 @@ use Rattle.std.proofs.lemmas.Option.{slice_get-map}
 use Rattle.minijinja_syntax.specs.declared.tokens.Span.{Span}
 use Rattle.minijinja_tree.specs.SpannedErasure.{expr_node, trees, bindings_of, names_of, optional_of}
 use Rattle.minijinja_tree.specs.SpannedTrees as tree
-use Rattle.minijinja_tree.specs.SpannedTrees.{Expr, Arg, exprs_of, comparisons_of}
+use Rattle.minijinja_tree.specs.SpannedTrees.{Expr, exprs_of}
 use Rattle.minijinja_tree_expr.specs.SpannedErasure.{compare_node}
 use Rattle.minijinja_tree_expr.specs.declared.ast.CallArg.TheBlock as block
 use Rattle.minijinja_tree_expr.specs.declared.ast.Expr.{Expr as Node}
 use Rattle.minijinja_tree_expr.specs.declared.ast.Expr.TheVariants as expr
-use Rattle.minijinja_tree_expr.proofs.Targets.{listed}
+use Rattle.minijinja_tree_expr.proofs.Lists.{listed}
 use Rattle.minijinja_meta.specs.Mentions.{Way, through, through_if_any, to_target, to_targets, to_assignments, to_name, to_names, to_defaulted}
 use Rattle.minijinja_meta.specs.declared.walker.Walker.{Walker}
 use Rattle.minijinja_meta.specs.private.Scoped.{IsLogged}

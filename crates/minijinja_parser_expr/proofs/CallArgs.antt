@@ -1,8 +1,7 @@
 -- The arguments of calls, one at a time.
-use Rattle.std.proofs.Common.{◌≡◌, ◌∙◌, Bool, true, false, List, [], ◌∷◌, ◌++◌, ◌||◌, if◌then◌else◌, Option, Some, None, refl, sym, ap}
+use Rattle.std.proofs.Common.{◌≡◌, ◌∙◌, Bool, true, false, List, [], ◌∷◌, ◌++◌, ◌||◌, if◌then◌else◌, Some, None, refl, sym, ap}
 use Rattle.minijinja_syntax.specs.Texts.{Text}
 use Rattle.minijinja_syntax.specs.Tokens.{assign, comma, mul, pow}
-use Rattle.minijinja_tree.specs.SpannedTrees as tree
 use Rattle.minijinja_tree.specs.SpannedTrees.{Expr, Arg, positional, starred, keyword, double_starred}
 use Rattle.minijinja_grammar.specs.Words.{begins_arg}
 use Rattle.minijinja_grammar.specs.Places.{Place}

@@ -8,7 +8,7 @@ use Rattle.minijinja_tree.specs.SpannedTrees.{Expr, binary, compare, comparisons
 use Rattle.minijinja_tree.specs.Erasure.{bin_op}
 use Rattle.minijinja_grammar.specs.Words.{begins_comparison, compare_op}
 use Rattle.minijinja_grammar.specs.Places.{Place}
-use Rattle.minijinja_grammar.specs.internal.Forms.{Form, Turn, go_on, over, pure, one, many, Turns, no_turn, last_turn, turn, Derives, Read, got, short, wrong, read_then, read_turn, reads}
+use Rattle.minijinja_grammar.specs.internal.Forms.{Form, Turn, go_on, over, one, many, Turns, no_turn, last_turn, turn, Derives, Read, got, short, wrong, read_then, read_turn, reads}
 use Rattle.minijinja_grammar.specs.Ahead.{comes}
 use Rattle.minijinja_grammar.specs.internal.ExprForms.{of_kind, compare_operator, comparison, compare_all, expanded}
 use Rattle.minijinja_grammar.specs.internal.Climbing.{comparisons, operation}

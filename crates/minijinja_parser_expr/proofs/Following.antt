@@ -1,5 +1,5 @@
 -- Subscripts, groups, tests and arguments, a step at a time.
-use Rattle.std.proofs.Common.{◌≡◌, ◌∙◌, false, List, [], ◌∷◌, if◌then◌else◌, Option, Some, None, Err, refl, ap}
+use Rattle.std.proofs.Common.{◌≡◌, ◌∙◌, List, [], ◌∷◌, if◌then◌else◌, Option, Some, None, Err, refl, ap}
 use Rattle.minijinja_value.specs.Values.{Functions}
 use Rattle.minijinja_syntax.specs.Tokens.{Tok, brace_close, bracket_close, bracket_open, colon, comma, dot, paren_close, paren_open, pipe}
 use Rattle.minijinja_syntax.specs.Streams.{SpannedTok}

@@ -1,5 +1,5 @@
 -- Operands with their postfixes and suffixes, a turn at a time, and the operators that nest them.
-use Rattle.std.proofs.Common.{◌≡◌, ◌∙◌, ◌<◌, ◌≤◌, arith, length, Bool, true, false, List, [], ◌∷◌, if◌then◌else◌, Some, None, refl, sym, ap}
+use Rattle.std.proofs.Common.{◌≡◌, ◌∙◌, ◌<◌, arith, length, Bool, true, false, List, [], ◌∷◌, if◌then◌else◌, Some, None, refl, sym, ap}
 use Rattle.minijinja_value.specs.Values.{Functions}
 use Rattle.minijinja_syntax.specs.Tokens.{Tok, minus, pow}
 use Rattle.minijinja_syntax.specs.declared.tokens.Span.{Span}

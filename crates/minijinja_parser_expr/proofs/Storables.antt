@@ -8,7 +8,7 @@ use Rattle.minijinja_tree_expr.specs.declared.ast.GetAttr.{GetAttr}
 use Rattle.minijinja_tree_expr.specs.declared.ast.List.{List}
 use Rattle.minijinja_tree_expr.specs.declared.ast.Spanned.{Spanned}
 use Rattle.minijinja_tree_expr.specs.declared.ast.Var.{Var}
-use Rattle.minijinja_tree_expr.proofs.Targets.{listed}
+use Rattle.minijinja_tree_expr.proofs.Lists.{listed}
 use Rattle.minijinja_tree.specs.SpannedErasure.{expr_node}
 use Rattle.minijinja_grammar.specs.internal.StmtForms.{is_storable}
 

@@ -14,6 +14,7 @@ ghost use Rattle.minijinja_parser_expr.specs.private.Turns.{item_at};
 ghost use Rattle.minijinja_tree.specs.SpannedErasure.{expr_node};
 ghost use Rattle.minijinja_tree.specs.SpannedTrees as tree;
 
+use minijinja_nodes::expr_nodes;
 use minijinja_parser_tokens::marks::{Mark, Part};
 use minijinja_parser_tokens::refusal::{Refusal, Wanted};
 use minijinja_parser_tokens::token_stream::TokenStream;
@@ -22,7 +23,6 @@ use minijinja_parser_tokens::words::{is_false_word, is_none_word, is_true_word};
 use minijinja_syntax::error::Expected;
 use minijinja_syntax::tokens::{Span, Token};
 use minijinja_tree::ast::Expr;
-use minijinja_tree_expr::nodes;
 use minijinja_value::value::TemplateValue;
 use std::alloc::{AllocError, Global};
 
@@ -45,7 +45,7 @@ fn constant_word<'s, V: TemplateValue>(
     } else {
         V::none()
     };
-    nodes::constant(alloc, value, span)
+    expr_nodes::constant(alloc, value, span)
 }
 
 /// Makes the constant or the variable that a word stands for.
@@ -60,7 +60,7 @@ pub fn word<'s, V: TemplateValue>(
     if is_true_word(word) || is_false_word(word) || is_none_word(word) {
         return constant_word(alloc, word, span);
     }
-    nodes::variable(alloc, word, span)
+    expr_nodes::variable(alloc, word, span)
 }
 
 /// Reads a number or a text.
@@ -75,7 +75,7 @@ pub fn literal<'s, V: TemplateValue>(
 {
     if let Some(value) = tokens.int_in_view() {
         let from = tokens.skip(Wanted::Part(Expected::Expression))?;
-        return Ok(nodes::constant(alloc, V::of_u64(value), from)?);
+        return Ok(expr_nodes::constant(alloc, V::of_u64(value), from)?);
     }
     if let Some(plain) = tokens.str_in_view() {
         let from = tokens.skip(Wanted::Part(Expected::Expression))?;
@@ -86,7 +86,7 @@ pub fn literal<'s, V: TemplateValue>(
         Token::String(decoded) => joined_text(alloc, tokens, decoded, from),
         Token::Int128(value) => {
             let value = V::of_u128(alloc, *value)?;
-            Ok(nodes::constant(alloc, value, from)?)
+            Ok(expr_nodes::constant(alloc, value, from)?)
         }
         _ => Err(Refusal::Wrong(Wanted::Part(Expected::Expression))),
     }
@@ -109,8 +109,8 @@ pub fn numbered<'s, V: TemplateValue>(
         Token::Int128(value) => V::of_u128(alloc, *value)?,
         _ => return Err(Refusal::Wrong(Wanted::Part(Expected::Identifier))),
     };
-    let index = nodes::constant(alloc, index, at)?;
-    Ok(nodes::item(alloc, expr, index, tokens.expand_span(from))?)
+    let index = expr_nodes::constant(alloc, index, at)?;
+    Ok(expr_nodes::item(alloc, expr, index, tokens.expand_span(from))?)
 }
 
 /// Makes the constant of a text.
@@ -122,7 +122,7 @@ fn constant_text<'s, V: TemplateValue>(
     ensures { IfOk result
         (λ e. expr_node V.contents e ≡ tree.constant (V.functions.of_str text.now) span) }
 {
-    nodes::constant(alloc, V::of_str(alloc, text)?, span)
+    expr_nodes::constant(alloc, V::of_str(alloc, text)?, span)
 }
 
 /// Reads the strings after a string without escapes, and joins them to it.

@@ -12,6 +12,7 @@ ghost use Rattle.minijinja_parser_tokens.specs.internal.Reads.{Reads};
 
 use crate::atoms;
 use crate::builder::{Argument, ExprBuilder, Node};
+use minijinja_nodes::expr_nodes;
 use minijinja_parser_tokens::marks::Mark;
 use minijinja_parser_tokens::refusal::{Refusal, Wanted};
 use minijinja_parser_tokens::token_stream::TokenStream;
@@ -20,7 +21,6 @@ use minijinja_syntax::error::Expected;
 use minijinja_syntax::syntax::SyntaxConfig;
 use minijinja_syntax::tokens::Span;
 use minijinja_tree::ast::{CallArg, CompareOp, CompareOpKind, Expr};
-use minijinja_tree_expr::nodes;
 use minijinja_value::value::TemplateValue;
 use std::alloc::{AllocError, Global};
 use std::marker::PhantomData;
@@ -107,7 +107,7 @@ impl<'s, 'c, V: TemplateValue> ExprBuilder for TreeExprs<'s, 'c, V> {
         };
         tokens.skip(Wanted::Part(Expected::Identifier))?;
         let span = tokens.expand_span(from);
-        Ok(nodes::attribute(self.alloc, expr, name, span)?)
+        Ok(expr_nodes::attribute(self.alloc, expr, name, span)?)
     }
 
     /// The text from the first part of the name to its last.
@@ -161,22 +161,22 @@ impl<'s, 'c, V: TemplateValue> ExprBuilder for TreeExprs<'s, 'c, V> {
     {
         let alloc = self.alloc;
         match node {
-            Node::Item(expr, subscript_expr) => nodes::item(alloc, expr, subscript_expr, span),
+            Node::Item(expr, subscript_expr) => expr_nodes::item(alloc, expr, subscript_expr, span),
             Node::Slice(expr, start, stop, step) => {
-                nodes::slice(alloc, expr, start, stop, step, span)
+                expr_nodes::slice(alloc, expr, start, stop, step, span)
             }
-            Node::UnaryOp(op, expr) => nodes::unary(alloc, op, expr, span),
-            Node::BinOp(op, left, right) => nodes::binary(alloc, op, left, right, span),
-            Node::Compare(expr, ops) => nodes::compare(alloc, expr, ops, span),
+            Node::UnaryOp(op, expr) => expr_nodes::unary(alloc, op, expr, span),
+            Node::BinOp(op, left, right) => expr_nodes::binary(alloc, op, left, right, span),
+            Node::Compare(expr, ops) => expr_nodes::compare(alloc, expr, ops, span),
             Node::IfExpr(test_expr, true_expr, false_expr) => {
-                nodes::if_expr(alloc, test_expr, true_expr, false_expr, span)
+                expr_nodes::if_expr(alloc, test_expr, true_expr, false_expr, span)
             }
-            Node::Filter(name, expr, args) => nodes::filter(alloc, name, expr, args, span),
-            Node::Test(name, expr, args) => nodes::test(alloc, name, expr, args, span),
-            Node::Call(expr, args) => nodes::call(alloc, expr, args, span),
-            Node::List(items) => nodes::list(alloc, items, span),
-            Node::Tuple(items) => nodes::tuple(alloc, items, span),
-            Node::Map(keys, values) => nodes::map(alloc, keys, values, span),
+            Node::Filter(name, expr, args) => expr_nodes::filter(alloc, name, expr, args, span),
+            Node::Test(name, expr, args) => expr_nodes::test(alloc, name, expr, args, span),
+            Node::Call(expr, args) => expr_nodes::call(alloc, expr, args, span),
+            Node::List(items) => expr_nodes::list(alloc, items, span),
+            Node::Tuple(items) => expr_nodes::tuple(alloc, items, span),
+            Node::Map(keys, values) => expr_nodes::map(alloc, keys, values, span),
         }
     }
 }

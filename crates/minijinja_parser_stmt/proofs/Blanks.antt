@@ -5,7 +5,7 @@ use Rattle.minijinja_syntax.specs.Streams.{SpannedTok}
 use Rattle.minijinja_syntax.specs.declared.tokens.Span.{Span}
 use Rattle.minijinja_tree.specs.SpannedTrees.{Stmt, data_text}
 use Rattle.minijinja_grammar.specs.Places.{Place}
-use Rattle.minijinja_grammar.specs.internal.Forms.{Turn, go_on, one, pure, Read, got, short, wrong, misfit, read_then, after, held_or_wrong, read_one, read_turn, if_held, read_any, reads}
+use Rattle.minijinja_grammar.specs.internal.Forms.{Turn, go_on, one, pure, Read, got, short, wrong, misfit, read_then, after, read_one, read_turn, read_any, reads}
 use Rattle.minijinja_grammar.specs.Ahead.{comes}
 use Rattle.minijinja_grammar.specs.internal.ExprForms.{when}
 use Rattle.minijinja_grammar.specs.internal.StmtForms.{any_token, blank_body, blank_part}

@@ -6,7 +6,7 @@ use Rattle.minijinja_syntax.specs.declared.tokens.Span.{Span}
 use Rattle.minijinja_value.specs.Values.{Functions}
 use Rattle.minijinja_tree.specs.SpannedTrees.{Stmt}
 use Rattle.minijinja_grammar.specs.Places.{Place}
-use Rattle.minijinja_grammar.specs.internal.Forms.{Turn, go_on, over, one, Read, got, short, wrong, misfit, read_then, after, held_or_wrong, read_one, read_turn, if_held, read_any, reads}
+use Rattle.minijinja_grammar.specs.internal.Forms.{Turn, go_on, over, one, Read, got, short, wrong, misfit, read_then, after, read_one, read_turn, read_any, reads}
 use Rattle.minijinja_grammar.specs.Ahead.{comes}
 use Rattle.minijinja_grammar.specs.internal.ExprForms.{expr_at}
 use Rattle.minijinja_grammar.specs.Statements.{Context, Ends, ends_body}

@@ -10,10 +10,10 @@ ghost use Rattle.minijinja_tree.specs.SpannedErasure.{expr_node, stmt_node};
 ghost use Rattle.minijinja_parser_stmt.specs.internal.Made.{HasParts, is_call, statement_tree};
 ghost use Rattle.minijinja_parser_stmt.specs.declared.builder.Kind.TheVariants as kind;
 
+use minijinja_nodes::stmt_nodes;
 use minijinja_parser_stmt::builder::{Kind, StatementParts};
 use minijinja_syntax::tokens::Span;
 use minijinja_tree::ast::{Call, Expr, FromImport, Import, Set, Spanned, Stmt};
-use minijinja_tree::nodes;
 use minijinja_value::value::TemplateValue;
 use std::alloc::{AllocError, Global};
 use std::mem;
@@ -32,7 +32,7 @@ fn assignment<'s, V: TemplateValue>(
 {
     let target = parts.target.take().unwrap();
     let expr = parts.expr.take().unwrap();
-    nodes::assignment(alloc, Set { target, expr }, span)
+    stmt_nodes::assignment(alloc, Set { target, expr }, span)
 }
 
 /// A template.
@@ -45,7 +45,7 @@ fn template<'s, V: TemplateValue>(
     ensures tree { IfOk result (λ s. stmt_node V.contents s ≡ statement_tree (λ x. x.now)
         (expr_node V.contents) (stmt_node V.contents) parts.old span) }
 {
-    nodes::template(alloc, taken(alloc, &mut parts.body), span)
+    stmt_nodes::template(alloc, taken(alloc, &mut parts.body), span)
 }
 
 /// A loop.
@@ -65,7 +65,7 @@ fn for_loop<'s, V: TemplateValue>(
     let filter = parts.filter.take();
     let body = taken(alloc, &mut parts.body);
     let else_body = taken(alloc, &mut parts.else_body);
-    nodes::for_loop(
+    stmt_nodes::for_loop(
         alloc, target, iter, filter, parts.flag, body, else_body, span,
     )
 }
@@ -84,7 +84,7 @@ fn if_cond<'s, V: TemplateValue>(
     let expr = parts.expr.take().unwrap();
     let body = taken(alloc, &mut parts.body);
     let else_body = taken(alloc, &mut parts.else_body);
-    nodes::if_cond(alloc, expr, body, else_body, span)
+    stmt_nodes::if_cond(alloc, expr, body, else_body, span)
 }
 
 /// A scope with assignments.
@@ -98,7 +98,7 @@ fn with_block<'s, V: TemplateValue>(
         (expr_node V.contents) (stmt_node V.contents) parts.old span) }
 {
     let assignments = taken(alloc, &mut parts.assignments);
-    nodes::with_block(alloc, assignments, taken(alloc, &mut parts.body), span)
+    stmt_nodes::with_block(alloc, assignments, taken(alloc, &mut parts.body), span)
 }
 
 /// An assignment of the output of a body.
@@ -114,7 +114,7 @@ fn set_block<'s, V: TemplateValue>(
 {
     let target = parts.target.take().unwrap();
     let body = taken(alloc, &mut parts.body);
-    nodes::set_block(alloc, target, parts.filter.take(), body, span)
+    stmt_nodes::set_block(alloc, target, parts.filter.take(), body, span)
 }
 
 /// A body that is escaped or not.
@@ -129,7 +129,7 @@ fn auto_escape<'s, V: TemplateValue>(
         (expr_node V.contents) (stmt_node V.contents) parts.old span) }
 {
     let expr = parts.expr.take().unwrap();
-    nodes::auto_escape(alloc, expr, taken(alloc, &mut parts.body), span)
+    stmt_nodes::auto_escape(alloc, expr, taken(alloc, &mut parts.body), span)
 }
 
 /// Filters on the output of a body.
@@ -144,7 +144,7 @@ fn filter_block<'s, V: TemplateValue>(
         (expr_node V.contents) (stmt_node V.contents) parts.old span) }
 {
     let expr = parts.expr.take().unwrap();
-    nodes::filter_block(alloc, expr, taken(alloc, &mut parts.body), span)
+    stmt_nodes::filter_block(alloc, expr, taken(alloc, &mut parts.body), span)
 }
 
 /// A block.
@@ -160,7 +160,7 @@ fn named_block<'s, V: TemplateValue>(
 {
     let name = parts.name.unwrap();
     let body = taken(alloc, &mut parts.body);
-    nodes::named_block(alloc, name, parts.flag, body, span)
+    stmt_nodes::named_block(alloc, name, parts.flag, body, span)
 }
 
 /// The template whose blocks this one overrides.
@@ -174,7 +174,7 @@ fn extends<'s, V: TemplateValue>(
     ensures tree { IfOk result (λ s. stmt_node V.contents s ≡ statement_tree (λ x. x.now)
         (expr_node V.contents) (stmt_node V.contents) parts.old span) }
 {
-    nodes::extends(alloc, parts.expr.take().unwrap(), span)
+    stmt_nodes::extends(alloc, parts.expr.take().unwrap(), span)
 }
 
 /// A template that is included.
@@ -188,7 +188,7 @@ fn include<'s, V: TemplateValue>(
     ensures tree { IfOk result (λ s. stmt_node V.contents s ≡ statement_tree (λ x. x.now)
         (expr_node V.contents) (stmt_node V.contents) parts.old span) }
 {
-    nodes::include(alloc, parts.expr.take().unwrap(), parts.flag, span)
+    stmt_nodes::include(alloc, parts.expr.take().unwrap(), parts.flag, span)
 }
 
 /// A template whose exports are stored to a target.
@@ -205,7 +205,7 @@ fn import_all<'s, V: TemplateValue>(
 {
     let name = parts.target.take().unwrap();
     let expr = parts.expr.take().unwrap();
-    nodes::import_all(alloc, Import { expr, name }, span)
+    stmt_nodes::import_all(alloc, Import { expr, name }, span)
 }
 
 /// Names that are imported from a template.
@@ -221,7 +221,7 @@ fn from_import<'s, V: TemplateValue>(
 {
     let expr = parts.expr.take().unwrap();
     let names = taken(alloc, &mut parts.names);
-    nodes::from_import(alloc, FromImport { expr, names }, span)
+    stmt_nodes::from_import(alloc, FromImport { expr, names }, span)
 }
 
 /// A macro.
@@ -237,7 +237,7 @@ fn declared<'s, V: TemplateValue>(
 {
     let name = parts.name.unwrap();
     let names = taken(alloc, &mut parts.names);
-    nodes::declared(alloc, name, names, taken(alloc, &mut parts.body), span)
+    stmt_nodes::declared(alloc, name, names, taken(alloc, &mut parts.body), span)
 }
 
 /// The output of a call to which a macro is passed.
@@ -253,7 +253,7 @@ fn call_block<'s, V: TemplateValue>(
 {
     let call = call_of(parts.expr.take());
     let names = taken(alloc, &mut parts.names);
-    nodes::call_block(alloc, call, names, taken(alloc, &mut parts.body), span)
+    stmt_nodes::call_block(alloc, call, names, taken(alloc, &mut parts.body), span)
 }
 
 /// A call whose result is dropped.
@@ -267,7 +267,7 @@ fn do_call<'s, V: TemplateValue>(
     ensures tree { IfOk result (λ s. stmt_node V.contents s ≡ statement_tree (λ x. x.now)
         (expr_node V.contents) (stmt_node V.contents) parts.old span) }
 {
-    nodes::do_call(alloc, call_of(parts.expr.take()), span)
+    stmt_nodes::do_call(alloc, call_of(parts.expr.take()), span)
 }
 
 /// The call that an expression is.
@@ -315,7 +315,7 @@ pub fn statement<'s, V: TemplateValue>(
         Kind::Macro => declared(alloc, parts, span),
         Kind::CallBlock => call_block(alloc, parts, span),
         Kind::Do => do_call(alloc, parts, span),
-        Kind::Break => nodes::break_loop(alloc, span),
-        Kind::Continue => nodes::continue_loop(alloc, span),
+        Kind::Break => stmt_nodes::break_loop(alloc, span),
+        Kind::Continue => stmt_nodes::continue_loop(alloc, span),
     }
 }

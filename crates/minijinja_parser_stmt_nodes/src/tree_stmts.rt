@@ -14,6 +14,7 @@ ghost use Rattle.minijinja_parser_stmt.specs.internal.Made.{HasParts, opening_of
 ghost use Rattle.minijinja_parser_stmt_nodes.specs.private.AnyParts.{AreComplete, parts_tree};
 
 use crate::of_parts;
+use minijinja_nodes::{expr_nodes, stmt_nodes};
 use minijinja_parser_expr::expressions::expression;
 use minijinja_parser_expr::tree_exprs::TreeExprs;
 use minijinja_parser_stmt::builder::{Opening, StatementParts, StmtBuilder, Target};
@@ -24,8 +25,6 @@ use minijinja_parser_tokens::token_stream::TokenStream;
 use minijinja_parser_tokens::tokens::{ident, new_ident};
 use minijinja_syntax::tokens::{Span, Token};
 use minijinja_tree::ast::{Expr, Stmt};
-use minijinja_tree::nodes as tree_nodes;
-use minijinja_tree_expr::nodes;
 use minijinja_value::value::TemplateValue;
 use std::alloc::{AllocError, Global};
 use std::marker::PhantomData;
@@ -74,8 +73,8 @@ impl<'s, V: TemplateValue> OfParts<'s, V> for Stmt<'s, V> {
             (expr_node V.contents) (stmt_node V.contents) parts.entry span) }
     {
         match parts {
-            AnyParts::Data(raw) => tree_nodes::data(alloc, raw, span),
-            AnyParts::Output(expr) => tree_nodes::output(alloc, expr, span),
+            AnyParts::Data(raw) => stmt_nodes::data(alloc, raw, span),
+            AnyParts::Output(expr) => stmt_nodes::output(alloc, expr, span),
             AnyParts::Other(mut parts) => of_parts::statement(alloc, &mut parts, span),
         }
     }
@@ -168,9 +167,9 @@ impl<'s, 'c, V: TemplateValue, S: OfParts<'s, V>> StmtBuilder for TreeStmts<'s, 
     {
         let alloc = self.nodes.alloc;
         match target {
-            Target::Name(name) => nodes::variable(alloc, name, span),
-            Target::Attribute(expr, name) => nodes::attribute(alloc, expr, name, span),
-            Target::List(items) => nodes::list(alloc, items, span),
+            Target::Name(name) => expr_nodes::variable(alloc, name, span),
+            Target::Attribute(expr, name) => expr_nodes::attribute(alloc, expr, name, span),
+            Target::List(items) => expr_nodes::list(alloc, items, span),
         }
     }
 

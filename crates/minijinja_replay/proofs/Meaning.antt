@@ -1,5 +1,5 @@
 -- A run of code that does what is meant goes as that is meant.
-use Rattle.std.proofs.Common.{rules, inl, inr, ◌≡◌, ℕ, ◌+◌, ◌*◌, ◌<◌, ◌≤◌, List, [], ◌∷◌, ◌++◌, length, map, Option, Some, None, IsSome, refl, ap, ◌∙◌, sym, subst, arith}
+use Rattle.std.proofs.Common.{rules, inl, inr, ◌≡◌, ℕ, ◌+◌, ◌<◌, ◌≤◌, List, [], ◌∷◌, ◌++◌, map, Option, Some, None, IsSome, refl, ap, ◌∙◌, sym, subst, arith}
 use Rattle.std.specs.Prelude.{◌⊎◌, Bool, reverse}
 use Rattle.std.proofs.lemmas.List.{append-nil, reverse-reverse}
 use Rattle.std.proofs.lemmas.Bool.{cases_lt}
@@ -11,7 +11,7 @@ use Rattle.minijinja_semantics.specs.Events as event
 use Rattle.minijinja_semantics.specs.Events.{Did, Event, Gave, Ended, World}
 use Rattle.minijinja_semantics.specs.Machine.{State, At, Returned, Halted, Jammed, Asked, AtPlace, AtReturn, Finish, finished, run, traced}
 use Rattle.minijinja_semantics.specs.Naming.{event_of, record_as, state_as}
-use Rattle.minijinja_replay.specs.Replay.{Ending, Finished, Stopped, IsRun, ending, ending_after, end_of, finish_of, noted, operands_of, place_of, record_of, steps_of}
+use Rattle.minijinja_replay.specs.Replay.{IsRun, ending, end_of, finish_of, noted, operands_of, place_of, record_of, steps_of}
 use Rattle.minijinja_replay.specs.Meant.{IsMeant, ending_meant, events_of, operands_meant, record_meant}
 use Rattle.minijinja_replay.specs.declared.replay.Entry.{Entry}
 use Rattle.minijinja_replay.specs.declared.replay.Event.{Event as Row}

@@ -6,7 +6,7 @@ use Rattle.minijinja_value.specs.Values.{Functions}
 use Rattle.minijinja_tree.specs.Operators.{compute}
 use Rattle.minijinja_tree.specs.Comparisons.{compares}
 use Rattle.minijinja_semantics.specs.Events as event
-use Rattle.minijinja_semantics.specs.Events.{Kind, Event, Answer, Fault, Values, World, Stop, Did, Gave, Ended, Act, next, choose, operated, fitted, answered, ask, none_fits, one_fits, item_fits, so_many_fit, all_fit}
+use Rattle.minijinja_semantics.specs.Events.{Kind, Answer, Fault, Values, World, Did, Gave, Ended, Act, next, operated, fitted, answered, ask, none_fits, one_fits, item_fits, so_many_fit, all_fit}
 use Rattle.minijinja_semantics.specs.Code.{Instr, Load, Do, Call, Apply, UnpackList, PushLoop, Iterate, PopLoopFrame, PushDidNotIterate, BuildMacro, Operate, Neg, Not, IsUndefined, CompareAndPreserve, BuildMap, BuildKwargs, BuildList, BuildTuple, DupTop, DiscardTop, Swap, Jump, JumpIfFalse, JumpIfFalseOrPop, JumpIfTrueOrPop, Return}
 use Rattle.minijinja_semantics.specs.Machine.{State, At, Returned, Halted, Jammed, after, Size, Nothing, OneValue, AllValues, size, popped, popped_pairs, popped_counted, Notes, did, asked, built, on_one, on_two, in_loop, iterated, act, Finish, is_over, step, run}
 use Rattle.minijinja_semantics.specs.Naming.{record_as, world_as, did_as, state_as}

@@ -7,7 +7,7 @@ use Rattle.minijinja_tree.specs.Operators.{Add, compute}
 use Rattle.minijinja_tree.specs.Comparisons.{compares}
 use Rattle.minijinja_tree.specs.Folding.{fold, if_some, fold_on, fold_keywords}
 use Rattle.minijinja_semantics.specs.Events as events
-use Rattle.minijinja_semantics.specs.Events.{Kind, EmitRaw, Emit, Lookup, StoreLocal, SetAttr, FastRecurse, ApplyFilter, CallFunction, PushWith, PopFrame, PushAutoEscape, PopAutoEscape, BeginCapture, EndCapture, Capture, Answer, Values, Starved, Event, World, event, next, choose, operated, fitted, answered, ask}
+use Rattle.minijinja_semantics.specs.Events.{Kind, EmitRaw, Emit, Lookup, StoreLocal, SetAttr, FastRecurse, ApplyFilter, CallFunction, PushWith, PopFrame, PushAutoEscape, PopAutoEscape, BeginCapture, EndCapture, Capture, Answer, Values, Starved, Event, event, next, choose, operated, fitted, answered, ask}
 use Rattle.minijinja_semantics.specs.Meaning.{keyword_map, spread, if_on, with_item, turns, all_turns, stmt}
 use Rattle.minijinja_semantics.specs.Machine.{State, At, Halted, after, iterated, AtPlace, run, step, asked, did, built, popped, popped_by, popped_counted, popped_pairs, traced}
 use Rattle.minijinja_semantics.specs.Naming.{state_as, event_of}

@@ -17,7 +17,7 @@ use Rattle.minijinja_semantics.specs.Calls.{Plain, written, written_call, writte
 use Rattle.std.specs.Prelude.{codes, bytes_eq}
 use Rattle.std.proofs.lemmas.List.{reverse-append}
 use Rattle.minijinja_semantics.specs.Marks as marks
-use Rattle.minijinja_semantics.specs.Marks.{Mark, Margin, Marking, mark_now, here, within, on_line, ◌⟫◌, nowhere_else, span_of, closing_count}
+use Rattle.minijinja_semantics.specs.Marks.{Margin, Marking, mark_now, here, within, on_line, ◌⟫◌, nowhere_else, span_of, closing_count}
 use Rattle.minijinja_semantics.specs.Looks.{AreMarksOf, AreSeen, sights, write_looks, looped_looks, Look, look, looks, optional_looks, positional_looks, keyword_looks, target_looks, targets_looks, assigned_looks, taken_looks, imported_looks, stored_looks, stmt_looks, stmts_looks, macro_looks}
 use Rattle.minijinja_semantics.proofs.Fitting.{Fit, Fits, FitsOut, fit_then, fit_one, fit_more, fits_nothing, fits_then, fits_here, fits_within, fits_alone, fits_end, fits_end_alone, fits_quiet, fits_plain, fits_skipping, fits_expr, fits_positional, fits_keyword, fits_base, fits_called, fits_merged, fits_spreading, append_nil, seen_now, wider}
 

@@ -1,5 +1,5 @@
 -- The words of refusals.
-use Rattle.std.specs.Prelude.{ℕ, codes, ◌++◌}
+use Rattle.std.specs.Prelude.{codes, ◌++◌}
 use Rattle.std.specs.Fmt.{decimal}
 use Rattle.minijinja_syntax.specs.Texts.{Text}
 use Rattle.minijinja_syntax.specs.TokenWords.{token_words}

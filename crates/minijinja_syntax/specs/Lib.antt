@@ -1,5 +1,5 @@
-pub mod Texts
-pub mod Quotes
+pub use Rattle.minijinja_text.specs.Quotes
+pub use Rattle.minijinja_text.specs.Texts
 pub mod TokenWords
 pub mod SpanWords
 pub mod Tokens

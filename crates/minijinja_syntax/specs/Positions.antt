@@ -1,12 +1,9 @@
 -- Positions, by counting over the text before a place.
-use Rattle.std.specs.Prelude.{ℕ, ◌+◌, ◌-◌, Bool, not, nat_lt, ◌==◌, ◌||◌, min, take, drop, reverse, count_by}
+pub use Rattle.minijinja_text.specs.Texts.{slice}
+use Rattle.std.specs.Prelude.{ℕ, ◌+◌, Bool, not, nat_lt, ◌==◌, ◌||◌, min, take, reverse, count_by}
 use Rattle.std.specs.List.{prefix_len}
 use Rattle.minijinja_syntax.specs.Texts.{Text}
 use Rattle.minijinja_syntax.specs.declared.tokens.Span.{Span}
-
--- the text from start to stop
-abbrev pub slice : Text → (start stop : ℕ) → Text
-slice text start stop = take (stop - start) (drop start text)
 
 -- `\n`
 abbrev pub is_newline : ℕ → Bool

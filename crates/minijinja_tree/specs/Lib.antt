@@ -15,4 +15,3 @@ pub mod SpannedErasure
 pub mod WellFormed
 pub mod Standing
 pub mod FreeNames
-pub mod internal

@@ -2,7 +2,7 @@
 use Rattle.std.proofs.Common.{◌≡◌, refl, ap, ap₂, ◌∙◌}
 use Rattle.std.specs.Prelude.{List, [], ◌∷◌, Option, Some, None}
 use Rattle.minijinja_tree_expr.specs.Erasure.{expr_tree, optional_tree, exprs_tree, args_tree, arg_tree, compare_tree, comparisons_tree, optional_of, args_of, assignments_of}
-use Rattle.minijinja_tree_expr.specs.SpannedErasure.{expr_node, optional_node, exprs_node, args_node, arg_node, compare_node, comparisons_node, arg_view, bindings_of}
+use Rattle.minijinja_tree_expr.specs.SpannedErasure.{expr_node, optional_node, exprs_node, args_node, arg_node, compare_node, comparisons_node, bindings_of}
 use Rattle.minijinja_tree_expr.specs.SpannedErasure as spanned
 use Rattle.minijinja_tree_expr.specs.SpannedTrees.{bare_expr, bare_optional, bare_exprs, bare_args, bare_comparisons, bare_bindings, Args}
 use Rattle.minijinja_tree_expr.specs.Tree as tree

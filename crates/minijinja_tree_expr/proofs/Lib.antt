@@ -1,15 +1,11 @@
 pub mod SpannedNodes
 pub mod Sizes
-pub mod FilterChains
-pub mod Targets
+pub mod Lists
 pub mod Descriptions
 pub mod ConstantItems
 pub mod Chains
 pub mod FoldingSteps
 pub mod FoldedOutcomes
 pub mod KeywordItems
-pub mod WellFormedTesting
-pub mod WellFormedCounts
-pub mod WellFormedSides
 pub mod Bare
 pub mod NodeRows

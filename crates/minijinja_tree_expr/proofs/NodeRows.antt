@@ -1,5 +1,5 @@
 -- The trees and the spans of nodes, by the items of their own lists.
-use Rattle.std.proofs.Common.{◌≡◌, ◌≤◌, length, arith, [], ◌∷◌, Option, Some, None, refl, sym, ap, ap₂, ◌∙◌, subst}
+use Rattle.std.proofs.Common.{◌≡◌, ◌∷◌, Option, Some, None, refl, sym, ap, ap₂, ◌∙◌}
 use Rattle.std.proofs.Common as std
 use Rattle.minijinja_tree_expr.specs.Nodes.{node_of, span_of}
 use Rattle.minijinja_tree_expr.specs.SpannedTrees as tree
@@ -20,7 +20,7 @@ use Rattle.minijinja_tree_expr.specs.declared.ast.Test.{Test}
 use Rattle.minijinja_tree_expr.specs.declared.ast.Tuple.{Tuple}
 use Rattle.minijinja_tree_expr.specs.declared.ast.Expr.{Expr, back-Filter-expr}
 use Rattle.minijinja_tree_expr.specs.declared.ast.Expr.TheVariants as expr
-use Rattle.minijinja_tree_expr.specs.declared.ast.Expr.TheVariants.{Compare', List', Tuple', Map', Call', Test', Filter'}
+use Rattle.minijinja_tree_expr.specs.declared.ast.Expr.TheVariants.{List', Tuple', Map', Call', Test', Filter'}
 use Rattle.minijinja_tree_expr.specs.SpannedTrees.{Arg, args_of, comparisons_of, exprs_of}
 use Rattle.minijinja_tree_expr.specs.SpannedErasure.{any_tree, trees, arg_view, args_view, all_compared}
 

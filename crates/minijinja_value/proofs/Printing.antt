@@ -4,7 +4,7 @@ use Rattle.std.specs.Prelude.{codes}
 use Rattle.std.specs.List.{flat_map}
 use Rattle.std.proofs.lemmas.List.{take_more, append-nil, map-append, length-map, length-take}
 use Rattle.std.proofs.lemmas.List.Concat.{flat_map-append}
-use Rattle.minijinja_syntax.specs.Texts.{Text}
+use Rattle.minijinja_text.specs.Texts.{Text}
 use Rattle.minijinja_value.specs.ValueWords.{words, joined, tuple_words, each_words, pair_words}
 use Rattle.minijinja_value.specs.ValueViews.{contents_of, items_view, pairs_view}
 use Rattle.minijinja_value.specs.declared.value.Value.{Value}

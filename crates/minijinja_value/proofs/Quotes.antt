@@ -4,9 +4,8 @@ use Rattle.std.proofs.Math.Seq.{take-length}
 use Rattle.std.proofs.lemmas.List.{take_more, get_or-drop, append-nil}
 use Rattle.std.proofs.lemmas.List.Concat.{flat_map-append}
 use Rattle.std.specs.List.{flat_map}
-use Rattle.minijinja_syntax.specs.Texts.{Text}
-use Rattle.minijinja_syntax.specs.Positions.{slice}
-use Rattle.minijinja_syntax.specs.Quotes.{escaped, quoted, quote_mark}
+use Rattle.minijinja_text.specs.Texts.{Text, slice}
+use Rattle.minijinja_text.specs.Quotes.{escaped, quoted, quote_mark}
 
 -- the bytes from `start` to `i` stand for themselves
 pub record ArePlain (text : Text) (start i : ℕ) : Type 0 where

@@ -1,6 +1,6 @@
 -- What a `Value` holds.
 use Rattle.std.specs.Prelude.{Bool, ℤ, List, [], ◌∷◌}
-use Rattle.minijinja_syntax.specs.Texts.{Text}
+use Rattle.minijinja_text.specs.Texts.{Text}
 
 mutual
   pub data Contents : Type 0 where

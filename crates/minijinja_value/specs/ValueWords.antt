@@ -2,8 +2,8 @@
 use Rattle.std.specs.Prelude.{true, false, codes, List, [], ◌∷◌, ◌++◌}
 use Rattle.std.specs.Fmt.{signed_decimal}
 use Rattle.std.specs.List.{flat_map}
-use Rattle.minijinja_syntax.specs.Texts.{Text}
-use Rattle.minijinja_syntax.specs.Quotes.{quoted}
+use Rattle.minijinja_text.specs.Texts.{Text}
+use Rattle.minijinja_text.specs.Quotes.{quoted}
 use Rattle.minijinja_value.specs.ValueContents.{Contents, undefined, silent_undefined, none, truth, integer, text, list, tuple, mapping, keywords, Items, no_items, item, Pairs, no_pairs, pair}
 
 -- texts with `, ` between them

@@ -1,7 +1,7 @@
 -- What a value type does, seen as functions of what its values hold.
 use Rattle.std.specs.Prelude.{ℕ, Bool, List, Option, Result}
 use Rattle.std.specs.declared.cmp.Ordering.{Ordering}
-use Rattle.minijinja_syntax.specs.Texts.{Text}
+use Rattle.minijinja_text.specs.Texts.{Text}
 
 -- the functions of a value type on contents; operators may return a fault
 pub record Functions (Contents FaultContents : Type 0) : Type 0 where

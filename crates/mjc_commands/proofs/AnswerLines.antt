@@ -20,7 +20,7 @@ use Rattle.minijinja_tree_expr.specs.declared.ast.Expr.TheVariants as expr
 use Rattle.minijinja_tree_expr.specs.declared.ast.Expr.TheVariants.{Compare', List'}
 use Rattle.minijinja_tree_expr.specs.declared.ast.List.{List as ListNode}
 use Rattle.minijinja_tree_expr.specs.declared.ast.Spanned.{Spanned}
-use Rattle.minijinja_tree_expr.proofs.Targets.{listed}
+use Rattle.minijinja_tree_expr.proofs.Lists.{listed}
 use Rattle.minijinja_parser.specs.Answers.{IsShort}
 use Rattle.minijinja_parser.specs.Derived.{IsExprDerived}
 use Rattle.minijinja_semantics.specs.Answers.{volume}

@@ -21,7 +21,7 @@ use Rattle.minijinja_semantics.specs.Code.{Do}
 use Rattle.minijinja_semantics.specs.Events as event
 use Rattle.minijinja_semantics.specs.Layout as layout
 use Rattle.minijinja_semantics.specs.Marks as marks
-use Rattle.minijinja_semantics.specs.Marks.{Margin, ◌⟫◌, alone_at, assignments, closing_count, expr, filters, here, looped_over, on_line, target, within, span_of as span_in}
+use Rattle.minijinja_semantics.specs.Marks.{◌⟫◌, expr, here, looped_over, target, within, span_of as span_in}
 use Rattle.minijinja_semantics.specs.Pieces.{one, ◌▸◌, OpenScope, OpenAutoEscape, OpenCapture}
 use Rattle.minijinja_code_parts.specs.internal.AtEnclosingLoop.{around_of, open_of}
 use Rattle.minijinja_code_expr.specs.internal.Callers.{BeginsCall, WholeBlock}

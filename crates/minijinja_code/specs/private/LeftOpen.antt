@@ -1,5 +1,5 @@
 -- The kinds of what an opening call has left open.
-use Rattle.std.specs.Prelude.{Bool, true, false, ◌||◌, Option, Some, None}
+use Rattle.std.specs.Prelude.{Bool, true, false, ◌||◌, Option, Some}
 use Rattle.minijinja_code.specs.declared.codegen.building.Pending.{Pending}
 use Rattle.minijinja_code.specs.declared.codegen.building.Pending.TheVariants.{Branch, Loop, Conditions, Condition}
 

@@ -1,4 +1,4 @@
-use Rattle.std.proofs.Common.{rules, true, false, arith, ◌≡◌, ◌+◌, ◌≤◌, [], ◌∙◌, Some, length, refl, sym, ap, ap₂, subst}
+use Rattle.std.proofs.Common.{rules, arith, ◌≡◌, ◌+◌, ◌≤◌, [], ◌∙◌, Some, length, refl, sym, ap, ap₂, subst}
 use Rattle.std.specs.Prelude.{reverse}
 use Rattle.minijinja_tree.specs.Erasure.{bin_op, expr_tree, args_of, optional_of}
 use Rattle.minijinja_tree.specs.WellFormed.{IsWhole, AreArguments, arg_count, most_arguments}
@@ -7,14 +7,11 @@ use Rattle.minijinja_semantics.specs.Pieces.{one}
 use Rattle.minijinja_code_expr.specs.internal.Leading.{IsLiteral, test_in}
 use Rattle.minijinja_emitter.specs.internal.AtEmitter.{made_of}
 use Rattle.minijinja_code_expr.specs.private.PendingNodes.{pending_of}
-use Rattle.minijinja_tree.specs.SpannedErasure as node
 use Rattle.minijinja_tree.specs.SpannedErasure.{expr_node}
-use Rattle.minijinja_tree.specs.Callees.{callee}
 use Rattle.minijinja_semantics.specs.Marks as marks
 use Rattle.minijinja_semantics.specs.Marks.{here}
 use Rattle.minijinja_semantics.proofs.Runs.{append_nil}
 use Rattle.minijinja_emitter.specs.internal.AtEmitter.{margin_of}
-use Rattle.minijinja_emitter.specs.internal.Margins.{closed}
 use Rattle.minijinja_emitter.proofs.Counting.{as_many}
 use Rattle.minijinja_emitter.specs.internal.Making.{Adds}
 use Rattle.minijinja_code_expr.specs.internal.NodeMarks.{finished}

@@ -11,7 +11,6 @@ use Rattle.minijinja_code_expr.specs.private.PendingNodes.{pending_of}
 use Rattle.minijinja_code_expr.proofs.InOrder.{Leads, pairs}
 use Rattle.minijinja_tree.specs.SpannedErasure.{expr_node}
 use Rattle.minijinja_tree.specs.SpannedErasure as node
-use Rattle.minijinja_tree.specs.SpannedTrees as spanned
 use Rattle.minijinja_semantics.specs.Marks as marks
 use Rattle.minijinja_code_expr.proofs.PendingMarks.{after}
 use Rattle.minijinja_code_expr.proofs.PendingNodes.{Rest}

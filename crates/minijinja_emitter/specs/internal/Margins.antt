@@ -1,5 +1,5 @@
 -- How the marks that go with code change while it is being made.
-use Rattle.std.specs.Prelude.{◌≡◌, ℕ, Bool, true, false, List, length, take}
+use Rattle.std.specs.Prelude.{ℕ, Bool, true, false, take}
 use Rattle.minijinja_syntax.specs.declared.tokens.Span.{Span}
 use Rattle.minijinja_semantics.specs.Marks.{Margin, here}
 use Rattle.minijinja_emitter.specs.declared.emit.Site.{Site}

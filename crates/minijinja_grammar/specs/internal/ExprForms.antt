@@ -13,7 +13,7 @@ use Rattle.minijinja_syntax.specs.Tokens.{Tok, ident, str, string, int, int128, 
 use Rattle.minijinja_tree.specs.Tree.{UnaryOp, logical_not, negation}
 use Rattle.minijinja_tree.specs.WellFormed.{most_arguments}
 use Rattle.minijinja_tree.specs.SpannedTrees as tree
-use Rattle.minijinja_tree.specs.SpannedTrees.{Expr, variable, constant, unary, binary, compare, if_expr, filter, test, attribute, item, call, list, tuple, absent, present, Arg, positional, starred, keyword, double_starred, optional_of, exprs_of, comparisons_of, args_of}
+use Rattle.minijinja_tree.specs.SpannedTrees.{Expr, variable, constant, unary, binary, if_expr, filter, test, attribute, item, call, list, tuple, present, Arg, positional, starred, keyword, double_starred, optional_of, exprs_of, args_of}
 use Rattle.minijinja_grammar.specs.Words.{is, is_true_word, is_false_word, is_none_word, if_word, else_word, not_word, in_word, text_of, or_op, and_op, sum_op, cat_op, term_op, compare_op, begins_primary, begins_expr, begins_arg, begins_postfix, begins_suffix, begins_comparison, begins_bare}
 use Rattle.minijinja_syntax.specs.Streams.{SpannedTok}
 use Rattle.minijinja_grammar.specs.Ahead.{held}

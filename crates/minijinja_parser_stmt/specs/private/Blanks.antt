@@ -3,7 +3,7 @@ use Rattle.std.specs.Prelude.{List, ◌∷◌, ◌++◌, [], Option, Some, None,
 use Rattle.minijinja_syntax.specs.Tokens.{template_data, block_start}
 use Rattle.minijinja_syntax.specs.Streams.{SpannedTok}
 use Rattle.minijinja_tree.specs.SpannedTrees.{Stmt, data_text}
-use Rattle.minijinja_grammar.specs.internal.Forms.{Form, Read, got, many, misfit, read_then, reads}
+use Rattle.minijinja_grammar.specs.internal.Forms.{Form, Read, got, many, misfit, reads}
 use Rattle.minijinja_grammar.specs.Places.{Place}
 use Rattle.minijinja_grammar.specs.internal.StmtForms.{any_token, blank_part}
 use Rattle.minijinja_grammar.specs.Statements.{is_blank}

@@ -8,6 +8,7 @@ use minijinja_compiler::parser::{Parser, TokenStream, parse_expr};
 use minijinja_compiler::syntax::SyntaxConfig;
 use minijinja_compiler::tokens::Span;
 use minijinja_compiler::value::Value;
+use minijinja_compiler::well_formed::WellFormed;
 use std::alloc::{AllocError, Global};
 use std::process::Abort;
 use std::test::Fail;

@@ -4,6 +4,7 @@ use super::{Subject, hold};
 use minijinja_compiler::ast::{BinOpKind, CallType, CompareOpKind, Expr, UnaryOpKind};
 use minijinja_compiler::parser::parse_expr;
 use minijinja_compiler::value::{OpError, TemplateValue, Value, ValueFault};
+use minijinja_compiler::well_formed::WellFormed;
 use minijinja_tree::constants::constant_kwargs;
 use std::alloc::{AllocError, Global};
 use std::test::Fail;

@@ -7,7 +7,7 @@ use Rattle.std.specs.Cmp.{booleans_Decides, IsPartialEquivalence, IsEquivalence,
 use Rattle.std.specs.Cmp.Lexicographic.{pointwise}
 use Rattle.std.proofs.lemmas.Bool.Decides.{Decides-eqb, Decides-int_eq}
 use Rattle.std.proofs.lemmas.Slice.Eq.{slice_eq-Decides}
-use Rattle.minijinja_syntax.specs.Texts.{Text}
+use Rattle.minijinja_text.specs.Texts.{Text}
 use Rattle.minijinja_value.specs.ValueContents.{Contents, undefined, silent_undefined, none, truth, integer, text, list, tuple, mapping, keywords, Items, no_items, item, Pairs, no_pairs, pair}
 use Rattle.minijinja_value.specs.ValueComparison.{is_undefined, equals, equals_both_ways, items_equal, pair_count, has_pair, are_pairs_in}
 use Rattle.minijinja_value.specs.ValueViews.{contents_of}

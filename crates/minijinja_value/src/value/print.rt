@@ -1,7 +1,7 @@
 //! The printed forms of values.
 ghost use Rattle.std.specs.Prelude.{◌≡◌, ◌<◌, ◌∷◌, [], Some, MatchOption, OnSome};
 ghost use Rattle.std.specs.Fmt.{WritesOnOk, signed_decimal};
-ghost use Rattle.minijinja_syntax.specs.Quotes.{escaped, quoted};
+ghost use Rattle.minijinja_text.specs.Quotes.{escaped, quoted};
 ghost use Rattle.minijinja_value.specs.ValueWords.{words, rendered, joined, each_words, pair_words};
 ghost use Rattle.minijinja_value.specs.ValueViews.{contents_of, items_view, pairs_view};
 

@@ -1,10 +1,10 @@
 //! Trees that are made by hand, where several parts start in one place.
 use minijinja_lint::lint::{Finding, lint};
+use minijinja_nodes::expr_nodes::variable;
+use minijinja_nodes::stmt_nodes::{declared, output, template};
 use minijinja_syntax::error::Error;
 use minijinja_syntax::tokens::Span;
 use minijinja_tree::ast::Stmt;
-use minijinja_tree::nodes::{declared, output, template};
-use minijinja_tree_expr::nodes::variable;
 use minijinja_value::value::{TemplateValue, Value};
 use std::alloc::{AllocError, Global};
 use std::test::Fail;

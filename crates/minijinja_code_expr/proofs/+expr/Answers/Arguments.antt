@@ -1,4 +1,4 @@
-use Rattle.std.proofs.Common.{rules, true, false, arith, ◌≡◌, ◌+◌, ◌<◌, ◌∙◌, drop, length, refl, sym, ap, ap₂, subst}
+use Rattle.std.proofs.Common.{rules, arith, ◌≡◌, ◌+◌, ◌<◌, ◌∙◌, drop, length, refl, sym, ap, ap₂, subst}
 use Rattle.std.specs.Prelude.{IfOk}
 use Rattle.minijinja_tree.specs.Erasure.{args_of}
 use Rattle.minijinja_tree_expr.specs.declared.ast.Expr.{size-Expr, the_lemmas}
@@ -10,13 +10,11 @@ use Rattle.minijinja_tree.specs.SpannedErasure.{expr_node}
 use Rattle.minijinja_semantics.specs.Marks as marks
 use Rattle.minijinja_emitter.specs.internal.AtEmitter.{margin_of}
 use Rattle.minijinja_code_expr.proofs.ItemMarks.{keyword_passed, kwarg_marked, kwarg_splat_marked, pos_marked, pos_splat_marked, positional_passed}
-use Rattle.minijinja_code_expr.proofs.InOrder.{pairs}
 use Rattle.minijinja_code_expr.proofs.+expr.Goals.{arguments::positional_arguments-in-Pos+in_ok-expression-in-Pos, arguments::positional_arguments-in-PosSplat+in_ok-close_list-in-PosSplat+in_ok-expression-in-PosSplat, arguments::keyword_pairs-in-Kwarg+in_ok-load_name-in-Kwarg+in_ok-expression-in-Kwarg, arguments::keyword_pairs-in-KwargSplat+in_ok-close_map-in-KwargSplat+in_ok-expression-in-KwargSplat}
 use Rattle.minijinja_tree_expr.specs.declared.ast.CallArg.{size-CallArg}
 use Rattle.minijinja_code_expr.proofs.CallArguments.{positional_bound, keyword_bound, map_count_few, keywords_loaded, keywords_merged, counted_all, adds_given, element_size, args_length, taken_none, taken_all, positional_walk, pos_whole, pos_splat_whole, taken_pos, taken_pos_splat, passed_keyword, keyword_walk, kwarg_whole, kwarg_splat_whole, taken_kwarg, taken_kwarg_splat, passed_positional}
 use Rattle.minijinja_code_expr.proofs.NoArguments.{adds_none, counts_none, marks_none}
 use Rattle.minijinja_code_expr.proofs.PositionalArguments.{adds_positional, positional_count}
-use Rattle.minijinja_semantics.specs.Code as code
 use Rattle.minijinja_code_expr.proofs.+expr.Goals as goal
 
 pub arguments::arguments-spread-requires-clause-batches : goal.arguments::arguments-spread-requires-clause-batches

@@ -1,10 +1,9 @@
-use Rattle.std.proofs.Common.{rules, true, false, arith, ◌≡◌, ◌+◌, ◌<◌, ◌∙◌, drop, length, refl, sym, ap}
+use Rattle.std.proofs.Common.{rules, arith, ◌≡◌, ◌+◌, ◌<◌, ◌∙◌, drop, length, refl, sym, ap}
 use denote.Param.Weighed.{most}
 use Rattle.minijinja_tree.specs.Erasure.{expr_tree, exprs_of}
 use Rattle.minijinja_tree_expr.specs.declared.ast.Expr.{size-Expr, the_lemmas}
 use Rattle.minijinja_semantics.specs.Pieces.{one}
 use Rattle.minijinja_emitter.specs.internal.AtEmitter.{made_of}
-use Rattle.minijinja_tree.specs.SpannedErasure as node
 use Rattle.minijinja_tree.specs.SpannedErasure.{expr_node}
 use Rattle.minijinja_semantics.specs.Marks as marks
 use Rattle.minijinja_emitter.specs.internal.AtEmitter.{margin_of}
@@ -20,7 +19,6 @@ use Rattle.minijinja_tree_expr.specs.declared.ast.Map.{size-Map, the_lemmas as m
 use Rattle.minijinja_code_expr.proofs.LiteralNodes.{no_literal}
 use Rattle.minijinja_code_expr.proofs.Results.{ok_gives}
 use Rattle.minijinja_semantics.specs.Layout as layout
-use Rattle.minijinja_semantics.specs.Code as code
 use Rattle.minijinja_code_expr.proofs.+expr.Goals as goal
 
 pub expr::literal-unreachable-requires : goal.expr::literal-unreachable-requires

@@ -1,5 +1,5 @@
 use Rattle.std.proofs.Common.{true, false, arith, ◌≡◌, ◌∙◌, Some, length, refl, sym, ap, subst}
-use Rattle.minijinja_tree.specs.Erasure.{bin_op, unary_op, expr_tree, exprs_of, args_of, optional_of}
+use Rattle.minijinja_tree.specs.Erasure.{bin_op, unary_op, expr_tree, exprs_of, args_of}
 use Rattle.minijinja_tree.specs.WellFormed.{IsWhole}
 use Rattle.minijinja_semantics.specs.Layout.{Count, map_count}
 use Rattle.minijinja_emitter.specs.internal.AtEmitter.{made_of}
@@ -42,7 +42,6 @@ use Rattle.minijinja_code_expr.proofs.CallArguments.{args_length, keywords_loade
 use Rattle.minijinja_code_expr.proofs.Results.{ok_gives}
 use Rattle.minijinja_tree.specs.Tree as tree
 use Rattle.minijinja_semantics.specs.Layout as layout
-use Rattle.minijinja_semantics.specs.Code as code
 use Rattle.minijinja_code_expr.proofs.+expr.Goals as goal
 
 pub expr::expression-returns-clause-marked : goal.expr::expression-returns-clause-marked

@@ -1,6 +1,5 @@
 use Rattle.std.proofs.Common.{◌≡◌, sym, ap, ◌∙◌, refl}
 use Rattle.minijinja_tree.specs.Erasure.{expr_tree}
-use Rattle.minijinja_tree.specs.Nodes.{span_of}
 use Rattle.minijinja_tree.specs.Tree as tree
 use Rattle.minijinja_tree.specs.SpannedErasure.{expr_node}
 use Rattle.minijinja_tree.specs.SpannedTrees as spanned

@@ -1,4 +1,4 @@
-use Rattle.std.proofs.Common.{sym, ap, ◌∙◌}
+use Rattle.std.proofs.Common.{ap, ◌∙◌}
 use Rattle.minijinja_semantics.specs.Code.{Do}
 use Rattle.minijinja_semantics.specs.Events as event
 use Rattle.minijinja_semantics.specs.Marks as marks

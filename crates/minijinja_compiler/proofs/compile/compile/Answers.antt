@@ -1,4 +1,4 @@
-use Rattle.std.proofs.Common.{◌≡◌, ◌<◌, ◌≤◌, ◌^◌, ◌++◌, ◌∙◌, ◌⊎◌, [], length, sym, ap, subst}
+use Rattle.std.proofs.Common.{◌<◌, ◌^◌, ◌++◌, ◌∙◌, [], length, sym, ap, subst}
 use Rattle.std.proofs.lemmas.Result.{err_from_is_err_and}
 use Rattle.minijinja_tree.specs.Erasure.{stmt_tree}
 use Rattle.minijinja_tree.specs.SpannedErasure.{stmt_node}
@@ -17,7 +17,7 @@ use Rattle.minijinja_semantics.specs.Units.{DoUnits}
 use Rattle.minijinja_code.specs.internal.AtGenerator.{generated, here_so_far, open_of, refusal_of}
 use Rattle.minijinja_code.specs.BlockMarks.{HaveMarks, marked_blocks}
 use Rattle.minijinja_code.specs.Generator.{HaveTooLong, OnlyWhereOneIsTooLong}
-use Rattle.minijinja_code.specs.Hint.{IsHint, data_bytes}
+use Rattle.minijinja_code.specs.Hint.{data_bytes}
 use Rattle.minijinja_compiler.proofs.BlockNames.{compiled_lists}
 use Rattle.minijinja_compiler.proofs.Parts.{closed_still, whole_code, whole_does, limit_of_parser, never_refusal, generator_unplaced, never_another, parser_unplaced, too_long_lists, unkept, hint_of_all}
 use Rattle.minijinja_compiler.proofs.compile.compile.Goals as goal

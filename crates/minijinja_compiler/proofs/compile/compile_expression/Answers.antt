@@ -1,4 +1,4 @@
-use Rattle.std.proofs.Common.{◌≡◌, ◌<◌, ◌≤◌, ◌^◌, ◌++◌, ◌∙◌, length, sym, ap, subst}
+use Rattle.std.proofs.Common.{◌<◌, ◌^◌, ◌++◌, ◌∙◌, length, sym, ap, subst}
 use Rattle.std.proofs.lemmas.Result.{err_from_is_err_and}
 use Rattle.minijinja_tree.specs.Erasure.{expr_tree}
 use Rattle.minijinja_tree.specs.SpannedErasure.{expr_node}
@@ -6,7 +6,6 @@ use Rattle.minijinja_tree_expr.proofs.Bare.{expr_is}
 use Rattle.minijinja_semantics.specs.Marks.{Margin}
 use Rattle.minijinja_semantics.specs.Marks as marks
 use Rattle.minijinja_semantics.specs.Jumps.{LeadsWell}
-use Rattle.minijinja_semantics.specs.Pieces.{start}
 use Rattle.minijinja_semantics.proofs.Leads.{expression_leads_well}
 use Rattle.minijinja_instructions.specs.Instructions.{code_of}
 use Rattle.minijinja_semantics.specs.Layout.{expr_code}

@@ -1,4 +1,4 @@
-use Rattle.std.proofs.Common.{sym, ◌∙◌}
+use Rattle.std.proofs.Common.{sym}
 use Rattle.minijinja_parser_stmt.specs.internal.Made.{statement_tree}
 use Rattle.minijinja_parser_stmt_nodes.proofs.of_parts.declared.Goals as goal
 

@@ -10,6 +10,7 @@ use minijinja_compiler::parser::{Parser, TokenStream, parse, parse_expr};
 use minijinja_compiler::syntax::{StartMarkerMatcher, SyntaxConfig, SyntaxConfigBuilder};
 use minijinja_compiler::tokens::{Span, Token};
 use minijinja_compiler::value::{TemplateValue, Value, ValueMap};
+use minijinja_compiler::well_formed::WellFormed;
 use std::alloc::{AllocError, Global};
 use std::test::Fail;
 

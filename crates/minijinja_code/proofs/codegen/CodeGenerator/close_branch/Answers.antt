@@ -1,4 +1,3 @@
-use Rattle.std.proofs.Common.{sym}
 use Rattle.minijinja_code.specs.declared.codegen.building.Pending.TheVariants as pending
 use Rattle.minijinja_code.proofs.OpenBlocks.{branch_taken, none_left, not_both, opened_before}
 use Rattle.minijinja_code.proofs.codegen.CodeGenerator.close_branch.Goals as goal

@@ -1,6 +1,5 @@
-use Rattle.std.proofs.Common.{◌≡◌, List, [], rules, sym, ap, ap₂, ◌∙◌}
+use Rattle.std.proofs.Common.{List, [], rules, sym, ap, ap₂, ◌∙◌}
 use Rattle.minijinja_semantics.specs.Code.{Instr}
-use Rattle.minijinja_semantics.specs.Jumps.{with_target}
 use Rattle.minijinja_semantics.specs.Marks.{Margin}
 use Rattle.minijinja_code.specs.Building.{Building, conditions_ended_at}
 use Rattle.minijinja_code.specs.declared.codegen.building.Pending.TheVariants as pending

@@ -1,4 +1,4 @@
-use Rattle.std.proofs.Common.{◌≡◌, ◌≤◌, length, map, subst}
+use Rattle.std.proofs.Common.{◌≡◌, map, subst}
 use Rattle.minijinja_instructions.specs.Instructions.{instr_of}
 use Rattle.minijinja_semantics.specs.Jumps.{with_target}
 use Rattle.minijinja_emitter.proofs.Leading.{led_if, none_past, unless_led}

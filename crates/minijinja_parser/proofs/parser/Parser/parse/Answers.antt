@@ -8,7 +8,7 @@ use Rattle.minijinja_grammar.proofs.Trees.{template_stands}
 use Rattle.minijinja_tree.specs.Erasure.{stmt_tree}
 use Rattle.minijinja_tree.proofs.Bare.{stmt_is}
 use Rattle.minijinja_parser.proofs.NoTokens.{empty_template, empty_derived}
-use Rattle.minijinja_parser.proofs.Wholes.{whole_of, only_whole, unrefused, refused_whole, memory_at, not_derived, answers, escapes, placed}
+use Rattle.minijinja_parser.proofs.Wholes.{whole_of, unrefused, refused_whole, memory_at, not_derived, answers, escapes, placed}
 use Rattle.minijinja_parser.proofs.parser.Parser.parse.Goals as goal
 
 -- a tree

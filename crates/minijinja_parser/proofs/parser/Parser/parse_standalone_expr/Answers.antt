@@ -8,7 +8,7 @@ use Rattle.minijinja_grammar.proofs.Trees.{expression_stands}
 use Rattle.minijinja_tree.specs.Erasure.{expr_tree}
 use Rattle.minijinja_tree_expr.proofs.Bare.{expr_is}
 use Rattle.minijinja_parser.proofs.NoTokens.{no_expr}
-use Rattle.minijinja_parser.proofs.Wholes.{whole_of, only_whole, unrefused, refused_whole, memory_at, not_derived, answers, escapes, placed, at_fault}
+use Rattle.minijinja_parser.proofs.Wholes.{whole_of, unrefused, refused_whole, memory_at, not_derived, answers, escapes, placed, at_fault}
 use Rattle.minijinja_parser.proofs.parser.Parser.parse_standalone_expr.Goals as goal
 
 -- a tree

@@ -3,7 +3,7 @@ use Rattle.std.proofs.lemmas.List.{length-map}
 use Rattle.minijinja_syntax.specs.Tokens.{comma}
 use Rattle.minijinja_grammar.specs.internal.Forms.{got, reads}
 use Rattle.minijinja_grammar.specs.internal.ExprForms as form
-use Rattle.minijinja_grammar.specs.internal.ExprForms.{expr_at, is_allowed, is_named}
+use Rattle.minijinja_grammar.specs.internal.ExprForms.{expr_at, is_named}
 use Rattle.minijinja_parser_expr.specs.private.Made.{argument_of}
 use Rattle.minijinja_parser_tokens.specs.internal.Reads.{eaten}
 use Rattle.minijinja_parser_expr.proofs.CallArgs.{arg_allowed, arg_also, arg_last, arg_refused, has_named_more}

@@ -1,7 +1,5 @@
-use Rattle.std.proofs.Common.{rules, ◌≡◌, ◌∙◌, true, false, refl, sym}
+use Rattle.std.proofs.Common.{rules, ◌≡◌, ◌∙◌, refl, sym}
 use Rattle.std.specs.Option.{option_map}
-use Rattle.minijinja_grammar.specs.Ahead.{comes}
-use Rattle.minijinja_grammar.specs.Words.{is, if_word}
 use Rattle.minijinja_grammar.specs.internal.Forms.{got, reads}
 use Rattle.minijinja_tree.specs.SpannedTrees.{if_expr, optional_of}
 use Rattle.minijinja_grammar.specs.internal.ExprForms.{else_part, expanded, expr_at}

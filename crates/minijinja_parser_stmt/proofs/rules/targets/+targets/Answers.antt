@@ -1,13 +1,13 @@
 use Rattle.std.proofs.Common.{rules, ◌≡◌, true, false, ◌∷◌, ◌++◌, [], map, arith, refl, sym, ap, ◌∙◌}
 use Rattle.std.proofs.lemmas.List.{map-append}
-use Rattle.minijinja_syntax.specs.Tokens.{comma, paren_open}
+use Rattle.minijinja_syntax.specs.Tokens.{comma}
 use Rattle.minijinja_grammar.specs.Ahead.{comes}
 use Rattle.minijinja_grammar.specs.internal.Forms.{got, reads}
 use Rattle.minijinja_grammar.specs.Targets.{ends_targets}
 use Rattle.minijinja_grammar.specs.internal.TargetForms.{target_in}
 use Rattle.minijinja_parser_tokens.specs.internal.Reads.{eaten}
 use Rattle.minijinja_parser_tokens.proofs.Turned.{eaten_shorter, read_no_longer}
-use Rattle.minijinja_parser_stmt.proofs.Targets.{after_opening, further, further_is, nested_is, nested_too_deep, target_is}
+use Rattle.minijinja_parser_stmt.proofs.Targets.{further, further_is}
 use Rattle.minijinja_parser_stmt.proofs.rules.targets.+targets.Goals as goal
 
 pub further_targets-loop-targets-init : goal.further_targets-loop-targets-init

@@ -3,8 +3,8 @@ use Rattle.std.proofs.lemmas.Str.{IsCharBoundary-start, IsCharBoundary-after_asc
 use Rattle.std.proofs.Output.{has_written_append, has_written_of_eq}
 use Rattle.std.specs.List.{flat_map}
 use Rattle.std.specs.Str.{IsUtf8}
-use Rattle.minijinja_syntax.specs.Quotes.{escaped, quoted, quote_mark}
-use Rattle.minijinja_syntax.specs.Positions.{slice}
+use Rattle.minijinja_text.specs.Quotes.{escaped, quoted, quote_mark}
+use Rattle.minijinja_text.specs.Texts.{slice}
 use Rattle.minijinja_value.proofs.Quotes.{ArePlain, none_plain, plain_more, written_more, written_whole}
 use Rattle.minijinja_value.proofs.value.print.QuotedDisplay.fmt.Goals as goal
 use Rattle.minijinja_value.proofs.value.print.QuotedDisplay.fmt.Goals.{in-Some+in_ok-write_str-2+in_ok-write_str-3, in_default}

@@ -2,7 +2,7 @@ use Rattle.std.proofs.Common.{◌≡◌, ◌∷◌, ◌≤◌, take}
 use Rattle.std.specs.Fmt.{HasWritten, IsPlainFormatter}
 use Rattle.std.specs.List.{flat_map}
 use Rattle.std.specs.Str.{IsCharBoundary}
-use Rattle.minijinja_syntax.specs.Quotes.{escaped, quote_mark}
+use Rattle.minijinja_text.specs.Quotes.{escaped, quote_mark}
 use Rattle.minijinja_value.proofs.Quotes.{ArePlain}
 use Rattle.minijinja_value.proofs.value.print.QuotedDisplay.fmt.Given as goal
 

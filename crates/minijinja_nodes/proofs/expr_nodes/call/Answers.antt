@@ -1,0 +1,5 @@
+use Rattle.minijinja_tree_expr.proofs.NodeRows.{call_is}
+use Rattle.minijinja_nodes.proofs.expr_nodes.call.Goals as goal
+
+pub returns : goal.returns
+returns g c = record { tree = call_is g.V.TemplateValue.contents c.in_ok-spanned.field-0 _ _ c.in_ok-spanned.ensures.node c.in_ok-spanned.ensures.span }

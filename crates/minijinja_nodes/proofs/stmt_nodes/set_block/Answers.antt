@@ -1,0 +1,5 @@
+use Rattle.minijinja_tree.proofs.StatementRows.{set_block_is}
+use Rattle.minijinja_nodes.proofs.stmt_nodes.set_block.Goals as goal
+
+pub returns : goal.returns
+returns g c = record { tree = set_block_is g.V.TemplateValue.contents c.in_ok-spanned.field-0 _ _ c.in_ok-spanned.ensures.node c.in_ok-spanned.ensures.span }

@@ -1,0 +1,5 @@
+use Rattle.minijinja_tree.proofs.StatementRows.{template_is}
+use Rattle.minijinja_nodes.proofs.stmt_nodes.template.Goals as goal
+
+pub returns : goal.returns
+returns g c = record { tree = template_is g.V.TemplateValue.contents c.in_ok-spanned.field-0 _ _ c.in_ok-spanned.ensures.node c.in_ok-spanned.ensures.span }

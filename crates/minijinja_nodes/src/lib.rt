@@ -1,0 +1,5 @@
+//! Makes the nodes of trees, for parsers. No user calls it.
+#![tactic(auto)]
+
+pub mod expr_nodes;
+pub mod stmt_nodes;

@@ -1,6 +1,0 @@
-use Rattle.minijinja_tree.specs.Erasure.{stmt_tree}
-use Rattle.minijinja_tree.proofs.WellFormedTesting.{formed-decided}
-use Rattle.minijinja_tree.proofs.ast.Stmt.is_well_formed.Goals as goal
-
-pub returns : goal.returns
-returns g c = formed-decided (stmt_tree g.V.TemplateValue.contents c.args.self.now) c.is_formed.result c.is_formed.ensures

@@ -1,5 +1,0 @@
-use Rattle.minijinja_tree.proofs.StatementRows.{for_loop_is}
-use Rattle.minijinja_tree.proofs.nodes.for_loop.Goals as goal
-
-pub returns : goal.returns
-returns g c = record { tree = for_loop_is g.V.TemplateValue.contents c.in_ok-spanned.field-0 _ _ c.in_ok-spanned.ensures.node c.in_ok-spanned.ensures.span }

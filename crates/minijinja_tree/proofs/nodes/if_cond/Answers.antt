@@ -1,5 +1,0 @@
-use Rattle.minijinja_tree.proofs.StatementRows.{if_cond_is}
-use Rattle.minijinja_tree.proofs.nodes.if_cond.Goals as goal
-
-pub returns : goal.returns
-returns g c = record { tree = if_cond_is g.V.TemplateValue.contents c.in_ok-spanned.field-0 _ _ c.in_ok-spanned.ensures.node c.in_ok-spanned.ensures.span }

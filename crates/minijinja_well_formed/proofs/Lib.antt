@@ -1,0 +1,9 @@
+pub mod Targets
+pub mod FilterChains
+pub mod ExpressionTesting
+pub mod WellFormedCounts
+pub mod WellFormedSides
+pub mod InnerSides
+pub mod StatementTesting
+pub mod Singles
+pub mod NamesOfBlocks
