@@ -148,10 +148,6 @@ pub loop_told : (r : Option Pending) (found : Option ℕ) → IfSome found (λ p
 loop_told r (Some p) some none = sym (ap is_loop_in some)
 loop_told r None some none = sym none
 
-pub condition_told : (r : Option Pending) (found : Option ℕ) → IfSome found (λ p. r ≡ Some (pending.Condition p)) → IfNone found (is_condition_in r ≡ false) → is_some found ≡ is_condition_in r
-condition_told r (Some p) some none = sym (ap is_condition_in some)
-condition_told r None some none = sym none
-
 -- ---- nothing is open
 
 open_with : (x : Pending) (bs : List OpenBlock) → are_closed (opened_in x bs) ≡ false

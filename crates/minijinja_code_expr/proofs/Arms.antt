@@ -1,6 +1,6 @@
 -- The tree of an expression, by its node.
 use Rattle.std.proofs.Common.{◌≡◌, sym, ap, ◌∙◌}
-use Rattle.std.proofs.Common.{◌≤◌, subst, Option, Some, None}
+use Rattle.std.proofs.Common.{◌≤◌, subst, Option, Some}
 use Rattle.minijinja_syntax.specs.Texts.{Text}
 use Rattle.minijinja_tree.specs.WellFormed.{IsWhole, IsWholeIfAny, AreWhole, AreArguments, arg_count, most_arguments, expr_count}
 use Rattle.minijinja_tree.specs.Nodes.{node_of}
@@ -64,9 +64,6 @@ module _ {V F C : Type 0} (c : V → C) where
   pub map_arm : (e : Expr V F) (s : Spanned (Map V F)) (n : Map V F) → e ≡ expr.Map s → n ≡ node_of s → expr_tree c e ≡ tree.map (exprs_of c n.keys.items) (exprs_of c n.values.items)
   map_arm e s n is at = ap (expr_tree c) is ∙ map_is c s ∙ ap (λ (m : Map V F). tree.map (exprs_of c m.keys.items) (exprs_of c m.values.items)) (sym at)
 
-  pub whole_slice_expr : (e : Expr V F) (s : Spanned (Slice V F)) (n : Slice V F) → e ≡ expr.Slice s → n ≡ node_of s → IsWhole (expr_tree c e) → IsWhole (expr_tree c n.expr)
-  whole_slice_expr e s n is at w = let x = subst IsWhole (slice_arm e s n is at) w in x.0
-
   pub whole_slice_start : (e : Expr V F) (s : Spanned (Slice V F)) (n : Slice V F) → e ≡ expr.Slice s → n ≡ node_of s → IsWhole (expr_tree c e) → IsWholeIfAny (optional_of c n.start)
   whole_slice_start e s n is at w = let x = subst IsWhole (slice_arm e s n is at) w in x.1
 
@@ -75,9 +72,6 @@ module _ {V F C : Type 0} (c : V → C) where
 
   pub whole_slice_step : (e : Expr V F) (s : Spanned (Slice V F)) (n : Slice V F) → e ≡ expr.Slice s → n ≡ node_of s → IsWhole (expr_tree c e) → IsWholeIfAny (optional_of c n.step)
   whole_slice_step e s n is at w = let x = subst IsWhole (slice_arm e s n is at) w in x.3
-
-  pub whole_unary : (e : Expr V F) (s : Spanned (UnaryOp V F)) (n : UnaryOp V F) → e ≡ expr.UnaryOp s → n ≡ node_of s → IsWhole (expr_tree c e) → IsWhole (expr_tree c n.expr)
-  whole_unary e s n is at w = let x = subst IsWhole (unary_arm e s n is at) w in x
 
   pub whole_left : (e : Expr V F) (s : Spanned (BinOp V F)) (n : BinOp V F) → e ≡ expr.BinOp s → n ≡ node_of s → IsWhole (expr_tree c e) → IsWhole (expr_tree c n.left)
   whole_left e s n is at w = let x = subst IsWhole (binary_arm e s n is at) w in x.0
@@ -88,17 +82,8 @@ module _ {V F C : Type 0} (c : V → C) where
   pub whole_compare : (e : Expr V F) (s : Spanned (Compare V F)) (n : Compare V F) → e ≡ expr.Compare s → n ≡ node_of s → IsWhole (expr_tree c e) → IsWhole (compare_tree c n)
   whole_compare e s n is at w = let x = subst IsWhole (compare_arm e s n is at) w in x
 
-  pub whole_if_test : (e : Expr V F) (s : Spanned (IfExpr V F)) (n : IfExpr V F) → e ≡ expr.IfExpr s → n ≡ node_of s → IsWhole (expr_tree c e) → IsWhole (expr_tree c n.test_expr)
-  whole_if_test e s n is at w = let x = subst IsWhole (if_arm e s n is at) w in x.0
-
-  pub whole_if_true : (e : Expr V F) (s : Spanned (IfExpr V F)) (n : IfExpr V F) → e ≡ expr.IfExpr s → n ≡ node_of s → IsWhole (expr_tree c e) → IsWhole (expr_tree c n.true_expr)
-  whole_if_true e s n is at w = let x = subst IsWhole (if_arm e s n is at) w in x.1
-
   pub whole_if_false : (e : Expr V F) (s : Spanned (IfExpr V F)) (n : IfExpr V F) → e ≡ expr.IfExpr s → n ≡ node_of s → IsWhole (expr_tree c e) → IsWholeIfAny (optional_of c n.false_expr)
   whole_if_false e s n is at w = let x = subst IsWhole (if_arm e s n is at) w in x.2
-
-  pub whole_test_expr : (e : Expr V F) (s : Spanned (Test V F)) (n : Test V F) → e ≡ expr.Test s → n ≡ node_of s → IsWhole (expr_tree c e) → IsWhole (expr_tree c n.expr)
-  whole_test_expr e s n is at w = let x = subst IsWhole (test_arm e s n is at) w in x.0
 
   pub whole_test_args : (e : Expr V F) (s : Spanned (Test V F)) (n : Test V F) (xs : _) → e ≡ expr.Test s → n ≡ node_of s → xs ≡ n.args.items → IsWhole (expr_tree c e) → AreArguments (args_of c xs)
   whole_test_args e s n xs is at same w = let x = subst IsWhole (test_arm e s n is at) w in subst (λ zs. AreArguments (args_of c zs)) (sym same) x.1
@@ -106,17 +91,8 @@ module _ {V F C : Type 0} (c : V → C) where
   pub whole_test_few : (e : Expr V F) (s : Spanned (Test V F)) (n : Test V F) (xs : _) → e ≡ expr.Test s → n ≡ node_of s → xs ≡ n.args.items → IsWhole (expr_tree c e) → arg_count (args_of c xs) ≤ most_arguments
   whole_test_few e s n xs is at same w = let x = subst IsWhole (test_arm e s n is at) w in subst (λ zs. arg_count (args_of c zs) ≤ most_arguments) (sym same) x.2
 
-  pub whole_attribute : (e : Expr V F) (s : Spanned (GetAttr V F)) (n : GetAttr V F) → e ≡ expr.GetAttr s → n ≡ node_of s → IsWhole (expr_tree c e) → IsWhole (expr_tree c n.expr)
-  whole_attribute e s n is at w = let x = subst IsWhole (attribute_arm e s n is at) w in x
-
-  pub whole_item : (e : Expr V F) (s : Spanned (GetItem V F)) (n : GetItem V F) → e ≡ expr.GetItem s → n ≡ node_of s → IsWhole (expr_tree c e) → IsWhole (expr_tree c n.expr)
-  whole_item e s n is at w = let x = subst IsWhole (item_arm e s n is at) w in x.0
-
   pub whole_key : (e : Expr V F) (s : Spanned (GetItem V F)) (n : GetItem V F) → e ≡ expr.GetItem s → n ≡ node_of s → IsWhole (expr_tree c e) → IsWhole (expr_tree c n.subscript_expr)
   whole_key e s n is at w = let x = subst IsWhole (item_arm e s n is at) w in x.1
-
-  pub whole_callee : (e : Expr V F) (s : Spanned (Call V F)) (n : Call V F) → e ≡ expr.Call s → n ≡ node_of s → IsWhole (expr_tree c e) → IsWhole (expr_tree c n.expr)
-  whole_callee e s n is at w = let x = subst IsWhole (call_arm e s n is at) w in x.0
 
   pub whole_call_args : (e : Expr V F) (s : Spanned (Call V F)) (n : Call V F) (xs : _) → e ≡ expr.Call s → n ≡ node_of s → xs ≡ n.args.items → IsWhole (expr_tree c e) → AreArguments (args_of c xs)
   whole_call_args e s n xs is at same w = let x = subst IsWhole (call_arm e s n is at) w in subst (λ zs. AreArguments (args_of c zs)) (sym same) x.1
@@ -139,17 +115,8 @@ module _ {V F C : Type 0} (c : V → C) where
   pub whole_filter : (e : Expr V F) (s : Spanned (Filter V F)) (n : Filter V F) → e ≡ expr.Filter s → n ≡ node_of s → IsWhole (expr_tree c e) → IsWhole (tree.filter (optional_of c n.expr) n.name.now (args_of c n.args.items))
   whole_filter e s n is at w = subst IsWhole (filter_arm e s n is at) w
 
-  pub filter_operand : (o : Option (Expr V F)) (e : Expr V F) (x : Text) (args : tree.Args C) → o ≡ Some e → IsWhole (tree.filter (optional_of c o) x args) → IsWhole (expr_tree c e)
-  filter_operand o e x args is w = let y = subst (λ p. IsWhole (tree.filter (optional_of c p) x args)) is w in y.0
-
-  pub filter_args : (o : Option (Expr V F)) (e : Expr V F) (x : Text) (args : tree.Args C) → o ≡ Some e → IsWhole (tree.filter (optional_of c o) x args) → AreArguments args
-  filter_args o e x args is w = let y = subst (λ p. IsWhole (tree.filter (optional_of c p) x args)) is w in y.1
-
   pub filter_few : (o : Option (Expr V F)) (e : Expr V F) (x : Text) (args : tree.Args C) → o ≡ Some e → IsWhole (tree.filter (optional_of c o) x args) → arg_count args ≤ most_arguments
   filter_few o e x args is w = let y = subst (λ p. IsWhole (tree.filter (optional_of c p) x args)) is w in y.2
-
-  pub filter_present : (o : Option (Expr V F)) (x : Text) (args : tree.Args C) → o ≡ None → IsWhole (tree.filter (optional_of c o) x args) → ⊥
-  filter_present o x args is w = subst (λ p. IsWhole (tree.filter (optional_of c p) x args)) is w
 
   pub whole_pairs : (e : Expr V F) (s : Spanned (Map V F)) (n : Map V F) → e ≡ expr.Map s → n ≡ node_of s → IsWhole (expr_tree c e) → expr_count (exprs_of c n.keys.items) ≡ expr_count (exprs_of c n.values.items)
   whole_pairs e s n is at w = let x = subst IsWhole (map_arm e s n is at) w in x.2

@@ -140,8 +140,6 @@ module _ (K : Type 0) {V C : Type 0} (v : V → C) where
   pub record Walk (piece : Args C → ℕ → Piece C) (count : Args C → Count → Count) : Type 0 where
     pub piece_end : (n : ℕ) → piece no_args n ≡ nothing
     pub count_end : (k : Count) → count no_args k ≡ k
-    pub adds_next : (a b c : Made C) (x : CallArg V K) (rest : Args C) (k : Count) → Adds a b (piece (arg_tree v x no_args) k.waiting) → Adds b c (piece rest (count (arg_tree v x no_args) k).waiting) → Adds a c (piece (arg_tree v x rest) k.waiting)
-    pub count_next : (x : CallArg V K) (rest : Args C) (k : Count) → count (arg_tree v x rest) k ≡ count rest (count (arg_tree v x no_args) k)
     pub few : (x : CallArg V K) (k : Count) → size (count (arg_tree v x no_args) k) ≤ suc (size k)
 
 module _ {V K C : Type 0} (v : V → C) where
@@ -150,12 +148,6 @@ module _ {V K C : Type 0} (v : V → C) where
   whole_first (Kwarg name e) rest w = (w.0, tt)
   whole_first (PosSplat e) rest w = (w.0, tt)
   whole_first (KwargSplat e) rest w = (w.0, tt)
-
-  whole_rest : (x : CallArg V K) (rest : Args C) → AreArguments (arg_tree v x rest) → AreArguments rest
-  whole_rest (Pos e) rest w = w.1
-  whole_rest (Kwarg name e) rest w = w.1
-  whole_rest (PosSplat e) rest w = w.1
-  whole_rest (KwargSplat e) rest w = w.1
 
   one_argument : (x : CallArg V K) (rest : Args C) → arg_count (arg_tree v x rest) ≡ suc (arg_count rest)
   one_argument (Pos e) rest = refl
@@ -207,31 +199,7 @@ module _ {V K C : Type 0} (v : V → C) where
         pub taken_whole : AreArguments (arg_tree v x no_args)
         taken_whole = whole_first x after_it (subst (λ args. AreArguments args) next t.whole)
 
-        pub taken_next : {after : Made C} {m : Count} → m ≡ count (arg_tree v x no_args) k → Adds now after (piece (arg_tree v x no_args) k.waiting) → Taken piece count xs front a after (i + 1) m
-        taken_next {after} {m} e s =
-            let l : Leads a now (piece (arg_tree v x after_it) k.waiting) (piece (args_of v xs) front) = subst (λ args. Leads a now (piece args k.waiting) (piece (args_of v xs) front)) next t.leads in
-            let n : Count = count (arg_tree v x no_args) k in
-            let there : Leads a after (piece after_it n.waiting) (piece (args_of v xs) front) = record { adds = λ c r. l.adds c (walk.adds_next now after c x after_it k s r) } in
-            record {
-              leads = subst (λ (m : Count). Leads a after (piece after_it m.waiting) (piece (args_of v xs) front)) (sym e) there;
-              counts = ap (count after_it) e ∙ sym (walk.count_next x after_it k) ∙ sym (ap (λ args. count args k) next) ∙ t.counts;
-              few = omega (arith, ap size e, walk.few x k, t.few);
-              whole = whole_rest x after_it (subst (λ args. AreArguments args) next t.whole);
-            }
-
 module _ {V K C F : Type 0} (v : V → C) (f : Functions C F) where
-  positional_adds : (a b c : Made C) (x : CallArg V K) (rest : Args C) (k : Count) → Adds a b (positional f (arg_tree v x no_args) k.waiting) → Adds b c (positional f rest (count_positional (arg_tree v x no_args) k).waiting) → Adds a c (positional f (arg_tree v x rest) k.waiting)
-  positional_adds a b c (Pos e) rest k s t = adds_one (expr f (expr_tree v e)) (positional f rest (suc k.waiting)) s t
-  positional_adds a b c (PosSplat e) rest k s t = adds_two (list_batch k.waiting) (expr f (expr_tree v e)) (positional f rest 0) s t
-  positional_adds a b c (Kwarg name e) rest k s t = adds_then s t
-  positional_adds a b c (KwargSplat e) rest k s t = adds_then s t
-
-  positional_count : (x : CallArg V K) (rest : Args C) (k : Count) → count_positional (arg_tree v x rest) k ≡ count_positional rest (count_positional (arg_tree v x no_args) k)
-  positional_count (Pos e) rest k = refl
-  positional_count (PosSplat e) rest k = refl
-  positional_count (Kwarg name e) rest k = refl
-  positional_count (KwargSplat e) rest k = refl
-
   positional_few : (x : CallArg V K) (k : Count) → size (count_positional (arg_tree v x no_args) k) ≤ suc (size k)
   positional_few (Pos e) k = omega arith
   positional_few (PosSplat e) k = omega (arith, batch_few k.waiting)
@@ -242,22 +210,8 @@ module _ {V K C F : Type 0} (v : V → C) (f : Functions C F) where
   positional_walk = record {
     piece_end = λ n. refl;
     count_end = λ k. refl;
-    adds_next = positional_adds;
-    count_next = positional_count;
     few = positional_few;
   }
-
-  keyword_adds : (a b c : Made C) (x : CallArg V K) (rest : Args C) (k : Count) → Adds a b (keyword f (arg_tree v x no_args) k.waiting) → Adds b c (keyword f rest (count_keyword (arg_tree v x no_args) k).waiting) → Adds a c (keyword f (arg_tree v x rest) k.waiting)
-  keyword_adds a b c (Pos e) rest k s t = adds_then s t
-  keyword_adds a b c (PosSplat e) rest k s t = adds_then s t
-  keyword_adds a b c (Kwarg name e) rest k s t = adds_two (one (Load (f.of_str name.now))) (expr f (expr_tree v e)) (keyword f rest (suc k.waiting)) s t
-  keyword_adds a b c (KwargSplat e) rest k s t = adds_two (map_batch k.waiting) (expr f (expr_tree v e)) (keyword f rest 0) s t
-
-  keyword_count : (x : CallArg V K) (rest : Args C) (k : Count) → count_keyword (arg_tree v x rest) k ≡ count_keyword rest (count_keyword (arg_tree v x no_args) k)
-  keyword_count (Pos e) rest k = refl
-  keyword_count (PosSplat e) rest k = refl
-  keyword_count (Kwarg name e) rest k = refl
-  keyword_count (KwargSplat e) rest k = refl
 
   keyword_few : (x : CallArg V K) (k : Count) → size (count_keyword (arg_tree v x no_args) k) ≤ suc (size k)
   keyword_few (Pos e) k = omega arith
@@ -269,8 +223,6 @@ module _ {V K C F : Type 0} (v : V → C) (f : Functions C F) where
   keyword_walk = record {
     piece_end = λ n. refl;
     count_end = λ k. refl;
-    adds_next = keyword_adds;
-    count_next = keyword_count;
     few = keyword_few;
   }
 

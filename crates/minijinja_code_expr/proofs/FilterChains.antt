@@ -87,14 +87,5 @@ module _ {V K C F : Type 0} (f : Functions C F) (c : V → C) where
     popped : (ws xs : List (WaitingFilter V K)) (w : WaitingFilter V K) (now : Made C) → xs ≡ ws ++ w ∷ [] → Rest (reverse xs) now → Rest (w ∷ reverse ws) now
     popped ws xs w now e r = subst (λ l. Rest l now) (ap reverse e ∙ reverse-append ws (w ∷ [])) r
 
-    pub rest_arguments : (ws xs : List (WaitingFilter V K)) (w : WaitingFilter V K) (now : Made C) → xs ≡ ws ++ w ∷ [] → Rest (reverse xs) now → AreArguments (args_of c w.filter.now.args.items)
-    rest_arguments ws xs w now e r = let k = popped ws xs w now e r in k.0
-
-    pub rest_few : (ws xs : List (WaitingFilter V K)) (w : WaitingFilter V K) (now : Made C) → xs ≡ ws ++ w ∷ [] → Rest (reverse xs) now → arg_count (args_of c w.filter.now.args.items) ≤ most_arguments
-    rest_few ws xs w now e r = let k = popped ws xs w now e r in k.1
-
     pub rest_next : (ws xs : List (WaitingFilter V K)) (w : WaitingFilter V K) (now next : Made C) → xs ≡ ws ++ w ∷ [] → Adds now next (applied w.filter.now) → Rest (reverse xs) now → Rest (reverse ws) next
     rest_next ws xs w now next e s r = let k = popped ws xs w now e r in k.2 next s
-
-    pub rest_end : (xs : List (WaitingFilter V K)) (now : Made C) → xs ≡ [] → Rest (reverse xs) now → Adds old now (layout.expr f whole)
-    rest_end xs now e r = subst (λ (l : List (WaitingFilter V K)). Rest (reverse l) now) e r

@@ -21,7 +21,7 @@ use Rattle.minijinja_code_expr.specs.private.Operating.{Sides, EndsBinary, known
 use Rattle.minijinja_code_expr.specs.private.OperatorMarks.{Folds}
 use Rattle.minijinja_semantics.proofs.FoldedCode.{folded_some, folded_none, folded_code}
 use Rattle.minijinja_semantics.proofs.Runs.{append_nil}
-use Rattle.minijinja_emitter.proofs.Adding.{adds_nothing, adds_then, adds_as, adds_skipping, between_added}
+use Rattle.minijinja_emitter.proofs.Adding.{adds_then, adds_as, adds_skipping, between_added}
 use Rattle.minijinja_code_expr.proofs.Alone.{fold_alone}
 
 -- a value that comes of another one
@@ -62,23 +62,11 @@ module _ {C : Type 0} where
             ∙ ap (λ l. record { place = length a.code + 1; filters = a.filters; tests = l }) s.tests;
       }
 
-  pub room_left : {a b : Made C} (w : Working) → is_lazy w ≡ true → Adds a b (one hole) → Adds a b (before_right w)
-  room_left (Makes o) e s = absurd (cc)
-  room_left Divides e s = absurd (cc)
-  room_left IfTrue e s = s
-  room_left IfFalse e s = s
-
   room_made : {a b : Made C} (w : Working) → is_lazy w ≡ true → Adds a b (before_right w) → Adds a b (one hole)
   room_made (Makes o) e s = absurd (cc)
   room_made Divides e s = absurd (cc)
   room_made IfTrue e s = s
   room_made IfFalse e s = s
-
-  pub no_room_left : (m : Made C) (w : Working) → is_lazy w ≡ false → Adds m m (before_right w)
-  no_room_left m (Makes o) e = adds_nothing m
-  no_room_left m Divides e = adds_nothing m
-  no_room_left m IfTrue e = absurd (cc)
-  no_room_left m IfFalse e = absurd (cc)
 
   no_room_made : {a b : Made C} (w : Working) → is_lazy w ≡ false → Adds a b (before_right w) → Adds a b nothing
   no_room_made (Makes o) e s = s

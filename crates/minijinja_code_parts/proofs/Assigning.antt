@@ -16,12 +16,6 @@ module _ {V K C : Type 0} (c : V → C) (xs : List (Expr V K × Expr V K)) (i : 
       let more = subst AreAssignments (at_drop_more (λ ys. assignments_of c ys) xs i x within) w in
       subst (λ (y : Expr V K × Expr V K). IsTarget (expr_tree c y.0) × IsWhole (expr_tree c y.1) × AreAssignments (assignments_of c (drop (i + 1) xs))) (sym at) more
 
-  pub assigned_target : i < length xs → x ≡ get_or xs i x → AreAssignments (assignments_of c (drop i xs)) → IsTarget (expr_tree c x.0)
-  assigned_target within at w = (here within at w).0
-
-  pub assigned_value : i < length xs → x ≡ get_or xs i x → AreAssignments (assignments_of c (drop i xs)) → IsWhole (expr_tree c x.1)
-  assigned_value within at w = (here within at w).1
-
   pub assignments_after : i < length xs → x ≡ get_or xs i x → AreAssignments (assignments_of c (drop i xs)) → AreAssignments (assignments_of c (drop (i + 1) xs))
   assignments_after within at w = (here within at w).2
 

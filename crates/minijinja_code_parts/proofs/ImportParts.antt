@@ -95,12 +95,6 @@ module _ {V K C : Type 0} (v : V → C) where
     stores_end [] none = refl
     stores_end (x ∷ xs) none = absurd (cc)
 
-    -- names that are looked up in order
-    pub name_whole : (xs : List (Expr V K × Option (Expr V K))) (i : ℕ) (x : Expr V K × Option (Expr V K)) → i < length xs → x ≡ get_or xs i x → AreNames (names_of v (drop i xs)) → IsWhole (expr_tree v x.0)
-    name_whole xs i x within at w =
-        let more = subst AreNames (at_drop_more (λ ys. names_of v ys) xs i x within) w in
-        subst (λ (y : Expr V K × Option (Expr V K)). IsWhole (expr_tree v y.0)) (sym at) (variable_whole _ more.0)
-
     pub names_after : (xs : List (Expr V K × Option (Expr V K))) (i : ℕ) (x : Expr V K × Option (Expr V K)) → i < length xs → AreNames (names_of v (drop i xs)) → AreNames (names_of v (drop (i + 1) xs))
     names_after xs i x within w = (subst AreNames (at_drop_more (λ ys. names_of v ys) xs i x within) w).2
 

@@ -1,9 +1,9 @@
 -- Parts of macros while their code is being made.
-use Rattle.std.proofs.Common.{◌≡◌, ℕ, ◌+◌, ◌<◌, ◌≤◌, List, [], ◌∷◌, ◌++◌, length, map, drop, get_or, Option, Some, None, refl, sym, ap, ◌∙◌, subst, arith, append_assoc, length-append, slice_set}
+use Rattle.std.proofs.Common.{◌≡◌, ℕ, ◌+◌, ◌<◌, List, [], ◌∷◌, ◌++◌, length, map, drop, get_or, Option, Some, None, refl, sym, ap, ◌∙◌, subst, arith, length-append, slice_set}
 use Rattle.std.specs.Prelude.{Bool, true, false, cond, not, ◌||◌, if◌then◌else◌, IfOk, MatchOption, Ok, Result, filter, reverse, bytes_eq}
 use Rattle.std.specs.Borrow.{Bor}
 use Rattle.std.specs.List.{IsLastAndRest, list_any}
-use Rattle.std.proofs.lemmas.List.{append-nil, at_drop_all, at_drop_more, map-append, reverse-append}
+use Rattle.std.proofs.lemmas.List.{at_drop_more, map-append, reverse-append}
 use Rattle.std.proofs.lemmas.Bool.Decides.{Decides-like, same_from_decides}
 use Rattle.std.proofs.lemmas.List.Elements.{filter-append}
 use Rattle.std.proofs.lemmas.List.Folds.{list_any-append}
@@ -175,14 +175,6 @@ module _ {V K C : Type 0} (v : V → C) where
 pub left_smaller : {X : Type 0} (o o' : Option (Bor X × Bor (List X))) (p : Bor X × Bor (List X)) → o ≡ Some p → left_of o' ≡ p.1.now → length (left_of o') < length (left_of o)
 left_smaller o o' p is e = omega (arith, ap length e, left_fewer (left_of o) p.1.now p.0.now (ap left_of is))
 
--- the names of arguments, in order
-pub names_next : {V K C : Type 0} (v : V → C) (of : Text → C) (names more : List V) (xs : List (Expr V K)) (i : ℕ) (x : Expr V K) (all : List C) → i < length xs → x ≡ get_or xs i x → map v more ++ map of (variable_names (map (expr_tree v) (drop (i + 1) xs))) ≡ map of (variable_names (expr_tree v x ∷ map (expr_tree v) (drop (i + 1) xs))) → map v names ++ map of (variable_names (map (expr_tree v) (drop i xs))) ≡ all → map v (names ++ more) ++ map of (variable_names (map (expr_tree v) (drop (i + 1) xs))) ≡ all
-names_next v of names more xs i x all within at here w =
-    let rest = map of (variable_names (map (expr_tree v) (drop (i + 1) xs))) in
-    ap (λ l. l ++ rest) (map-append v names more) ∙ append_assoc (map v names) (map v more) rest ∙ ap (λ l. map v names ++ l) here
-    ∙ ap (λ y. map v names ++ map of (variable_names (expr_tree v y ∷ map (expr_tree v) (drop (i + 1) xs)))) at
-    ∙ ap (λ l. map v names ++ l) (sym (at_drop_more (λ ys. map of (variable_names (map (expr_tree v) ys))) xs i x within)) ∙ w
-
 -- The names that a macro takes along, in order.
 
 or_true : (b : Bool) → (b || (true || false)) ≡ true
@@ -209,19 +201,10 @@ module _ {C : Type 0} where
   enclosing_last : {a b c : Made C} (xs : List Text) (x : Text) → Adds a b (enclosing xs) → Adds b c (one (Do Enclose x 0)) → Adds a c (enclosing (xs ++ x ∷ []))
   enclosing_last xs x s t = adds_same (enclosing xs ▸ one (Do Enclose x 0)) (enclosing (xs ++ x ∷ [])) (enclosing_same xs x) (adds_then s t)
 
-  -- the caller's name comes with each call
-  pub caller_next : {a b : Made C} (xs : List Text) (x : Text) → bytes_eq x caller ≡ true → Adds a b (enclosing (kept xs)) → Adds a b (enclosing (kept (xs ++ x ∷ [])))
-  caller_next {a} {b} xs x is s =
-      let same : kept (xs ++ x ∷ []) ≡ kept xs = filter_last (λ x. not (bytes_eq x caller)) xs x ∙ ap (λ l. kept xs ++ l) (ap (λ b. cond (not b) (x ∷ []) []) is) ∙ append-nil (kept xs) in
-      subst (λ ys. Adds a b (enclosing ys)) (sym same) s
-
   pub other_next : {a b c : Made C} (xs : List Text) (x : Text) → bytes_eq x caller ≡ false → Adds a b (enclosing (kept xs)) → Adds b c (one (Do Enclose x 0)) → Adds a c (enclosing (kept (xs ++ x ∷ [])))
   other_next {a} {b} {c} xs x is s t =
       let same : kept (xs ++ x ∷ []) ≡ kept xs ++ x ∷ [] = filter_last (λ x. not (bytes_eq x caller)) xs x ∙ ap (λ l. kept xs ++ l) (ap (λ b. cond (not b) (x ∷ []) []) is) in
       subst (λ ys. Adds a c (enclosing ys)) (sym same) (enclosing_last (kept xs) x s t)
-
-pub caller_flag : (xs : List Text) (x : Text) → bytes_eq caller x ≡ true → ◌≡◌ {A = ℕ} (if list_any (bytes_eq caller) (xs ++ x ∷ []) then 2 else 0) 2
-caller_flag xs x is = ap (λ b. let n : ℕ = if b then 2 else 0 in n) (list_any-append (bytes_eq caller) xs (x ∷ []) ∙ ap (λ b. list_any (bytes_eq caller) xs || (b || false)) is ∙ or_true (list_any (bytes_eq caller) xs))
 
 pub other_flag : (xs : List Text) (x : Text) (n : ℕ) → bytes_eq caller x ≡ false → n ≡ (if list_any (bytes_eq caller) xs then 2 else 0) → n ≡ (if list_any (bytes_eq caller) (xs ++ x ∷ []) then 2 else 0)
 other_flag xs x n is e = e ∙ ap (λ b. let n : ℕ = if b then 2 else 0 in n) (sym (list_any-append (bytes_eq caller) xs (x ∷ []) ∙ ap (λ b. list_any (bytes_eq caller) xs || (b || false)) is ∙ or_false (list_any (bytes_eq caller) xs)))
@@ -231,10 +214,6 @@ names_skip v of names xs i x all within at other w =
     ap (λ l. map v names ++ map of l) (sym (no_name v x (map (expr_tree v) (drop (i + 1) xs)) other))
     ∙ ap (λ y. map v names ++ map of (variable_names (expr_tree v y ∷ map (expr_tree v) (drop (i + 1) xs)))) at
     ∙ ap (λ l. map v names ++ l) (sym (at_drop_more (λ ys. map of (variable_names (map (expr_tree v) ys))) xs i x within)) ∙ w
-
-pub names_done : {V K C : Type 0} (v : V → C) (of : Text → C) (names : List V) (xs : List (Expr V K)) (i : ℕ) (all : List C) → length xs ≤ i → map v names ++ map of (variable_names (map (expr_tree v) (drop i xs))) ≡ all → map v names ≡ all
-names_done v of names xs i all past w =
-    sym (append-nil (map v names)) ∙ ap (λ l. map v names ++ l) (sym (at_drop_all (λ ys. map of (variable_names (map (expr_tree v) ys))) xs i past)) ∙ w
 
 bytes_eq_swap : (x y : Text) → bytes_eq x y ≡ bytes_eq y x
 bytes_eq_swap x y = same_from_decides (bytes_eq x y) (bytes_eq y x) (bytes_eq-Decides x y) (Decides-like (bytes_eq y x) sym sym (bytes_eq-Decides y x))

@@ -174,11 +174,6 @@ enclosing_next : (ys : List (Bor (Bor Text))) (k : Bor (Bor Text)) (a : Margin) 
 enclosing_next ys k a s t =
     t ∙ ap (here (length (kept (k.now.now ∷ [])))) s ∙ sym (enclosing_more (kept (gone_through ys)) (kept (k.now.now ∷ [])) a) ∙ ap (λ xs. here (length xs) a) (sym (kept_more ys k))
 
--- the caller's name is not marked, and each other one is
-pub marked_caller : (ys : List (Bor (Bor Text))) (k : Bor (Bor Text)) (is_caller : Bool) (a : Margin) {b : Margin} → is_caller ≡ bytes_eq k.now.now caller → is_caller ≡ true → b ≡ here (length (kept (gone_through ys))) a → b ≡ here (length (kept (gone_through (ys ++ k ∷ [])))) a
-marked_caller ys k is_caller a {b} at is s =
-    enclosing_next ys k a s (ap (λ (t : Bool). here (length (cond (not t) (k.now.now ∷ []) [])) b) (sym is ∙ at))
-
 pub marked_other : (ys : List (Bor (Bor Text))) (k : Bor (Bor Text)) (is_caller : Bool) (a : Margin) {b c : Margin} → is_caller ≡ bytes_eq k.now.now caller → is_caller ≡ false → b ≡ here (length (kept (gone_through ys))) a → c ≡ here 1 b → c ≡ here (length (kept (gone_through (ys ++ k ∷ [])))) a
 marked_other ys k is_caller a {b} at is s t =
     enclosing_next ys k a s (t ∙ ap (λ (t : Bool). here (length (cond (not t) (k.now.now ∷ []) [])) b) (sym is ∙ at))

@@ -1,11 +1,11 @@
 -- How what is added to code is put together of pieces.
-use Rattle.std.proofs.Common.{◌≡◌, ℕ, ◌+◌, ◌-◌, List, [], ◌∷◌, ◌++◌, length, map, take, drop, None, refl, sym, ap, ◌∙◌, subst, arith, append_assoc, length-append}
+use Rattle.std.proofs.Common.{◌≡◌, ℕ, ◌+◌, ◌-◌, List, [], ◌∷◌, ◌++◌, length, map, take, drop, refl, sym, ap, ◌∙◌, subst, arith, append_assoc, length-append}
 use Rattle.std.specs.Prelude.{slice_set}
 use Rattle.std.proofs.lemmas.List.{length-set, map-append}
 use Rattle.std.proofs.Math.Seq.{take-append_seam, drop-append_seam}
-use Rattle.minijinja_semantics.specs.Code.{Instr, BuildMacro, Jump, JumpIfFalse, JumpIfFalseOrPop, JumpIfTrueOrPop, Iterate}
+use Rattle.minijinja_semantics.specs.Code.{Instr}
 use Rattle.minijinja_semantics.specs.Pieces.{Here, behind, Piece, nothing, one, ◌▸◌, skipping}
-use Rattle.minijinja_emitter.specs.internal.Making.{Made, here_of, followed, hole, place_in, capped, Adds, between}
+use Rattle.minijinja_emitter.specs.internal.Making.{Made, here_of, followed, hole, capped, Adds, between}
 use Rattle.minijinja_semantics.proofs.Runs.{append_nil}
 
 -- an instruction takes the place of another
@@ -14,16 +14,6 @@ set_between [] ys x y = refl
 set_between (z ∷ xs) ys x y = ap (λ l. z ∷ l) (set_between xs ys x y)
 
 module _ {C : Type 0} where
-  -- what names no place is not capped
-  pub same_capped : (i : Instr C) → place_in i ≡ None → capped i ≡ i
-  same_capped (Jump n) e = absurd (cc)
-  same_capped (JumpIfFalse n) e = absurd (cc)
-  same_capped (JumpIfFalseOrPop n) e = absurd (cc)
-  same_capped (JumpIfTrueOrPop n) e = absurd (cc)
-  same_capped (Iterate n) e = absurd (cc)
-  same_capped (BuildMacro x n flags) e = absurd (cc)
-  same_capped i e = refl
-
   pub adds_nothing : (m : Made C) → Adds m m nothing
   adds_nothing m = record { code = sym (append_nil m.code); past = refl }
 

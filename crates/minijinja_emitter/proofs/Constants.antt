@@ -102,11 +102,6 @@ module _ {C : Type 0} where
     ends : middle ≤ length old.code → Two start middle old.code
     ends within = two_of start middle old.code within (sym (there within))
 
-    pub right_there : middle ≤ length old.code → r ≡ None → ⊥
-    right_there within none =
-        let t = ends within in
-        no_some (sym (ap (option_map v) none) ∙ right ∙ last_is start middle old.code t ∙ t.right)
-
     pub left_there : middle ≤ length old.code → option_map v l ≡ last_loaded one.code → l ≡ None → ⊥
     left_there within left none =
         let t = ends within in

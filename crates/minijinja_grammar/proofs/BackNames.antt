@@ -4,8 +4,8 @@ use Rattle.minijinja_syntax.specs.Texts.{Text}
 use Rattle.minijinja_value.specs.Values.{Functions}
 use Rattle.minijinja_syntax.specs.declared.tokens.Span.{Span}
 use Rattle.minijinja_syntax.specs.Streams.{SpannedTok}
-use Rattle.minijinja_syntax.specs.Tokens.{Tok, template_data, block_start}
-use Rattle.minijinja_tree.specs.SpannedTrees.{Expr, Arg, Args, bare_expr, Stmt}
+use Rattle.minijinja_syntax.specs.Tokens.{Tok}
+use Rattle.minijinja_tree.specs.SpannedTrees.{Expr, Arg, Args, bare_expr}
 use Rattle.minijinja_grammar.specs.Places.{Place}
 use Rattle.minijinja_grammar.specs.internal.Forms.{Turn, go_on, over, Form, pure, nothing, one, source, start, last, and_then, either, many, Turns, no_turn, last_turn, turn, Derives}
 use Rattle.minijinja_grammar.specs.internal.ExprForms as g
@@ -105,15 +105,6 @@ module _ {C : Type 0} where
   pub imports_quiet : Quiet (form.imports {C = C})
   unfolding form.imports form.next_imported
   imports_quiet = either_quiet pure_quiet (then_quiet imported_quiet (λ n. many_quiet (λ ns s. either_quiet pure_quiet (then_quiet imported_quiet (λ m. pure_quiet)))))
-
-  blank_part_quiet : (ss : List (Stmt C)) (u : SpannedTok) → Quiet (form.blank_part ss u)
-  blank_part_quiet ss (template_data x, s) = when_quiet _ pure_quiet
-  blank_part_quiet ss (block_start, s) = pure_quiet
-  blank_part_quiet ss (_, s) = nothing_quiet
-
-  pub blank_quiet : Quiet (form.blank_body {C = C})
-  unfolding form.blank_body
-  blank_quiet = many_quiet blank_part_quiet
 
   module _ (expr : Form (Expr C)) (i : Quiet expr) where
     also_quiet : (es : List (Expr C)) → Quiet (g.also expr es)

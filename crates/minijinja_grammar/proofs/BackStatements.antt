@@ -282,9 +282,5 @@ module _ {C F : Type 0} (f : Functions C F) (src : Text) where
   pub derived_is_stmt : (c : Context) (d : ℕ) → SaysStmt f src (IsStmt f src c d) (form.stmt_at f c d)
   derived_is_stmt c d p q x e u = (all_inside d).stmt c p q x e u
 
-  -- likewise an If after its word, and a body, unless the text ends where a word should end it
-  pub derived_is_if : (c : Context) (d : ℕ) (from : Span) → SaysStmt f src (IsIf f src c d) (form.if_level (form.parts_at f c d) from)
-  derived_is_if c d from p q x e u = if_back d (below f d) (within f d) (all_backed f src d) (all_inside d) c from p q x e u
-
   pub derived_is_body : (c : Context) (ends : Ends) (d : ℕ) (p q : Place) (ss : List (Stmt C)) → p.source ≡ src → Derives (form.body (g.expr_at f d) (form.stmt_at f c d) ends) p q ss → Ended f src c d ends p.tokens q.tokens (bare_stmts (stmts_of ss))
   derived_is_body c ends d p q ss e u = body_back f src c d ends (g.expr_at f d) ((all_backed f src d).expr) (form.stmt_at f c d) (derived_is_stmt c d) p q ss e u

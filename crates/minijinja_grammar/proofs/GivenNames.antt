@@ -39,9 +39,6 @@ pub two_given : {C L : Type 0} (a : List Text) (bs cs : List (Block C L)) (c : L
     Given b (names_of_blocks cs) c
 two_given a bs cs c h = given_split a (names_of_blocks bs) (names_of_blocks cs) c (subst (λ xs. Given a xs c) (names_append bs cs) h)
 
-pub both_given : {C L : Type 0} (a : List Text) (bs cs : List (Block C L)) (b c : List Text) → Given a (names_of_blocks bs) b → Given b (names_of_blocks cs) c → Given a (names_of_blocks (bs ++ cs)) c
-both_given a bs cs b c h k = subst (λ xs. Given a xs c) (sym (names_append bs cs)) (given_append a (names_of_blocks bs) b (names_of_blocks cs) c h k)
-
 -- ---- names that are distinct can be given
 
 or_false : (p q : Bool) → p ≡ false → q ≡ false → (p || q) ≡ false

@@ -32,9 +32,6 @@ pair x y = (x, y)
 pub alone : {X : Type 0} → X → Holds X
 alone x = record { it = x }
 
-all_three : {X Y Z : Type 0} → X → Y → Z → Holds (X × Y × Z)
-all_three x y z = record { it = (x, y, z) }
-
 abbrev span_or : Span → Option (Text × Span) → Span
 span_or s None = s
 span_or s (Some x) = x.1
@@ -66,16 +63,6 @@ module _ (T : SpannedTok → Type 0) (S : Span → Type 0) (spans : (t : Spanned
         (k x i),
     l x i,
   )
-
-  pub mark_span : (m : Tok) (t : SpannedTok) (x : Span) → T t → g.span_of_mark m t ≡ Some x → S x
-  mark_span m t x i j = go (is m t.0) j
-    where
-      go : (b : Bool) → (if b then Some t.1 else None) ≡ Some x → S x
-      go true k = subst S (same t.1 x k) (spans t i)
-        where
-          same : (y x : Span) → Some y ≡ Some x → y ≡ x
-          same y x e = ap (λ o. elim o [ None ↦ y | Some v ↦ v ]) e
-      go false k = cc
 
   pub of_kind_is : (begins : Tok → Bool) (t u : SpannedTok) → T t → g.of_kind begins t ≡ Some u → T u
   of_kind_is begins t u i j = go (begins t.0) j

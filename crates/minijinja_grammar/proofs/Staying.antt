@@ -51,12 +51,6 @@ then_stays p (got x q) f h k = further p q h (f x q) (k x q)
 then_stays p (short q) f h k = h
 then_stays p (wrong q) f h k = h
 
-turn_stays : {A : Type 0} (p : Place) (o : Read (Turn A)) (f : A → Place → Read A) → Stays p o → ((x : A) (q : Place) → Stays q (f x q)) → Stays p (read_turn o f)
-turn_stays p (got (go_on x) q) f h k = further p q h (f x q) (k x q)
-turn_stays p (got (over x) q) f h k = h
-turn_stays p (short q) f h k = h
-turn_stays p (wrong q) f h k = h
-
 after_same : (p : Place) (t : SpannedTok) (ts : List SpannedTok) → p.tokens ≡ t ∷ ts → IsOfSame p (after p t ts)
 after_same p t ts e = record {
   source = refl;

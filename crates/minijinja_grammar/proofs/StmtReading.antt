@@ -771,11 +771,6 @@ module _ {C F : Type 0} (f : Functions C F) (src : Text) (en : Ending) where
     if_ = λ c from ts rest x a. if_read d (below f d) (within f d) (λ ns. all_nested f src en ns d) (all_stmts d) c from ts rest x a;
   }
 
-  -- every statement that the relations give is derived by the form of its depth, with the tree of its
-  -- derivation, where the names of its blocks can be given
-  pub stmt_is_derived : (c : Context) (d : ℕ) (ts rest : List SpannedTok) (x : Bare) → (a : IsStmt f src c d ts rest x) → GivesStmt (stmt_at f c d) ts rest x (spanned_stmt f src a)
-  stmt_is_derived c d ts rest x a = (all_stmts d).stmt c ts rest x a
-
   -- every body likewise
   pub body_is_derived : (c : Context) (e : Ends) (d : ℕ) (ts rest : List SpannedTok) (ss : Bares) → (a : IsBody f src c e d ts rest ss) → GivesStmts (form.body (g.expr_at f d) (stmt_at f c d) e) ts rest ss (λ k. spanned_body f src k a)
   body_is_derived c e d ts rest ss a = body_read d (below f d) (within f d) (λ ns. all_nested f src en ns d) (all_stmts d) a

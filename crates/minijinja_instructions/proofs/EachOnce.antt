@@ -1,10 +1,9 @@
 -- Names that are added one by one, each once.
 use Rattle.std.proofs.Common.{◌≡◌, refl, sym, ap, ap₂, ◌∙◌, true, false, cond, Bool, not, ◌&&◌, ◌||◌, List, [], ◌∷◌, ◌++◌, filter, append_assoc, append-nil}
 use Rattle.std.specs.Borrow.{Bor}
-use Rattle.std.specs.BTreeSet.{BTreeSet, Updates, IsUnchanged}
+use Rattle.std.specs.BTreeSet.{BTreeSet, Updates}
 use Rattle.std.specs.Cmp.Lexicographic.{slice_cmp}
-use Rattle.std.specs.List.{list_any}
-use Rattle.std.specs.Ordering.{is_eq, nat_cmp}
+use Rattle.std.specs.Ordering.{nat_cmp}
 use Rattle.std.specs.Str.{bytes_eq}
 use Rattle.std.proofs.lemmas.List.Folds.{list_any-append}
 use Rattle.std.proofs.lemmas.Map.Text.{is_eq-slice_cmp}
@@ -60,9 +59,6 @@ set-more xs s t x h u = record {
       ∙ ap (λ b. b || bytes_eq y x.now) (h.same y)
       ∙ sym (among-last y xs x.now);
 }
-
-pub set-same : (xs : List Text) (s t : BTreeSet (Bor Text)) → IsSetOf xs s → IsUnchanged s t → IsSetOf xs t
-set-same xs s t h e = record { same = λ y. ap (list_any (λ k. is_eq (slice_cmp nat_cmp y k.now))) e ∙ h.same y }
 
 -- ---- names one after another
 

@@ -1,6 +1,6 @@
 -- Where names are mentioned first.
 use Rattle.std.proofs.Common.{◌≡◌, ℕ, ◌≤◌, refl, sym, ap, ◌∙◌, subst, get_or, arith}
-use Rattle.std.specs.Prelude.{Bool, true, false, ◌&&◌, ◌||◌, ◌==◌, nat_lt, cond, if◌then◌else◌, Option, None, Some, is_some, List, [], ◌∷◌, All, filter, find, map}
+use Rattle.std.specs.Prelude.{Bool, true, false, ◌||◌, ◌==◌, nat_lt, cond, if◌then◌else◌, Option, None, Some, is_some, List, [], ◌∷◌, All, filter, find, map}
 use Rattle.std.specs.Borrow.{Bor}
 use Rattle.std.specs.BTreeMap.{Updates, is_at}
 use Rattle.std.specs.BTreeSet.{insert_key}
@@ -20,7 +20,7 @@ use Rattle.std.proofs.lemmas.Map.Text.{is_eq-slice_cmp}
 use Rattle.std.proofs.lemmas.Slice.Eq.{bytes_eq-Decides}
 use Rattle.minijinja_syntax.specs.Texts.{Text}
 use Rattle.minijinja_syntax.specs.declared.tokens.Span.{Span}
-use Rattle.minijinja_meta.specs.Mentions.{Mention, free_of, in_order, is_among, names_of}
+use Rattle.minijinja_meta.specs.Mentions.{Mention, in_order, is_among, names_of}
 use Rattle.minijinja_meta.specs.Occurrences.{macros_of}
 use Rattle.minijinja_meta.proofs.Ordering.{in_order-same}
 use Rattle.minijinja_lint.specs.Findings.{IsFirstMention, spans_of}
@@ -108,17 +108,6 @@ put-one m n k s h late = λ x. h.0 (record { ref_ptr = (0, 0); now = x }) ∙ ap
         let same : k.now ≡ x = (bytes_eq-Decides k.now x).0 e in
         sym (ap (λ b. if b then at x m else Some s) (ap (λ y. starts_before (at y m) s) (sym same) ∙ late))
     go x false e = refl
-
--- what stands first in a list of occurrences
-pub first-put : (m : Mention) (b : Bool) (os : List (Mention × Bool)) (x : Text) →
-    first_of (spans_of x (free_of ((m, b) ∷ os))) ≡ (if b && bytes_eq m.name x then earlier m.span (first_of (spans_of x (free_of os))) else first_of (spans_of x (free_of os)))
-first-put m true os x = go (bytes_eq m.name x)
-  where
-    go : (c : Bool) → first_of (map (λ m. m.span) (cond c (m ∷ filter (λ m. bytes_eq m.name x) (free_of os)) (filter (λ m. bytes_eq m.name x) (free_of os)))) ≡
-        (if c then earlier m.span (first_of (spans_of x (free_of os))) else first_of (spans_of x (free_of os)))
-    go true = refl
-    go false = refl
-first-put m false os x = refl
 
 -- ---- all names with where they are mentioned first
 

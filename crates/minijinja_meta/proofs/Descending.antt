@@ -2,7 +2,7 @@
 use Rattle.std.proofs.Common.{◌≡◌, ℕ, ◌+◌, ◌<◌, ◌≤◌, ◌++◌, refl, sym, ap, ap₂, ◌∙◌, subst, append_assoc, arith, length, take, drop, length-append}
 use Rattle.std.specs.Prelude.{List, [], ◌∷◌, Option, Some, None, IfSome, Result, Ok, Err, IfOk, OnOk, All}
 use Rattle.std.specs.Borrow.{Bor}
-use Rattle.std.proofs.lemmas.List.{append-nil, drop-append-le, take-append-le, drop_all, take_all}
+use Rattle.std.proofs.lemmas.List.{append-nil, drop-append-le, take-append-le}
 use Rattle.std.proofs.lemmas.List.Elements.{All-append, All-cons, All-nil, All-pop}
 use Rattle.std.proofs.Math.Seq.{take-append_seam, drop-append_seam}
 use Rattle.minijinja_syntax.specs.Texts.{Text}
@@ -14,7 +14,7 @@ use Rattle.minijinja_tree_expr.specs.SpannedErasure.{compare_node}
 use Rattle.minijinja_tree_expr.specs.declared.ast.CallArg.TheBlock as block
 use Rattle.minijinja_tree_expr.specs.declared.ast.Expr.{Expr as Node}
 use Rattle.minijinja_tree_expr.specs.declared.ast.Expr.TheVariants as expr
-use Rattle.minijinja_meta.specs.Mentions.{Way, occurs, marked, declared, attributes_before, attributes_of, chained, through, through_if_any}
+use Rattle.minijinja_meta.specs.Mentions.{Way, marked, declared, attributes_before, attributes_of, chained, through, through_if_any}
 use Rattle.minijinja_meta.specs.Occurrences.{found_of, macros_of, IsChain}
 use Rattle.minijinja_meta.specs.declared.walker.Walker.{Walker}
 use Rattle.minijinja_meta.specs.private.Parts.{HasParts, IsBase, any_node, rest, rest_if_any, rests}
@@ -73,15 +73,6 @@ compare-base : {V F C : Type 0} (c : V → C) (q : block.the_data-4 V F) (s : Sp
 compare-base c (block.struct-Compare e k ops) s = tt
 
 module _ {V F C : Type 0} (c : V → C) where
-  pub based-begins : (e : Node V F) → Based c e e
-  based-begins e = record { taken = []; way = λ w. refl; attributes = refl; small = omega arith }
-
-  pub based-goes-on : (chain part x : Node V F) (y : Text) (at : Span) → Based c chain part → expr_node c part ≡ attribute (expr_node c x) y at → size_of x < size_of part → Based c chain x
-  based-goes-on chain part x y at h is smaller = record {
-    taken = y ∷ h.taken;
-    way = λ w. h.way w ∙ ap (λ n. chained h.taken n w) is;
-    attributes = h.attributes ∙ ap (λ n. attributes_before n h.taken) is;
-    small = omega (arith, h.small, smaller);
   }
 
   -- what is no attribute of nodes is none of trees
@@ -125,15 +116,6 @@ module _ {V F C : Type 0} (c : V → C) where
   has-parts _ n h = tt
 
   module _ (s : Walker V F) (chain : Node V F) (part : Bor (Node V F)) (logged : IsLogged s.scopes) (based : (w : Way) → through (expr_node c chain) w ≡ chained (attributes_of (expr_node c chain)) (expr_node c part.now) w) where
-    -- a variable
-    pub chain-is : (x : Text) (at : Span) → expr_node c part.now ≡ variable x at → (w : Way) → through (expr_node c chain) w ≡ occurs (record { name = x; attributes = attributes_of (expr_node c chain); span = at }) w
-    chain-is x at is w = based w ∙ ap (λ n. chained (attributes_of (expr_node c chain)) n w) is
-
-    -- a constant
-    pub reaches-constant : (x : C) (at : Span) → expr_node c part.now ≡ constant x at → Reaches c s s (through (expr_node c chain)) None (λ w. w)
-    reaches-constant x at is = record {
-      walking = walking-left c s s _ _ _ (walking-begins c s (through (expr_node c chain)) logged) (λ w. based w ∙ ap (λ n. chained (attributes_of (expr_node c chain)) n w) is);
-      parts = tt;
     }
 
     -- another expression
@@ -142,9 +124,6 @@ module _ {V F C : Type 0} (c : V → C) where
       walking = walking-left c s s _ _ _ (walking-begins c s (through (expr_node c chain)) logged) (λ w. based w ∙ apart (expr_node c part.now) (has-parts part.now n h) (attributes_of (expr_node c chain)) w);
       parts = has-parts part.now n h;
     }
-
-  pub reaches-end : (s t : Walker V F) (all : Way → Way) → Walks c s t all → Reaches c s t all None (λ w. w)
-  reaches-end s t all h = record { walking = h; parts = tt }
 
   -- ---- one step down the long side
 
@@ -170,18 +149,10 @@ module _ {V F C : Type 0} (c : V → C) where
   then-side (Err e) s t u part side before h k begins = tt
   then-side (Ok next) s t u part side before h k begins = reaches-side s t u part side before next h k begins
 
-  -- what has no long side
-  pub reaches-parts : (s : Walker V F) (part : Node V F) → IsLogged s.scopes → ((ys : List Text) (w : Way) → chained ys (expr_node c part) w ≡ rest (expr_node c part) w) → Reaches c s s (through (expr_node c part)) None (rest (expr_node c part))
-  reaches-parts s part h begins = record { walking = walking-left c s s _ _ _ (walking-begins c s (through (expr_node c part)) h) (λ w. begins [] w); parts = tt }
-
   -- the expression that is reached, or nothing
   pub walks-reached : {R E : Type 0} (r : Result R E) (s t u : Walker V F) (all : Way → Way) (next : Option (Bor (Node V F))) (x : Bor (Node V F)) → next ≡ Some x → Reaches c s t all next (λ w. w) → OnOk r (Walks c t u (through (expr_node c x.now))) → OnOk r (Walks c s u all)
   walks-reached (Err e) s t u all next x is h k = tt
   walks-reached (Ok z) s t u all next x is h k = walking-goes-on c s t u all _ (through (expr_node c x.now)) (λ w. w) h.walking k (λ w. ap (λ o. through_if_any (any_node c o) w) is)
-
-  pub walks-leaf : (s t : Walker V F) (all : Way → Way) (next : Option (Bor (Node V F))) → ((x : Bor (Node V F)) → next ≡ Some x → ⊥) → Reaches c s t all next (λ w. w) → Walks c s t all
-  walks-leaf s t all (Some x) none h = absurd (none x refl)
-  walks-leaf s t all None none h = h.walking
 
 -- ---- down the long side
 
@@ -358,16 +329,3 @@ module _ {V F C : Type 0} (c : V → C) where
   fewer t u p mark left None part is same l = let n = ap length (l.waiting.0 ∙ same) in let m = ap at_most_one is in omega (arith, n, m)
   fewer t u p mark left (Some y) part is same l =
       let n = ap length (sym same ∙ l.waiting.0) in let m = ap at_most_one is in omega (arith, n, m, length-append p.waiting.items (y ∷ []))
-
-  pub rising-ends : (s t : Walker V F) (whole : Node V F) (mark : ℕ) (next : Option (Bor (Node V F))) → ((x : Bor (Node V F)) → next ≡ Some x → ⊥) → Rising c s t whole mark next → Walks c s t (through (expr_node c whole))
-  rising-ends s t whole mark (Some x) none h = absurd (none x refl)
-  rising-ends s t whole mark None none h =
-      let past : length t.waiting.items ≤ mark = h.last refl in
-      record {
-        logged = h.logged;
-        wanted = h.wanted;
-        notes = λ w. alike-on (h.notes w) (alike-same (ap (λ xs. noted c t (rests c xs w)) (drop_all mark t.waiting.items past)));
-        chains = h.chains;
-        log = h.log;
-        waiting = sym (take_all mark t.waiting.items past) ∙ h.kept;
-      }

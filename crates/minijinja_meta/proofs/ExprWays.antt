@@ -52,17 +52,11 @@ module _ {V F C : Type 0} (c : V → C) where
   next-expr xs i x within h w =
       at_drop_more (λ ys. through_all (exprs_of (trees c ys)) w) xs i x within ∙ ap (λ z. through (expr_node c z) (through_all (exprs_of (trees c (drop (i + 1) xs))) w)) (sym h)
 
-  pub no-exprs : (xs : List (Node V F)) (i : ℕ) → length xs ≤ i → (w : Way) → through_all (exprs_of (trees c (drop i xs))) w ≡ w
-  no-exprs xs i past w = at_drop_all (λ ys. through_all (exprs_of (trees c ys)) w) xs i past
-
   pub next-compared : (xs : List (CompareOp V F)) (i : ℕ) (x : CompareOp V F) → i < length xs → x ≡ get_or xs i x → (w : Way) →
       through_compared (comparisons_of (all_compared c (drop i xs))) w ≡ through (expr_node c x.expr) (through_compared (comparisons_of (all_compared c (drop (i + 1) xs))) w)
   next-compared xs i x within h w =
       at_drop_more (λ ys. through_compared (comparisons_of (all_compared c ys)) w) xs i x within
       ∙ ap (λ z. through (expr_node c z.expr) (through_compared (comparisons_of (all_compared c (drop (i + 1) xs))) w)) (sym h)
-
-  pub none-compared : (xs : List (CompareOp V F)) (i : ℕ) → length xs ≤ i → (w : Way) → through_compared (comparisons_of (all_compared c (drop i xs))) w ≡ w
-  none-compared xs i past w = at_drop_all (λ ys. through_compared (comparisons_of (all_compared c ys)) w) xs i past
 
   -- ---- arguments
 

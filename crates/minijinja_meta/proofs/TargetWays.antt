@@ -49,9 +49,6 @@ module _ {V F C : Type 0} (c : V → C) where
       at_drop_more (λ ys. to_assignments (bindings_of c ys) w) xs i x within
       ∙ ap (λ z. through (expr_node c z.1) (to_target (expr_node c z.0) (to_assignments (bindings_of c (drop (i + 1) xs)) w))) (sym h)
 
-  pub no-assignments : (xs : List (Node V F × Node V F)) (i : ℕ) → length xs ≤ i → (w : Way) → to_assignments (bindings_of c (drop i xs)) w ≡ w
-  no-assignments xs i past w = at_drop_all (λ ys. to_assignments (bindings_of c ys) w) xs i past
-
   -- names that are imported, the last one first
   taken-last : (xs : List (Node V F × Option (Node V F))) (i : ℕ) (x : Node V F × Option (Node V F)) → i < length xs → x ≡ get_or xs i x → (w : Way) →
       to_names (names_of c (take (suc i) xs)) w ≡ to_name (expr_node c x.0, optional_of c x.1) (to_names (names_of c (take i xs)) w)

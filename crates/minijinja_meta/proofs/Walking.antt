@@ -33,9 +33,6 @@ back mark xs ys more h e = ap (λ m. take m ys) h ∙ ap (take (length xs)) e �
 -- ---- one part after another
 
 module _ {V F C : Type 0} (c : V → C) where
-  pub walks-nothing : (s : Walker V F) → IsLogged s.scopes → Walks c s s (λ w. w)
-  walks-nothing s h = record { logged = h; wanted = refl; notes = λ w. alike s.names_only _; chains = λ all. all; log = ([], sym (append-nil (log s))); waiting = refl }
-
   pub walking-begins : (s : Walker V F) (all : Way → Way) → IsLogged s.scopes → Walking c s s all all
   walking-begins s all h = record { logged = h; wanted = refl; notes = λ w. alike s.names_only _; chains = λ all. all; log = ([], sym (append-nil (log s))); waiting = refl }
 

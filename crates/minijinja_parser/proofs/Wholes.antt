@@ -12,7 +12,7 @@ use Rattle.minijinja_grammar.specs.internal.Whole.{IsWholeOf}
 use Rattle.minijinja_grammar.specs.Derived.{FitsSoFar}
 use Rattle.minijinja_grammar.proofs.Forms.{sound, complete, same_read}
 use Rattle.minijinja_grammar.proofs.Staying.{IsTakenFrom, taken_before, taken_since, Stays, stays}
-use Rattle.minijinja_grammar.proofs.Trees.{one_whole, fits_to_end}
+use Rattle.minijinja_grammar.proofs.Trees.{fits_to_end}
 use Rattle.minijinja_grammar.proofs.Whole.{IsAtEnd}
 use Rattle.minijinja_parser.specs.Causes.{IsRefusal}
 use Rattle.minijinja_parser.specs.Placing.{IsPlacedAt, at_token, at_last, at_refusal}
@@ -37,10 +37,6 @@ same_ending {A = A} f p q x e = go (reads f p) e (stays f p)
 -- what is read whole is derived
 pub whole_of : {A : Type 0} (f : Form A) (p q : Place) (x : A) → reads f p ≡ got x q → IsOver q → IsWholeOf f p x
 whole_of f p q x e h = record { unrefused = sym (same_ending f p q x e) ∙ h.unrefused; stop = q; derived = sound f p q x e; none_left = h.none_left }
-
--- and nothing else is
-pub only_whole : {A : Type 0} (f : Form A) (p q : Place) (x t : A) → reads f p ≡ got x q → IsOver q → IsWholeOf f p t → x ≡ t
-only_whole f p q x t e h k = one_whole f p x t (whole_of f p q x e h) k
 
 pub unrefused : {A : Type 0} (f : Form A) (p q : Place) (x : A) (kind : ErrorKind) (span : Option Span) → reads f p ≡ got x q → IsOver q → p.ending ≡ refused kind span → ⊥
 unrefused f p q x kind span e h k = let i : q.ending ≡ p.ending = same_ending f p q x e in let j = h.unrefused in cc

@@ -96,11 +96,6 @@ loosest None = refl
 loosest (Some (Binary b l)) = each (λ l. if_as_tight Or (Some (Binary b l)) ≡ Some (Binary b l)) refl refl refl refl refl refl refl l
 loosest (Some Comparison) = refl
 
--- an operator of a level is one of the loosest
-pub comes_at_all : (l : Level) (ts : List SpannedTok) (o : Operator) → next_operator l ts ≡ Some o → next_operator Or ts ≡ Some o
-comes_at_all l [] o e = cc
-comes_at_all l (t ∷ ts) o e = loosest (operator_of t.0) ∙ as_tight l (operator_of t.0) o e
-
 begins : (t : Tok) → operator_of t ≡ Some Comparison → begins_comparison t ≡ true
 begins (ident x) e = go (begins_comparison (ident x)) (bytes_eq x (codes "and")) (bytes_eq x (codes "or")) e
   where

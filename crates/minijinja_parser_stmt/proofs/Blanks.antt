@@ -1,8 +1,7 @@
 -- Bodies of whitespace, a part at a time.
 use Rattle.std.proofs.Common.{◌≡◌, Bool, true, false, List, [], ◌∷◌, ◌++◌, if◌then◌else◌, Option, Some, None, refl, ◌∙◌, ap}
-use Rattle.minijinja_syntax.specs.Tokens.{Tok, template_data, variable_start, block_start}
+use Rattle.minijinja_syntax.specs.Tokens.{template_data, block_start}
 use Rattle.minijinja_syntax.specs.Streams.{SpannedTok}
-use Rattle.minijinja_syntax.specs.declared.tokens.Span.{Span}
 use Rattle.minijinja_tree.specs.SpannedTrees.{Stmt, data_text}
 use Rattle.minijinja_grammar.specs.Places.{Place}
 use Rattle.minijinja_grammar.specs.internal.Forms.{Turn, go_on, one, pure, Read, got, short, wrong, misfit, read_then, after, read_one, read_turn, read_any, reads}
@@ -14,7 +13,6 @@ use Rattle.minijinja_parser_tokens.specs.internal.Marks.{is_any}
 use Rattle.minijinja_grammar.proofs.Unrolled.{many_is}
 use Rattle.minijinja_parser_stmt.specs.private.Blanks.{blank_further, blank_piece, rest_of_blank}
 use Rattle.minijinja_parser_stmt.specs.private.Bodies.{with_part}
-use Rattle.minijinja_parser_stmt.specs.internal.Made.{opening_of}
 
 module _ {C : Type 0} where
   pub blank_is : (p : Place) → reads (blank_body {C = C}) p ≡ reads (rest_of_blank []) p
@@ -60,10 +58,3 @@ module _ {C : Type 0} where
           read_then (read_one Some p ts) (λ t q. read_then (blank_piece t q) (blank_further ss))
       go [] k = cc
       go (t ∷ ts) k = ap (λ o. read_turn o (λ y s. reads (rest_of_blank y) s)) (turn_is ss t (after p t ts)) ∙ turned ss (blank_piece t (after p t ts))
-
-  -- no part begins with another token
-  pub no_blank : (t : Tok) (s : Span) (p : Place) → None ≡ opening_of t → blank_piece {C = C} (t, s) p ≡ misfit p p.tokens
-  no_blank (template_data x) s p h = cc
-  no_blank variable_start s p h = cc
-  no_blank block_start s p h = cc
-  no_blank _ s p h = refl

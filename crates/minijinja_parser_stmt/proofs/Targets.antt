@@ -56,10 +56,6 @@ pub nested_is : {C : Type 0} (dotted : Bool) (d : ℕ) (q : Place) → d ≢ 0 �
 nested_is dotted zero q n = absurd (n refl)
 nested_is dotted (suc d) q n = let k : suc d - 1 ≡ d = omega arith in rw k refl
 
-pub nested_too_deep : {C : Type 0} (dotted : Bool) (d : ℕ) (q : Place) → d ≡ 0 → nested {C = C} dotted d q ≡ wrong q
-nested_too_deep dotted zero q e = refl
-nested_too_deep dotted (suc d) q e = cc
-
 -- after a parenthesis, if one comes, and otherwise a name
 abbrev pub after_opening : {C : Type 0} → Bool → ℕ → Form (Expr C) → Bool → Place → Read (Expr C)
 after_opening dotted d name b q = if b then nested dotted d q else reads name q

@@ -14,14 +14,6 @@ use Rattle.minijinja_grammar.specs.internal.ExprForms.{next, ident_and_span, spa
 use Rattle.minijinja_parser_tokens.specs.internal.Reads.{eaten, next_ident, skipped}
 use Rattle.minijinja_grammar.specs.internal.StmtForms.{keyword_and_span}
 
-pub one_is : {A : Type 0} (held : SpannedTok → Option A) (p : Place) → reads (one held) p ≡ read_then (reads (one Some) p) (λ t q. held_or_wrong (held t) q)
-unfolding reads
-one_is held p = go p.tokens
-  where
-    go : (ts : List SpannedTok) → read_one held p ts ≡ read_then (read_one Some p ts) (λ t q. held_or_wrong (held t) q)
-    go [] = refl
-    go (t ∷ ts) = refl
-
 -- a token of a mark, by whether it comes
 pub next_is : (m : Tok) (p : Place) → reads (next m) p ≡ read_then (skipped p) (λ s q. if comes (is m) p.tokens then got s q else wrong q)
 unfolding reads

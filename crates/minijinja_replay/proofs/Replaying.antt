@@ -15,7 +15,7 @@ use Rattle.minijinja_replay.specs.declared.machine.Step.{Step}
 use Rattle.minijinja_replay.specs.declared.machine.Step.TheVariants as step
 use Rattle.minijinja_replay.specs.declared.replay.Entry.{Entry}
 use Rattle.minijinja_replay.specs.declared.replay.Run.{Run}
-use Rattle.minijinja_replay.proofs.Running.{goes_on, is_some_of, jams, not_over, run_more, run_stays, stays, still_none}
+use Rattle.minijinja_replay.proofs.Running.{goes_on, is_some_of, jams, run_more, run_stays, stays, still_none}
 
 -- two worlds of equal parts
 pub world_same : {E C : Type 0} {r r' : List (E × event.Answer C)} {a a' : List (event.Answer C)} → r ≡ r' → a ≡ a' → ◌≡◌ {A = World E C} (record { record_so_far = r; answers = a }) (record { record_so_far = r'; answers = a' })
@@ -61,10 +61,6 @@ module _ {V G C F : Type 0} (f : Functions C F) (c : V → C) (fc : G → F) (pr
   goes m' s does =
       goes_on f traced (code_of c program) (finish_of (code_of c program) e) n m.place (stack c m) (loops c m) (world c m) (At (place_of e) given [] (fresh answers)) (came_to c fc m' s) at going
       (subst (λ k. act f traced (slice_get (code_of c k) m.place) m.place (stack c m) (loops c m) (world c m) ≡ came_to c fc m' s) same does)
-
-  -- it is not over yet
-  pub not_now : ending_after n f (code_of c program) e given answers ≡ None
-  not_now = not_over f traced (code_of c program) (finish_of (code_of c program) e) n m.place (stack c m) (loops c m) (world c m) (At (place_of e) given [] (fresh answers)) at going
 
   -- nor was it before
   pub none_yet : ((k : ℕ) → k < n → ending_after k f (code_of c program) e given answers ≡ None) → (k : ℕ) → k < n + 1 → ending_after k f (code_of c program) e given answers ≡ None

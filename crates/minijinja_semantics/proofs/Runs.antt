@@ -72,9 +72,6 @@ pub left_more : {C : Type 0} {a : Answer C} {xs ys : List (Answer C)} → AreLef
 left_more {a = Fault} l = record { fewer = omega (arith, l.fewer); less = omega (arith, l.less) }
 left_more {a = Values vs} l = record { fewer = omega (arith, l.fewer); less = omega (arith, l.less) }
 
-pub few_left : {C : Type 0} {xs ys : List (Answer C)} → AreFew xs → AreLeftOf xs ys → AreFew ys
-few_left f l = record { under = omega (arith, f.under, l.less) }
-
 fitted_left : {C X : Type 0} (F : Type 0) (x : Option X) (e : Event ℕ C) (vs : List C) (taken : List (Event ℕ C × Answer C)) (rest : List (Answer C)) → AreLeftOf rest (left (fitted {F = F} x e vs taken rest))
 unfolding fitted
 fitted_left F None e vs taken rest = left_all rest
@@ -251,12 +248,6 @@ module _ {C F : Type 0} (f : Functions C F) (code : List (Instr C)) (to : Stretc
 
   pub here : {X : Type 0} {q : ℕ} {ls : List Bool} {P : X → Type 0} {put : X → List C} (x : X) (w : World C) → P x → AreFew w.answers → Gives (At q (put x) ls w) q ls P put (Gave w x)
   here {q = q} x w p few = record { comes = stays (At q _ _ w) q (omega arith); holds = (p, few) }
-
-  -- what leads to where a value is known, and what follows
-  pub then_comes : {X Y : Type 0} {s : State C F} {q q' : ℕ} {ls : List Bool} {P : X → Type 0} {put : X → List C} (m : Did C F X) (n : X → Act C F Y) (k : Y → World C → State C F) → q ≤ q' → Gives s q ls P put m → ((x : X) (w : World C) → P x → AreFew w.answers → Comes (At q (put x) ls w) (after k (n x w)) q') → Comes s (after k (next m n)) q'
-  unfolding next
-  then_comes (Gave w x) n k le g h = comes_then (omega arith) g.comes (h x w g.holds.0 g.holds.1)
-  then_comes (Ended w e) n k le g h = raise le g.comes
 
   -- a jump forward after what was given
   pub then_jumps : {X : Type 0} {s : State C F} {q q' : ℕ} {ls : List Bool} {P : X → Type 0} {put : X → List C} {m : Did C F X} → q ≤ q' → ((x : X) (w : World C) → Comes (At q (put x) ls w) (At q' (put x) ls w) q') → Gives s q ls P put m → Gives s q' ls P put m

@@ -68,9 +68,6 @@ module _ {C : Type 0} where
   fit_within {r} s {is} {t} {u} {ls} b =
       record { span = refl; more = b.more; marks = b.marks; as_many = b.as_many; seen = λ o. b.seen (inr (zero, omega arith, refl)) }
 
-  fit_on : {r : List Span} (s : Span) {is : List (Instr C)} {t u : Margin} {ls : List Look} → Fit r is (record t { line = s.start_line }) u ls → Fit r is t u ls
-  fit_on s b = record { span = b.span; more = b.more; marks = b.marks; as_many = b.as_many; seen = b.seen }
-
   -- nothing is seen in what comes after
   fit_quiet : {r : List Span} {is js : List (Instr C)} {t u v : Margin} {ls : List Look} → Fit r is t u ls → Fit r js u v [] → Fit r (is ++ js) t v ls
   fit_quiet {r} {is} {js} {t} {u} {v} {ls} a b = subst (λ ks. Fit r (is ++ js) t v ks) (append_nil ls) (fit_then a b)

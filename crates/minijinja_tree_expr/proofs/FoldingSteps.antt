@@ -1,5 +1,5 @@
 -- The constant of a tree, down along its first operands and up again.
-use Rattle.std.proofs.Common.{◌≡◌, ◌<◌, ◌≤◌, List, [], ◌∷◌, ◌++◌, length, map, refl, sym, ap, ◌∙◌, arith}
+use Rattle.std.proofs.Common.{◌≡◌, ◌<◌, ◌≤◌, List, [], ◌∷◌, ◌++◌, map, refl, sym, ap, ◌∙◌, arith}
 use Rattle.std.specs.Prelude.{Option, Some, None, IfSome, option_map}
 use Rattle.std.specs.Borrow.{Bor}
 use Rattle.std.specs.List.{All}
@@ -100,7 +100,3 @@ module _ {V K C F : Type 0} (f : Functions C F) (c : V → C) (whole : Expr V K)
   -- the node that comes next is no deeper than the whole
   pub next-node : (xs ys : List (Bor (Expr V K))) (x : Bor (Expr V K)) (v : Option C) → xs ≡ ys ++ x ∷ [] → GoesUp f c whole xs v → size_of x.now ≤ size_of whole
   next-node xs ys x v taken h = (All-pop (IsWithin whole) xs ys (Some x) taken h.within).1
-
-  pub arrives : (xs : List (Bor (Expr V K))) (v : Option C) → length xs ≡ 0 → GoesUp f c whole xs v → v ≡ fold f (expr_tree c whole)
-  arrives [] v e h = h.gives
-  arrives (x ∷ xs) v e h = absurd (omega arith)
