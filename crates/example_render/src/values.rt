@@ -212,7 +212,7 @@ fn sum(alloc: Global, left: &Value, right: &Value) -> Option<Value> {
     }
 }
 
-/// The product of numbers, and a text so many times.
+/// The product of numbers, and a text that many times.
 fn product(alloc: Global, left: &Value, right: &Value) -> Option<Value> {
     match (left, right) {
         (Value::String(text), Value::Integer(_)) => {

@@ -19,7 +19,7 @@ half_below k j x h le =
     (λ (fits : k ≤ j). pow_mono fits)
     (cases_lt j k)
 
--- twice so many bytes, but at most 2 ^ 63, at the power of two that is next
+-- twice the given number of bytes, but at most 2 ^ 63, at the power of two that is next
 pub hint_from : (bytes taken hint : ℕ) → taken ≡ min bytes (2 ^ 62) → IsPowerOfTwo hint → taken * 2 ≤ hint → hint / 2 < max 1 (taken * 2) → IsHint bytes hint
 hint_from bytes taken hint is power lower upper =
     let below : (j : ℕ) → taken * 2 ≤ 2 ^ j → hint ≤ 2 ^ j = λ j le.

@@ -23,8 +23,8 @@ HaveTooLong f bs = Any (λ b. 2 ^ 32 ≤ length (block_code f b.body)) bs
 abbrev pub OnlyWhereOneIsTooLong : {C L F : Type 0} → Functions C F → Error → List (Instr C) → List (Block C L) → Type 0
 OnlyWhereOneIsTooLong f e code bs = kind_of e ≡ TooManyInstructions → (2 ^ 32 ≤ length code) ⊎ HaveTooLong f bs
 
--- A call that adds code, after which the list has so many instructions. It fails if memory is refused
--- or these are 2 ^ 32 or more, and from then on every call returns that error.
+-- A call that adds code, after which the list has the given number of instructions. It fails if
+-- memory is refused or these are 2 ^ 32 or more, and from then on every call returns that error.
 pub record Tries {X : Type 0} (before after : Option Error) (result : Result X Error) (count : ℕ) : Type 0 where
   pub causes : IfNone before (IfErr result IsAddError)
   pub unplaced : IfNone before (IfErr result HasNoPlaceOrName)

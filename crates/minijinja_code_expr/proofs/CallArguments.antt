@@ -1,5 +1,5 @@
 -- The code of the arguments of a call: positional ones, the map of keyword ones, and spreading.
-use Rattle.std.proofs.Common.{◌≡◌, ℕ, zero, suc, ◌+◌, ◌<◌, ◌≤◌, Bool, true, false, List, [], ◌∷◌, ◌++◌, length, map, drop, get_or, Option, Some, None, Result, Ok, Err, refl, sym, ap, ◌∙◌, subst, arith, append_assoc, ◌⊎◌, inl, inr, Bor}
+use Rattle.std.proofs.Common.{◌≡◌, ℕ, zero, suc, ◌+◌, ◌<◌, ◌≤◌, Bool, true, false, List, [], ◌∷◌, length, drop, get_or, Option, Some, None, Result, Ok, Err, refl, sym, ap, ◌∙◌, subst, arith, ◌⊎◌, inl, inr, Bor}
 use Rattle.std.specs.Prelude.{OnOk}
 use Rattle.std.proofs.lemmas.List.{at_drop_more, at_drop_all}
 use denote.Param.Weighed.{most, at_most}
@@ -13,13 +13,12 @@ use Rattle.minijinja_tree_expr.specs.declared.ast.CallArg.{CallArg, Pos, Kwarg, 
 use Rattle.minijinja_tree_expr.specs.declared.ast.Expr.{Expr}
 use Rattle.minijinja_semantics.specs.Code.{Load, Do}
 use Rattle.minijinja_semantics.specs.Events.{MergeKwargs, UnpackLists}
-use Rattle.minijinja_semantics.specs.Pieces.{Here, Piece, nothing, one, ◌▸◌}
+use Rattle.minijinja_semantics.specs.Pieces.{Piece, nothing, one, ◌▸◌}
 use Rattle.minijinja_semantics.specs.Layout.{Count, batch_count, count_one, count_batch, count_positional, count_keyword, argument_count, list_batch, map_batch, merged, map_count, spreading, counted, expr, positional, keyword}
-use Rattle.minijinja_emitter.specs.internal.Making.{Made, here_of, capped, Adds}
+use Rattle.minijinja_emitter.specs.internal.Making.{Made, Adds}
 use Rattle.minijinja_code_expr.specs.internal.Parts.{operands, given, keyword_map, AddsIf}
 use Rattle.minijinja_semantics.proofs.Arguments.{AllCounted, all_counted, one_map, none_counted}
 use Rattle.minijinja_semantics.proofs.FoldedCode.{folded_some, folded_none}
-use Rattle.minijinja_semantics.proofs.Runs.{append_nil}
 use Rattle.minijinja_emitter.proofs.Adding.{adds_then, adds_as, adds_nothing}
 use Rattle.minijinja_code_expr.proofs.InOrder.{Leads}
 
@@ -119,24 +118,8 @@ keyword_bound args k few e = omega (arith, ap size e, count_keyword_few args (op
 pub element_size : {X : Type 0} (measure : X → ℕ) (xs : List X) (i : ℕ) (x : X) → i < length xs → x ≡ get_or xs i x → measure x ≤ most measure xs
 element_size measure xs i x within e = subst (λ y. measure y ≤ most measure xs) (sym e) (at_most measure xs i x within)
 
-module _ {C : Type 0} where
-  -- one piece, and what stands after it
-  adds_one : {a b c : Made C} (p r : Piece C) → Adds a b (p ▸ nothing) → Adds b c r → Adds a c (p ▸ r)
-  adds_one {a} {b} p r s t =
-      let last : Adds a b p = record { code = s.code ∙ ap (λ l. a.code ++ map capped l) (append_nil (p.code (here_of a))); past = s.past } in
-      adds_then last t
-
-  -- two pieces, and what stands after them
-  adds_two : {a b c : Made C} (p q r : Piece C) → Adds a b (p ▸ q ▸ nothing) → Adds b c r → Adds a c (p ▸ q ▸ r)
-  adds_two {a} {b} {c} p q r s t =
-      let h : Here = here_of a in
-      let k : Here = p.past h in
-      let both : Adds a b (p ▸ q) = record { code = s.code ∙ ap (λ l. a.code ++ map capped (p.code h ++ l)) (append_nil (q.code k)); past = s.past } in
-      let all = adds_then both t in
-      record { code = all.code ∙ ap (λ l. a.code ++ map capped l) (append_assoc (p.code h) (q.code k) (r.code (q.past k))); past = all.past }
-
 module _ (K : Type 0) {V C : Type 0} (v : V → C) where
-  -- how arguments are taken one after another: each adds its piece, and counts
+  -- how arguments are taken one after another: none adds nothing, and each counts at most one more
   pub record Walk (piece : Args C → ℕ → Piece C) (count : Args C → Count → Count) : Type 0 where
     pub piece_end : (n : ℕ) → piece no_args n ≡ nothing
     pub count_end : (k : Count) → count no_args k ≡ k
@@ -167,8 +150,8 @@ module _ {V K C : Type 0} (v : V → C) where
   args_end : (xs : List (CallArg V K)) (i : ℕ) → length xs ≤ i → args_of v (drop i xs) ≡ no_args
   args_end xs i past = at_drop_all (args_of v) xs i past
 
-  -- the state of a loop over arguments, of which so many are taken: what is left to add, and to
-  -- count
+  -- the state of a loop over arguments, of which the given number is taken: what is left to add,
+  -- and to count
   pub record Taken (piece : Args C → ℕ → Piece C) (count : Args C → Count → Count) (xs : List (CallArg V K)) (front : ℕ) (a now : Made C) (i : ℕ) (k : Count) : Type 0 where
     pub leads : Leads a now (piece (args_of v (drop i xs)) k.waiting) (piece (args_of v xs) front)
     pub counts : count (args_of v (drop i xs)) k ≡ count (args_of v xs) (operands front)

@@ -38,7 +38,7 @@ after_two f compared = nowhere_else
 after_two f (against o e cs) = comparisons f o cs ⟫ here 3
 
 module _ {V K C F : Type 0} (f : Functions C F) (c : V → C) where
-  -- what is left of comparisons after the operand of so many of them
+  -- what is left of comparisons after the operand of the given number of them
   abbrev pub ahead_marks : List (Comparison V K) → ℕ → Marking
   ahead_marks xs zero = chain f (comparisons_of (all_compared c xs))
   ahead_marks xs (suc i) = after_two f (comparisons_of (all_compared c (drop i xs)))

@@ -110,7 +110,7 @@ module _ {C : Type 0} where
       let s : Follows nowhere a u b n p = subst (λ x. Follows x a u b n p) e r in
       subst (λ ps. Adds a (record b { code = with_ends ps (reach 0) b.code }) (leading_to outside p)) (s.none refl) (s.adds tt 0)
 
-  -- and so many bytes are counted
+  -- and the given number of bytes is counted
   pub bytes_outside : {t u : Around} {a b : Made C} {n m : ℕ} (p : Leading Exits C) → t ≡ nowhere → Follows t a u b n p → m ≡ u.bytes → m ≤ 18446744073709551615 → m ≡ min 18446744073709551615 n
   bytes_outside {t} {u} {a} {b} {n} {m} p e r em le =
       let s : Follows nowhere a u b n p = subst (λ x. Follows x a u b n p) e r in

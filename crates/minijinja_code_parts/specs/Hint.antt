@@ -41,7 +41,7 @@ abbrev mutual
   pub macro_bytes : {C L : Type 0} → Macro C L → ℕ
   macro_bytes (macro n x args defaults body) = all_data_bytes body
 
--- the least power of two that is at least twice so many bytes, and at most 2 ^ 63
+-- the least power of two that is at least twice the given number of bytes, and at most 2 ^ 63
 pub record IsHint (bytes hint : ℕ) : Type 0 where
   pub power : (k : ℕ) × (hint ≡ 2 ^ k)
   pub limit : hint ≤ 2 ^ 63

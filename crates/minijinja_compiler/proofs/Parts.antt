@@ -65,7 +65,7 @@ limit_not_refusal e (inr many) (inr escape) = cc
 pub never_refusal : {A : Type 0} (P : Error → Type 0) (kept : Option Error) (e : Error) (r : Result A Error) → kept ≡ None → IfNone kept (IsAddError e) → IsErrAnd r (λ x. x ≡ e) → IfErr r (λ x. IsRefusal x → P x)
 never_refusal P = refused_at_instruction (λ (x : Error). IsRefusal x → P x) (λ x h refusal. absurd (limit_not_refusal x h refusal))
 
--- what refuses an instruction is want of memory or the limit
+-- what refuses an instruction is refused memory or the limit
 limit_is_known : (e : Error) → IsAddError e → kind_of e ≢ OutOfMemory → kind_of e ≢ TooManyInstructions → ⊥
 limit_is_known e (inl memory) room few = room memory
 limit_is_known e (inr many) room few = few many

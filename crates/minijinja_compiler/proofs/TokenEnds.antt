@@ -28,7 +28,7 @@ abbrev pub IsDotless : Sort → Text → Type 0
 IsDotless sort.Ident x = HasNoDot x
 IsDotless _ x = Unit {0}
 
--- a token of so many bytes at the front of a text
+-- a token of the given number of bytes at the front of a text
 record Fits (text : Text) (x : Sort) (n : ℕ) : Type 0 where
   pub boundary : IsCharBoundary text n
   pub dotless : IsDotless x (take n text)

@@ -30,7 +30,7 @@ pub struct OwnedError {
 }
 
 impl OwnedError {
-    /// Copies a refusal. It fails only for want of memory.
+    /// Copies a refusal. It fails only if memory is refused.
     pub fn copied(alloc: Global, error: &Error<'_>) -> Result<OwnedError, AllocError>
         ensures copy { IfOk result (IsCopy error.now) }
     {

@@ -9,7 +9,7 @@ use Rattle.minijinja_grammar.specs.Words.{if_word, else_word, elif_word, endif_w
 use Rattle.minijinja_grammar.specs.Derived.{IsExprTree, IsTemplateTree}
 use Rattle.minijinja_grammar.specs.Examples.{text_place, x_word, HasNoExpr, HasNoStmts}
 
--- the first tokens, so many times, before the second ones
+-- the first tokens, repeated, before the second ones
 abbrev pub times : ℕ → List Tok → List Tok → List Tok
 times zero ts us = us
 times (suc n) ts us = ts ++ times n ts us

@@ -45,7 +45,7 @@ module _ (ls : List (Option ℕ)) (ss : List (Option Span)) (h : length ls ≡ l
   pub span-is : (i : ℕ) → option_and_then shown (at_or_last None ss i) ≡ span_at (marked ls ss) i
   span-is i = sym (ap (λ m. m.span) (at-of None None ls ss i h))
 
--- the first so many of both
+-- that many first ones of both
 pub cut-marks : (n : ℕ) (ls : List (Option ℕ)) (ss : List (Option Span)) → marked (take n ls) (take n ss) ≡ take n (marked ls ss)
 cut-marks zero ls ss = refl
 cut-marks (suc n) [] ss = refl

@@ -31,7 +31,7 @@ marks_of code = marks_in code.marks
 abbrev pub is_required : {I : Type 0} → InstructionList I → Bool
 is_required code = code.is_required_block
 
--- an instruction is refused for want of memory or of room
+-- an instruction is refused where memory or room runs out
 abbrev pub IsAddError : Error → Type 0
 IsAddError e = (kind_of e ≡ OutOfMemory) ⊎ (kind_of e ≡ TooManyInstructions)
 

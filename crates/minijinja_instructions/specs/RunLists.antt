@@ -11,7 +11,7 @@ in_force_after x (r ∷ rs) i = in_force_after (if leb r.first i then Some r.val
 abbrev pub in_force : {X : Type 0} → List (Run X) → ℕ → Option X
 in_force rs i = in_force_after None rs i
 
--- what is in force at the first so many places
+-- what is in force at the given number of first places
 abbrev pub values_up_to : {X : Type 0} → List (Run X) → ℕ → List (Option X)
 values_up_to rs zero = []
 values_up_to rs (suc n) = values_up_to rs n ++ in_force rs n ∷ []

@@ -74,19 +74,21 @@ pub enum Instruction<'s, V: TemplateValue = Value> {
     Slice,
     /// Pushes a constant.
     LoadConst(V),
-    /// Replaces so many pairs of a key and a value by a map.
+    /// Replaces the given number of pairs of a key and a value by a map.
     BuildMap(usize),
-    /// Replaces so many pairs of a name and a value by a map of keyword arguments.
+    /// Replaces the given number of pairs of a name and a value by a map of keyword arguments.
     BuildKwargs(usize),
-    /// Replaces so many maps of keyword arguments by one.
+    /// Replaces the given number of maps of keyword arguments by one.
     MergeKwargs(usize),
-    /// Replaces so many values by a list, or for `None` as many as the count on top of them says.
+    /// Replaces the given number of values by a list, or for `None` as many as the count on top of
+    /// them says.
     BuildList(Option<usize>),
-    /// Replaces so many values by a tuple, or for `None` as many as the count on top of them says.
+    /// Replaces the given number of values by a tuple, or for `None` as many as the count on top of
+    /// them says.
     BuildTuple(Option<usize>),
-    /// Replaces a value by so many items of it, the first on top.
+    /// Replaces a value by the given number of items of it, the first on top.
     UnpackList(usize),
-    /// Replaces so many lists by their items and the count of these.
+    /// Replaces the given number of lists by their items and the count of these.
     UnpackLists(usize),
     /// Replaces two values by their sum.
     Add,
@@ -339,8 +341,8 @@ impl<'s, I> InstructionList<'s, I> {
     }
 
     /// Adds an instruction and returns its index. It has the line and the span of the last one. It
-    /// fails for want of memory, and where the list would have 2^32 instructions; then the list is
-    /// unchanged.
+    /// fails if memory is refused, and where the list would have 2^32 instructions; then the list
+    /// is unchanged.
     pub fn add(&mut self, instruction: I) -> Result<u32, Error<'s>>
     where
         I: Drop,
@@ -369,8 +371,8 @@ impl<'s, I> InstructionList<'s, I> {
     }
 
     /// Adds an instruction that stands on a line, counted from 1, and returns its index. It has no
-    /// span. It fails for want of memory, and where the list would have 2^32 instructions; then the
-    /// list is unchanged.
+    /// span. It fails if memory is refused, and where the list would have 2^32 instructions; then
+    /// the list is unchanged.
     pub fn add_with_line(&mut self, instruction: I, line: u16) -> Result<u32, Error<'s>>
     where
         I: Drop,
@@ -395,7 +397,7 @@ impl<'s, I> InstructionList<'s, I> {
     }
 
     /// Adds an instruction that comes from a span, on whose first line it stands, and returns its
-    /// index. A span of zeros is none. It fails for want of memory, and where the list would have
+    /// index. A span of zeros is none. It fails if memory is refused, and where the list would have
     /// 2^32 instructions; then the list is unchanged.
     pub fn add_with_span(&mut self, instruction: I, span: Span) -> Result<u32, Error<'s>>
     where
@@ -465,7 +467,7 @@ impl<'s, V: TemplateValue> InstructionList<'s, Instruction<'s, V>> {
     /// count. An index past the end counts as the last one, and an empty list has no names.
     ///
     /// This holds of the code of a template, of the body of a block and of an expression, as the
-    /// compiler makes them. It fails only for want of memory.
+    /// compiler makes them. It fails only if memory is refused.
     pub fn get_referenced_names(&self, index: u32) -> Result<Vec<&'s str>, Error<'s>>
         ensures template { IfOk result (λ names. (t : Stmt V.Contents (Unit {0})) →
             code_of V.contents self.now ≡ stmt_code V.functions t start →

@@ -76,8 +76,8 @@ abbrev pub tag_part_from : Text → Tag → ℕ → Option Close → TagPart
 tag_part_from text k at (Some close) = End close
 tag_part_from text k at None = token_part text k (past_space text at)
 
--- What stands at a place in a tag in which so many brackets opened and shut before: the end is
--- tried where these are as many, and then a token after the whitespace.
+-- What stands at a place in a tag in which the given number of brackets opened and shut before: the
+-- end is tried where these are as many, and then a token after the whitespace.
 unfoldable pub tag_part_at : Syntax → Text → Tag → (opened shut at : ℕ) → TagPart
 tag_part_at s text k o c at = tag_part_from text k at (if o == c then close_at s text k at else None)
 
@@ -99,7 +99,8 @@ inner_from s text k o c at (suc skip) (b ∷ bs) = inner_from s text k o c (at +
 inner_from s text k o c at zero (b ∷ bs) =
     go_on (tag_part_at s text k o c at) (λ l. inner_from s text k (o + opened_by l.sort) (c + shut_by l.sort) (at + 1) (l.stop - (at + 1)) bs)
 
--- what is left of a tag from a place on, before which so many brackets opened and shut in it
+-- what is left of a tag from a place on, before which the given number of brackets opened and shut
+-- in it
 unfoldable pub inner_at : Syntax → Text → Tag → (opened shut : ℕ) → ℕ → Inner
 inner_at s text k o c at = inner_from s text k o c at 0 (drop at text)
 

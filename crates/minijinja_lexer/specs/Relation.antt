@@ -83,8 +83,8 @@ IsClose s text k o c at (Closed start stop after) = IsClosed s text k o c at sta
 IsClose s text k o c at Broken = IsBroken text k at
 IsClose s text k o c at (Refused f start place) = (at < length text) × IsRefused s text k o c at start place f
 
--- The tokens from a place in a tag on, one after another, and its end; so many brackets opened and
--- shut before the place.
+-- The tokens from a place in a tag on, one after another, and its end; the given number of brackets
+-- opened and shut before the place.
 abbrev pub IsInner : Syntax → Text → Tag → (opened shut at : ℕ) → List Lexeme → Close → Type 0
 IsInner s text k o c at [] close = IsClose s text k o c at close
 IsInner s text k o c at (l ∷ ls) close = IsLexeme s text k o c at l × IsInner s text k (o + opened_by l.sort) (c + shut_by l.sort) l.stop ls close

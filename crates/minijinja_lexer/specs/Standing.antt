@@ -10,7 +10,7 @@ use Rattle.minijinja_syntax.specs.Streams.{SpannedTok, Ending, finished, refused
 abbrev pub token_behind : (front text : Text) → SpannedTok → SpannedTok
 token_behind front text t = (t.0, span_at (front ++ text) (length front + t.1.start_offset) (length front + t.1.end_offset))
 
--- the kind of a refusal, and where it begins if so many bytes stand before the text
+-- the kind of a refusal, and where it begins if the given number of bytes stands before the text
 abbrev pub refusal_behind : ℕ → Ending → Option (ErrorKind × Option ℕ)
 refusal_behind bytes finished = None
 refusal_behind bytes (refused kind span) = Some (kind, option_map (λ s. bytes + s.start_offset) span)

@@ -134,7 +134,7 @@ close_stream text k behind (Closed start stop after) = before ((end_tok k, span_
 close_stream text k behind Broken = ended finished
 close_stream text k behind (Refused f start place) = ended (token_refusal text f start place)
 
--- from a place inside a tag, before which so many brackets opened and shut in it
+-- from a place inside a tag, before which the given number of brackets opened and shut in it
 unfoldable pub stream_in : Syntax → Text → Tag → (behind : ℕ → ℕ → Stream) → (opened shut : ℕ) → ℕ → Stream
 stream_in s text k behind o c at = let i = inner_at s text k o c at in before (map (lexeme_token text) i.lexemes) (close_stream text k behind i.close)
 

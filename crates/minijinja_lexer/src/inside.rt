@@ -18,8 +18,8 @@ use crate::tag_part::{
 use minijinja_syntax::syntax::SyntaxConfig;
 use std::alloc::Global;
 
-/// The next token of a tag in which so many brackets were opened and shut. The tag may be the whole
-/// text.
+/// The next token of a tag in which the given number of brackets was opened and shut. The tag may
+/// be the whole text.
 pub(crate) fn step_inside<'s>(
     alloc: Global,
     syntax: &SyntaxConfig,

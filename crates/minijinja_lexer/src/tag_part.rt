@@ -297,7 +297,8 @@ fn token_part(text: &str, tag: Tag, at: usize) -> TagPart
     }
 }
 
-/// The part of a tag at a place before which so many brackets were opened and shut in it.
+/// The part of a tag at a place before which the given number of brackets was opened and shut in
+/// it.
 #[tactic(auto, unfolding(crate::specs::Cut::tag_part_at))]
 #[inline]
 pub(crate) fn tag_part_at(

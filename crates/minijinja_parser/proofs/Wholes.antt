@@ -67,7 +67,7 @@ memory_at q refusal.OutOfMemory e i h = h
 memory_at q (refusal.Ended w) e i h = cc
 memory_at q (refusal.Wrong w) e i h = cc
 
--- what is refused for want of memory is not at fault
+-- where memory is refused, nothing is at fault
 pub not_at_fault : (e : Error) → IsRefusal e → kind_of e ≡ OutOfMemory → ⊥
 not_at_fault e (inl i) m = cc
 not_at_fault e (inr i) m = cc

@@ -14,7 +14,7 @@ use Rattle.minijinja_replay.specs.declared.asking.Pushed.{Pushed}
 use Rattle.minijinja_replay.specs.declared.asking.Pushed.TheVariants as pushed
 use Rattle.minijinja_replay.proofs.Stacks.{pushed_all}
 
--- so many are not none, one, or at most one
+-- a number of answers that is not none, one, or at most one
 not_none : (n : ℕ) → (suc n == 0) ≡ false
 not_none n = grind (arith, nat_tests)
 

@@ -74,7 +74,7 @@ module _ {V G C F X : Type 0} (f : Functions C F) (c : V → C) (fc : G → F) (
     (meaning : Did (Event ℕ C) C F X) (answers : List (event.Answer C)) (e : Entry) (r : Run V G)
     (does : DoesFrom f code u meaning [] [] answers) (place : place_of e ≡ u.place) (finish : finish_of code e ≡ u.finish)
     (is : IsRun f c fc code e u.given answers r) where
-  -- the state after so many steps
+  -- the state after the given number of steps
   abbrev ran : ℕ → State (Asked C) C F
   ran n = steps_of f code e u.given answers n
 

@@ -71,7 +71,7 @@ module _ {E C F : Type 0} (f : Functions C F) (note : Notes E C) (code : List (I
   sooner n limit s (inl lt) over none = lt
   sooner n limit s (inr le) over none = absurd (late n limit (n - limit) s (omega arith) over none)
 
-  -- what is over after so many steps stays so: where it is not over, that many steps are not done
+  -- what is over after some steps stays over: where it is not over, that many steps are not done
   -- yet
   pub not_yet : (n limit : ℕ) (s : State E C F) → IsSome (ending finish (run f note code finish limit s)) → ending finish (run f note code finish n s) ≡ None → n < limit
   not_yet n limit s over none = sooner n limit s (cases_lt n limit) over none

@@ -14,7 +14,7 @@ use Rattle.minijinja_semantics.specs.Machine as machine
 pub popped_last : {A B : Type 0} (c : A → B) (xs ys : List A) (x : A) → xs ≡ ys ++ option_to_list (Some x) → reverse (map c xs) ≡ c x ∷ reverse (map c ys)
 popped_last c xs ys x e = ap (λ l. reverse (map c l)) e ∙ ap reverse (map-append c ys (x ∷ [])) ∙ reverse-append (map c ys) (c x ∷ [])
 
--- so many operands are taken off, the first ones, and turned
+-- the given number of operands is taken off, the first ones, and turned
 popped_off : {C : Type 0} (xs below vs : List C) → popped (length xs) (xs ++ below) vs ≡ Some (reverse xs ++ vs, below)
 unfolding popped
 popped_off [] below vs = refl
@@ -32,7 +32,7 @@ popped_end c n all below off e l =
     ∙ popped_off (reverse (map c off)) (reverse (map c below)) []
     ∙ ap (λ xs. Some (xs, reverse (map c below))) (append-nil (reverse (reverse (map c off))) ∙ reverse-reverse (map c off))
 
--- of fewer operands so many are not taken off
+-- more operands than there are cannot be taken off
 too_few : {C : Type 0} (n : ℕ) (xs vs : List C) → length xs < n → popped n xs vs ≡ None
 unfolding popped
 too_few zero xs vs lt = absurd (omega arith)

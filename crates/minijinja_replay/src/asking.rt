@@ -22,7 +22,7 @@ pub(crate) enum Fit {
 }
 
 impl Fit {
-    /// Whether an answer of so many values fits.
+    /// Whether an answer of the given number of values fits.
     fn fits(self, count: usize) -> bool
         ensures { result ≡ fits self count }
     {
@@ -68,8 +68,8 @@ pub(crate) enum Taken<V, F> {
 }
 
 impl<'c, 's, V: TemplateValue> Machine<'c, 's, V> {
-    /// Pops so many operands, asks the event of the instruction with them, and pushes what it is
-    /// answered by.
+    /// Pops the given number of operands, asks the event of the instruction with them, and pushes
+    /// what it is answered by.
     #[tactic(auto, unfolding(minijinja_semantics::specs::Machine::asked))]
     pub(crate) fn ask(&mut self, count: usize, pushed: Pushed) -> Result<Step<V::Fault>, AllocError>
         requires place { self.old.place + 1 < 2 ^ 32 }

@@ -216,7 +216,7 @@ impl<'c, 's, V: TemplateValue> Machine<'c, 's, V> {
         Some((left, right))
     }
 
-    /// Pops so many operands, the topmost last, if there are that many.
+    /// Pops the given number of operands, the topmost last, if there are that many.
     pub(crate) fn pop_many(&mut self, count: usize) -> Result<Option<Vec<V>>, AllocError>
         ensures popped { IfOk result (λ taken. machine.popped count (stack V.contents self.old) []
             ≡ option_map (λ vs. (map V.contents vs.items, stack V.contents self.new)) taken) }
@@ -268,8 +268,8 @@ impl<'c, 's, V: TemplateValue> Machine<'c, 's, V> {
         value.as_count()
     }
 
-    /// Pops so many pairs of a key and the value above it, the topmost last, if there are that
-    /// many.
+    /// Pops the given number of pairs of a key and the value above it, the topmost last, if there
+    /// are that many.
     pub(crate) fn pop_pairs(&mut self, count: usize) -> Result<Option<Vec<(V, V)>>, AllocError>
         ensures popped { IfOk result (λ taken. machine.popped_pairs count (stack V.contents
             self.old) []

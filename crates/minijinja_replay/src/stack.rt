@@ -10,7 +10,8 @@ use minijinja_value::value::TemplateValue;
 use std::alloc::AllocError;
 
 impl<'c, 's, V: TemplateValue> Machine<'c, 's, V> {
-    /// Takes the topmost operand apart into so many values, the first of which is then on top.
+    /// Takes the topmost operand apart into the given number of values, the first of which is then
+    /// on top.
     pub(crate) fn unpack(&mut self, count: usize) -> Result<Step<V::Fault>, AllocError>
         requires place { self.old.place + 1 < 2 ^ 32 }
         requires at { Asks V.contents self.old (Some (code.UnpackList count)) }
@@ -46,7 +47,7 @@ impl<'c, 's, V: TemplateValue> Machine<'c, 's, V> {
         }
     }
 
-    /// Replaces so many pairs of a key and the value above it by a map.
+    /// Replaces the given number of pairs of a key and the value above it by a map.
     #[tactic(auto, unfolding(minijinja_semantics::specs::Machine::built))]
     pub(crate) fn build_map(&mut self, count: usize) -> Result<Step<V::Fault>, AllocError>
         requires place { self.old.place + 1 < 2 ^ 32 }
@@ -60,7 +61,8 @@ impl<'c, 's, V: TemplateValue> Machine<'c, 's, V> {
         }
     }
 
-    /// Replaces so many pairs of a name and the value above it by a map of keyword arguments.
+    /// Replaces the given number of pairs of a name and the value above it by a map of keyword
+    /// arguments.
     #[tactic(auto, unfolding(minijinja_semantics::specs::Machine::built))]
     pub(crate) fn build_kwargs(&mut self, count: usize) -> Result<Step<V::Fault>, AllocError>
         requires place { self.old.place + 1 < 2 ^ 32 }

@@ -311,7 +311,7 @@ module _ {C F : Type 0} (f : Functions C F) (code : List (Instr C)) where
       let ek = folded_exact (fold_keywords f (constant_keywords f args)) (then_exact e' em) in
       leads_then e (then_exact ek es) a (leads_then ek es (leads_folded (fold_keywords f (constant_keywords f args)) (leads_then e' em b (leads_merged k.batches k.waiting))) (leads_spreading _ _))
 
-  -- the arguments of a call after so many operands
+  -- the arguments of a call after a number of operands
   given_exact : (args : Args C) (n : ℕ) → Exact (arguments f args n (positional f args n) (keyword f args 0))
   given_exact args n = arguments_exact f args n (positional_exact f args n) (keyword_exact f args 0)
 

@@ -19,7 +19,7 @@ unfolding next
 next_assoc (Gave w x) m n = refl
 next_assoc (Ended w e) m n = refl
 
--- an event of so many operands finds them
+-- an event of some operands finds them
 pub does : {C F : Type 0} (f : Functions C F) (k : Kind) (t : Text) (n : ℕ) (vs below : List C) → length vs ≡ n → (p : ℕ) (ls : List Bool) (w : World C) → act f bare (Some (Do k t n)) p (pushed vs below) ls w ≡ asked f bare k t p (Some (vs, below)) ls w
 does f k t n vs below e p ls w = ap (λ m. asked f bare k t p (popped m (pushed vs below) []) ls w) (sym e) ∙ ap (λ a. asked f bare k t p a ls w) (pops vs below)
 

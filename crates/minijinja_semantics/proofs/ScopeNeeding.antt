@@ -5,11 +5,11 @@ use Rattle.minijinja_value.specs.Values.{Functions}
 use Rattle.minijinja_tree.specs.Tree.{Expr, variable, attribute, list, Optional, absent, present, Exprs, no_more, more, Parameter}
 use Rattle.minijinja_tree.specs.WellFormed.{expr_count}
 use Rattle.minijinja_tree.specs.FreeNames.{Way, end, stores, region, through, to_target, to_targets, to_assignments, to_filter, to_parameters}
-use Rattle.minijinja_semantics.specs.Events.{StoreLocal, UnpackList, PushWith, PopFrame, PushLoop, PopLoopFrame, Iterate, Means, next, give, ask, event, tell, none_fits, item_fits, so_many_fit}
+use Rattle.minijinja_semantics.specs.Events.{StoreLocal, UnpackList, PushWith, PopFrame, PushLoop, PopLoopFrame, Iterate, Means, next, give, ask, event, tell, none_fits, item_fits, if_as_many}
 use Rattle.minijinja_semantics.specs.Meaning.{Signal, On, Broke, Continued, if_on, assign, assign_each, assign_all, LoopTurn, with_item, turns, all_turns, keep_if, passing, store_arguments}
 use Rattle.minijinja_semantics.specs.Needs.{Scope, loop_scope, scopes, scope_after, with_stored, without_first, IsStored, MentionsOnly}
 use Rattle.minijinja_semantics.proofs.Covering.{Covered, covered_more, past_expr, past_any}
-use Rattle.minijinja_semantics.proofs.Fits.{so_many_length}
+use Rattle.minijinja_semantics.proofs.Fits.{as_many_length}
 use Rattle.minijinja_semantics.proofs.Mentioning.{Outside, Grows, grows_same, grows_on, HasScope, has_grows, Notes, Known, known_grows, covered_grows, MayEnd, Runs, From, from_ends, Leads, runs_next, runs_give, runs_from, runs_to, runs_at, runs_ask, runs_ask_for, leads_next, leads_give, leads_from, leads_to, leads_choose, leads_ask, leads_quiet}
 use Rattle.minijinja_semantics.proofs.Needing.{needs_expr, needs_any}
 
@@ -155,7 +155,7 @@ module _ (out : Outside) (N : Type 0) {C F : Type 0} (f : Functions C F) where
     needs_assign (attribute e x) v b = leads_next (needs_expr out N f e b) (λ u. leads_quiet b _ _ refl)
     needs_assign (list es) v b = record {
       leads = λ s k. runs_next
-          (runs_ask_for (λ vs. length vs ≡ expr_count es) (so_many_fit (expr_count es)) (event None (UnpackList (expr_count es)) [] (v ∷ [])) (λ vs us e. so_many_length (expr_count es) vs us e)
+          (runs_ask_for (λ vs. length vs ≡ expr_count es) (if_as_many (expr_count es)) (event None (UnpackList (expr_count es)) [] (v ∷ [])) (λ vs us e. as_many_length (expr_count es) vs us e)
           (record { before = from_ends out s (to_targets es b); steps = λ t r c. ((tt, c.0), c.1, c.2); behind = from_ends out s (to_targets es b) }))
           (λ vs. runs_known (λ many. (needs_each es vs b many).leads s k));
     }

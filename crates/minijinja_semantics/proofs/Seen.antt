@@ -6,7 +6,7 @@ use Rattle.minijinja_value.specs.Values.{Functions}
 use Rattle.minijinja_tree.specs.Operators.{compute}
 use Rattle.minijinja_tree.specs.Comparisons.{compares}
 use Rattle.minijinja_semantics.specs.Events as event
-use Rattle.minijinja_semantics.specs.Events.{Kind, Answer, Fault, Values, World, Did, Gave, Ended, Act, next, operated, fitted, answered, ask, none_fits, one_fits, item_fits, so_many_fit, all_fit}
+use Rattle.minijinja_semantics.specs.Events.{Kind, Answer, Fault, Values, World, Did, Gave, Ended, Act, next, operated, fitted, answered, ask, none_fits, one_fits, item_fits, if_as_many, all_fit}
 use Rattle.minijinja_semantics.specs.Code.{Instr, Load, Do, Call, Apply, UnpackList, PushLoop, Iterate, PopLoopFrame, PushDidNotIterate, BuildMacro, Operate, Neg, Not, IsUndefined, CompareAndPreserve, BuildMap, BuildKwargs, BuildList, BuildTuple, DupTop, DiscardTop, Swap, Jump, JumpIfFalse, JumpIfFalseOrPop, JumpIfTrueOrPop, Return}
 use Rattle.minijinja_semantics.specs.Machine.{State, At, Returned, Halted, Jammed, after, Size, Nothing, OneValue, AllValues, size, popped, popped_pairs, popped_counted, Notes, did, asked, built, on_one, on_two, in_loop, iterated, act, Finish, is_over, step, run}
 use Rattle.minijinja_semantics.specs.Naming.{record_as, world_as, did_as, state_as}
@@ -90,7 +90,7 @@ module _ {E E' : Type 0} (g : E → E') where
     act_seen (Some (Do k t n)) p ops ls w = asked_seen k t p (popped n ops []) ls w
     act_seen (Some (Call k t n)) p ops ls w = asked_seen k t p (popped_counted f n ops) ls w
     act_seen (Some (Apply k t n id)) p ops ls w = asked_seen k t p (popped_counted f n ops) ls w
-    act_seen (Some (UnpackList n)) p ops ls w = on_one_seen ops _ _ (λ v below. after_as (ask (so_many_fit n) _ w) _ _ _ (ask_as F (so_many_fit n) _ w) (λ vs w'. refl))
+    act_seen (Some (UnpackList n)) p ops ls w = on_one_seen ops _ _ (λ v below. after_as (ask (if_as_many n) _ w) _ _ _ (ask_as F (if_as_many n) _ w) (λ vs w'. refl))
     act_seen (Some (PushLoop flags)) p ops ls w = on_one_seen ops _ _ (λ v below. after_as (ask none_fits _ w) _ _ _ (ask_as F none_fits _ w) (λ x w'. refl))
     act_seen (Some (Iterate past)) p ops ls w = in_loop_seen ls _ _ (λ came outer. after_as (ask item_fits _ w) _ _ _ (ask_as F item_fits _ w) (iterated_seen past p ops came outer))
     act_seen (Some PopLoopFrame) p ops ls w = in_loop_seen ls _ _ (λ came outer. after_as (ask none_fits _ w) _ _ _ (ask_as F none_fits _ w) (λ x w'. refl))

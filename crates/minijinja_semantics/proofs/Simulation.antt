@@ -61,7 +61,7 @@ module _ {C F : Type 0} (f : Functions C F) (laws : Laws f) (code : List (Instr 
   abbrev pub Keyword : Args C → Type 0
   Keyword args = (t : Taken C (C × C)) (c : Count) (ops : List C) → Matches c t → Simulates f code to (keyword f args c.waiting) (laid_pairs t ops) (Matches (count_keyword args c)) (λ u. laid_pairs u ops) (keyword_meaning f args t)
 
-  -- the arguments of a call, after so many operands
+  -- the arguments of a call, after the given number of operands
   abbrev given : Args C → ℕ → Piece C
   given args n = arguments f args n (positional f args n) (keyword f args 0)
 

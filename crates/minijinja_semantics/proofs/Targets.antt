@@ -5,12 +5,12 @@ use Rattle.minijinja_semantics.specs.Laws.{Laws}
 use Rattle.minijinja_tree.specs.Tree.{Expr, variable, attribute, list, Optional, absent, present, Exprs, no_more, more}
 use Rattle.minijinja_tree.specs.WellFormed.{expr_count, IsTarget, AreTargets, AreAssignments, IsChainIfAny}
 use Rattle.minijinja_semantics.specs.Events as events
-use Rattle.minijinja_semantics.specs.Events.{StoreLocal, SetAttr, so_many_fit, event, take_apart}
+use Rattle.minijinja_semantics.specs.Events.{StoreLocal, SetAttr, if_as_many, event, take_apart}
 use Rattle.minijinja_semantics.specs.Meaning.{assign, assign_each, assign_all, filtered}
 use Rattle.minijinja_semantics.specs.Code.{Instr, UnpackList}
 use Rattle.minijinja_semantics.specs.Pieces.{one}
 use Rattle.minijinja_semantics.specs.Layout.{target, targets, assignments, filters}
-use Rattle.minijinja_semantics.proofs.Fits.{so_many_length}
+use Rattle.minijinja_semantics.proofs.Fits.{as_many_length}
 use Rattle.minijinja_semantics.proofs.Placed.{Stretch}
 use Rattle.minijinja_semantics.proofs.Runs.{Any, first, asks}
 use Rattle.minijinja_semantics.proofs.Lengths.{one_exact, then_exact, expr_exact, target_exact, targets_exact, assignments_exact}
@@ -21,7 +21,7 @@ module _ {C F : Type 0} (f : Functions C F) (laws : Laws f) (code : List (Instr 
   unpack_sim : (n : ℕ) (v : C) (ops : List C) → Simulates f code to (one (UnpackList n)) (v ∷ ops) (λ vs. length vs ≡ n) (λ vs. vs ++ ops) (take_apart n v)
   unpack_sim n v ops = record {
     gives = λ h ls w few le stand.
-        asks f code to (λ vs. length vs ≡ n) (λ vs. vs ++ ops) (so_many_fit n) (event None (events.UnpackList n) [] (v ∷ [])) (v ∷ ops) ls ls w (λ vs us _ e. so_many_length n vs us e) (omega arith) (first code stand) refl few;
+        asks f code to (λ vs. length vs ≡ n) (λ vs. vs ++ ops) (if_as_many n) (event None (events.UnpackList n) [] (v ∷ [])) (v ∷ ops) ls ls w (λ vs us _ e. as_many_length n vs us e) (omega arith) (first code stand) refl few;
   }
 
   mutual

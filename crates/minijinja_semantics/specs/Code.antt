@@ -9,15 +9,15 @@ use Rattle.minijinja_semantics.specs.Events.{Kind}
 pub data Instr (C : Type 0) : Type 0 where
   -- pushes a constant
   Load : C → Instr C
-  -- is an event, with a text and so many operands
+  -- is an event, with a text and a number of operands
   Do : Kind → Text → ℕ → Instr C
-  -- is the event of a call, with a text and so many operands, or as many as a count on top of them
-  -- says
+  -- is the event of a call, with a text and that number of operands, or as many as a count on top
+  -- of them says
   Call : Kind → Text → Option ℕ → Instr C
   -- is the event of a filter or test, with its name, its number of operands as a call has it, and
   -- the id of its name
   Apply : Kind → Text → Option ℕ → (id : ℕ) → Instr C
-  -- takes a value apart into so many items, the first on top
+  -- takes a value apart into the given number of items, the first on top
   UnpackList : ℕ → Instr C
   -- begins a loop over the value on top, with its flags; asks for the loop's next item, or goes on
   -- elsewhere; ends the loop
@@ -34,8 +34,8 @@ pub data Instr (C : Type 0) : Type 0 where
   Neg Not IsUndefined : Instr C
   -- keeps the second of two values, and pushes whether their comparison holds
   CompareAndPreserve : CompareOp → Instr C
-  -- make one value of so many pairs, or of so many values, or of as many as a count on top of them
-  -- says
+  -- make one value of a number of pairs, or of a number of values, or of as many as a count on top
+  -- of them says
   BuildMap BuildKwargs : ℕ → Instr C
   BuildList BuildTuple : Option ℕ → Instr C
   -- put the topmost operands in order

@@ -76,7 +76,7 @@ pub record Count : Type 0 where
   pub batches : ℕ
   pub waiting : ℕ
 
--- where so many arguments wait, their batch is one more
+-- where arguments wait, their batch is one more
 abbrev pub batch_count : (waiting : ℕ) → ℕ
 batch_count zero = 0
 batch_count (suc n) = 1
@@ -105,7 +105,7 @@ count_keyword (pos_splat e args) c = count_keyword args c
 count_keyword (kwarg x e args) c = count_keyword args (count_one c)
 count_keyword (kwarg_splat e args) c = count_keyword args (count_batch c)
 
--- the batch of so many waiting arguments, where there are any
+-- the batch of the given number of waiting arguments, where there are any
 abbrev pub batch : {C : Type 0} → (ℕ → Instr C) → (waiting : ℕ) → Piece C
 batch build zero = nothing
 batch build (suc n) = one (build (suc n))
@@ -140,22 +140,23 @@ unfoldable pub counted : (batches waiting : ℕ) → Option ℕ
 counted zero n = Some n
 counted (suc b) n = None
 
--- what all the arguments leave, where so many operands stand before them
+-- what all the arguments leave, where the given number of operands stands before them
 abbrev pub count_all : {C : Type 0} → Args C → (front : ℕ) → Count
 count_all args front =
     let c = count_positional args (record { batches = 0; waiting = front }) in
     let k = count_keyword args (record { batches = 0; waiting = 0 }) in
     record { batches = c.batches; waiting = c.waiting + map_count k.batches k.waiting }
 
--- the arguments of a call after so many operands, of the pieces of the positional ones and of those
--- with a keyword
+-- the arguments of a call after a number of operands, of the pieces of the positional ones and of
+-- those with a keyword
 abbrev pub arguments : {C F : Type 0} → Functions C F → Args C → (front : ℕ) → Piece C → Piece C → Piece C
 arguments f args front positional_ones keyword_ones =
     let k = count_keyword args (record { batches = 0; waiting = 0 }) in
     let c = count_all args front in
     positional_ones ▸ folded (fold_keywords f (constant_keywords f args)) (keyword_ones ▸ merged k.batches k.waiting) ▸ spreading c.batches c.waiting
 
--- how many arguments a call has after so many operands, or none where their count is on top of them
+-- how many arguments a call has after the given number of operands, or none where their count is on
+-- top of them
 abbrev pub argument_count : {C : Type 0} → Args C → (front : ℕ) → Option ℕ
 argument_count args front = let c = count_all args front in counted c.batches c.waiting
 
@@ -174,7 +175,7 @@ perform_test x n = record {
 }
 
 -- a call of this, of the pieces of what it is an attribute of, of its value, and of the arguments
--- after so many operands
+-- after the given number of operands
 abbrev pub call_of : {C : Type 0} → Callee C → Piece C → Piece C → (ℕ → Piece C) → (ℕ → Option ℕ) → Piece C
 call_of (function x) base value given count = given 0 ▸ one (Call CallFunction x (count 0))
 call_of (block x) base value given count = one (Do (BeginCapture Capture) [] 0) ▸ one (Do CallBlock x 0) ▸ one (Do EndCapture [] 0)
@@ -238,7 +239,7 @@ abbrev mutual
   comparisons f o compared = plain (comparison o)
   comparisons f o (against o' e cs) = and_then o (expr f e) (comparisons f o' cs)
 
-  -- positional and `*` arguments, where so many wait
+  -- positional and `*` arguments, where the given number waits
   pub positional : {C F : Type 0} → Functions C F → Args C → (waiting : ℕ) → Piece C
   positional f no_args n = nothing
   positional f (pos e args) n = expr f e ▸ positional f args (suc n)
@@ -246,7 +247,7 @@ abbrev mutual
   positional f (kwarg x e args) n = positional f args n
   positional f (kwarg_splat e args) n = positional f args n
 
-  -- keyword and `**` arguments, where so many wait
+  -- keyword and `**` arguments, where the given number waits
   pub keyword : {C F : Type 0} → Functions C F → Args C → (waiting : ℕ) → Piece C
   keyword f no_args n = nothing
   keyword f (pos e args) n = keyword f args n
@@ -347,8 +348,8 @@ entered p = record { past = (p 0).past; code = λ h. (p (behind 1 h).place).code
 abbrev pub count_with_caller : {C : Type 0} → Args C → Count
 count_with_caller args = count_one (count_keyword args (record { batches = 0; waiting = 0 }))
 
--- what all the arguments leave, where so many operands stand before them: the map of the keyword
--- arguments is one of them
+-- what all the arguments leave, where the given number of operands stands before them: the map of
+-- the keyword arguments is one of them
 abbrev pub count_all_with_caller : {C : Type 0} → Args C → (front : ℕ) → Count
 count_all_with_caller args front = count_one (count_positional args (record { batches = 0; waiting = front }))
 

@@ -5,7 +5,7 @@ use Rattle.minijinja_value.specs.Values.{Functions}
 use Rattle.minijinja_tree.specs.Operators.{compute}
 use Rattle.minijinja_tree.specs.Comparisons.{compares}
 use Rattle.minijinja_semantics.specs.Events as event
-use Rattle.minijinja_semantics.specs.Events.{Kind, EmitRaw, Emit, CallBlock, FastSuper, FastRecurse, LoadBlocks, Include, Lookup, StoreLocal, GetAttr, SetAttr, GetItem, Slice, Div, ApplyFilter, PerformTest, CallFunction, CallMethod, CallObject, MergeKwargs, UnpackLists, PushWith, PopFrame, PushAutoEscape, PopAutoEscape, BeginCapture, EndCapture, Enclose, GetClosure, ExportLocals, Event, World, Stop, Did, Gave, Ended, operated, ask, none_fits, one_fits, item_fits, so_many_fit, all_fit}
+use Rattle.minijinja_semantics.specs.Events.{Kind, EmitRaw, Emit, CallBlock, FastSuper, FastRecurse, LoadBlocks, Include, Lookup, StoreLocal, GetAttr, SetAttr, GetItem, Slice, Div, ApplyFilter, PerformTest, CallFunction, CallMethod, CallObject, MergeKwargs, UnpackLists, PushWith, PopFrame, PushAutoEscape, PopAutoEscape, BeginCapture, EndCapture, Enclose, GetClosure, ExportLocals, Event, World, Stop, Did, Gave, Ended, operated, ask, none_fits, one_fits, item_fits, if_as_many, all_fit}
 use Rattle.minijinja_semantics.specs.Code.{Instr, Load, Do, Call, Apply, UnpackList, PushLoop, Iterate, PopLoopFrame, PushDidNotIterate, BuildMacro, Operate, Neg, Not, IsUndefined, CompareAndPreserve, BuildMap, BuildKwargs, BuildList, BuildTuple, DupTop, DiscardTop, Swap, Jump, JumpIfFalse, JumpIfFalseOrPop, JumpIfTrueOrPop, Return}
 
 -- a place, the operands with the topmost first, for each open loop with the innermost first whether
@@ -72,25 +72,26 @@ abbrev pub pushed : {C : Type 0} → List C → List C → List C
 pushed [] ops = ops
 pushed (v ∷ vs) ops = pushed vs (v ∷ ops)
 
--- so many operands, the topmost last, and those below
+-- the given number of operands, the topmost last, and those below
 unfoldable pub popped : {C : Type 0} → ℕ → List C → List C → Option (List C × List C)
 popped zero ops vs = Some (vs, ops)
 popped (suc n) [] vs = None
 popped (suc n) (v ∷ ops) vs = popped n ops (v ∷ vs)
 
--- so many pairs of a key and the value above it, the topmost last, and the operands below
+-- the given number of pairs of a key and the value above it, the topmost last, and the operands
+-- below
 unfoldable pub popped_pairs : {C : Type 0} → ℕ → List C → List (C × C) → Option (List (C × C) × List C)
 popped_pairs zero ops ps = Some (ps, ops)
 popped_pairs (suc n) [] ps = None
 popped_pairs (suc n) (v ∷ []) ps = None
 popped_pairs (suc n) (v ∷ k ∷ ops) ps = popped_pairs n ops ((k, v) ∷ ps)
 
--- so many operands, if the number is known
+-- that number of operands, if the number is known
 unfoldable pub popped_by : {C : Type 0} → Option ℕ → List C → Option (List C × List C)
 popped_by None ops = None
 popped_by (Some n) ops = popped n ops []
 
--- so many operands, or as many as a count on top of them says
+-- that number of operands, or as many as a count on top of them says
 unfoldable pub popped_counted : {C F : Type 0} → Functions C F → Option ℕ → List C → Option (List C × List C)
 popped_counted f (Some n) ops = popped n ops []
 popped_counted f None [] = None
@@ -153,7 +154,7 @@ act f note (Some (Do k t n)) p ops ls w = asked f note k t p (popped n ops []) l
 act f note (Some (Call k t n)) p ops ls w = asked f note k t p (popped_counted f n ops) ls w
 act f note (Some (Apply k t n id)) p ops ls w = asked f note k t p (popped_counted f n ops) ls w
 act f note (Some (UnpackList n)) p ops ls w = on_one ops (λ v below.
-    after (λ vs w'. At (p + 1) (vs ++ below) ls w') (ask (so_many_fit n) (note p (event.event None (event.UnpackList n) [] (v ∷ []))) w))
+    after (λ vs w'. At (p + 1) (vs ++ below) ls w') (ask (if_as_many n) (note p (event.event None (event.UnpackList n) [] (v ∷ []))) w))
 act f note (Some (PushLoop flags)) p ops ls w = on_one ops (λ v below.
     after (λ _ w'. At (p + 1) below (false ∷ ls) w') (ask none_fits (note p (event.event (loop_at flags p) (event.PushLoop flags) [] (v ∷ []))) w))
 act f note (Some (Iterate past)) p ops ls w = in_loop ls (λ came outer.

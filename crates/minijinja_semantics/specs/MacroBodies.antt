@@ -62,7 +62,8 @@ abbrev pub and_name : Option Text → List Text → List Text
 and_name None xs = xs
 and_name (Some x) xs = x ∷ xs
 
--- the names at the first so many places of a list, of those places that pass a test; the last first
+-- the names at the given number of first places of a list, of those places that pass a test; the
+-- last first
 abbrev pub names_below : {C : Type 0} → (ℕ → Bool) → List (Instr C) → ℕ → List Text
 names_below test code zero = []
 names_below test code (suc p) = and_name (if test p then name_at code p else None) (names_below test code p)

@@ -73,7 +73,7 @@ nowhere_else t = t
 abbrev pub noted : Mark → Marking
 noted m t = record t { marks = t.marks ++ m ∷ [] }
 
--- so many instructions
+-- the given number of instructions
 abbrev pub here : ℕ → Marking
 here zero t = t
 here (suc n) t = here n (noted (mark_now t) t)

@@ -280,8 +280,8 @@ with_item (Some v) turn came s others = do
   r ← turn v s
   choose r.0 (others r.1) (give (true, r.1))
 
--- the turns of a loop, where at most so many answers are left: each turn takes one when it asks for
--- its item
+-- the turns of a loop, where at most the given number of answers is left: each turn takes one when
+-- it asks for its item
 unfoldable pub turns : {N C F S : Type 0} → ℕ → LoopTurn N C F S → (came : Bool) → S → Means N C F (Bool × S)
 turns zero turn came s = λ w. Ended w Starved
 turns (suc n) turn came s = do

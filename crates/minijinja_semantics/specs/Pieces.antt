@@ -11,7 +11,7 @@ pub record Here : Type 0 where
   pub filters : List Text
   pub tests : List Text
 
--- so many instructions further on
+-- the given number of instructions further on
 abbrev pub behind : ℕ → Here → Here
 behind n h = record h { place = h.place + n }
 

@@ -74,7 +74,7 @@ longest_of s p m (n ∷ ns) = longer s (if p m then Some m else None) (longest_o
 unfoldable pub marker_at : Syntax → Text → ℕ → Option StartMarker
 marker_at s text at = longest_of s (is_eligible s text at) Variable (Block ∷ Comment ∷ LineStatement ∷ LineComment ∷ [])
 
--- the first of so many places that passes the test, or the place after them
+-- the first of the given number of places that passes the test, or the place after them
 abbrev pub next_place : (ℕ → Bool) → (at left : ℕ) → ℕ
 next_place p at zero = at
 next_place p at (suc left) = if p at then at else next_place p (at + 1) left

@@ -105,7 +105,7 @@ fn marked(file: &str) -> Result<Range<usize>, Fail>
 }
 
 /// The pieces of a text one after another. They are parted by ` | `, and one that is `COUNT * TEXT`
-/// stands there so often.
+/// stands there that many times.
 fn repeated(alloc: Global, pieces: &str) -> Result<String, Fail> {
     let mut text = String::new(alloc);
     for piece in pieces.split(" | ") {

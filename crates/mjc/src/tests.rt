@@ -245,8 +245,8 @@ struct Printing<'t> {
 }
 
 impl Printing<'_> {
-    /// Whether a run succeeds that can write so often. It says where it cannot, and what it wrote is
-    /// the start of the output.
+    /// Whether a run succeeds that can write that many times. It says where it cannot, and what it
+    /// wrote is the start of the output.
     fn succeeds(&self, rt: &impl Abort, alloc: Global, writes: usize) -> bool {
         let (mut out, mut err) = (Short::new(alloc, writes), Vec::new(alloc));
         let (file, answers) = (&mut self.source.as_bytes(), &mut self.answers.as_bytes());

@@ -130,7 +130,7 @@ not_said (l ∷ before) line after (a ∷ answers) unsaid said = not_said before
 pub no_bad_line : (text : Text) (n : ℕ) → IsBadLine text n → IsAnswerFile text → ⊥
 no_bad_line text n bad file = not_said bad.before bad.line bad.after file.0 bad.unsaid (subst (λ ls. SayAnswers ls file.0) bad.stands file.1)
 
--- where each line is an answer, reading them fails only for want of memory
+-- where each line is an answer, reading them fails only if memory is refused
 pub fails_for_memory : (text : Text) (f : Failure) → IsMemory f ⊎ IsBadAnswer (IsBadLine text) f → IsAnswerFile text → IsMemory f
 fails_for_memory text f (inl memory) file = memory
 fails_for_memory text (failure.BadAnswer n) (inr bad) file = absurd (no_bad_line text n bad file)

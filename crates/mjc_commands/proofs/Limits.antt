@@ -10,13 +10,13 @@ use Rattle.mjc_commands.specs.Failure.{IsRefusedAs}
 use Rattle.mjc_commands.specs.Showing.{IsMemory}
 use Rattle.mjc_commands.specs.declared.failure.Failure.{Failure}
 
--- it is told as want of memory, or the text or its code is too long
+-- it is told as refused memory, or the text or its code is too long
 pub limit_of_failure : (long many : Type 0) (e : Error) (failure : Failure) → IsRefusedAs (kind_of e) failure → (kind_of e ≡ SourceTooLong → long) → (kind_of e ≡ TooManyInstructions → many) → IsCompileLimit e → IsMemory failure ⊎ long ⊎ many
 limit_of_failure long many e failure same l m (inl memory) = inl (subst (λ k. IsRefusedAs k failure) memory same)
 limit_of_failure long many e failure same l m (inr (inl is)) = inr (inl (l is))
 limit_of_failure long many e failure same l m (inr (inr is)) = inr (inr (m is))
 
--- it is told as want of memory, or the text is too long
+-- it is told as refused memory, or the text is too long
 pub limit_of_parse : (long : Type 0) (e : Error) (failure : Failure) → IsRefusedAs (kind_of e) failure → (IsTooLong e → long) → IsLimit e → IsMemory failure ⊎ long
 limit_of_parse long e failure same l (inl memory) = inl (subst (λ k. IsRefusedAs k failure) memory same)
 limit_of_parse long e failure same l (inr is) = inr (l is)

@@ -114,7 +114,7 @@ only_memory source (Ok done) short succeeds = succeeds
 only_memory source (Err failure) short (inl memory) = memory
 only_memory source (Err failure) short (inr long) = absurd (omega arith)
 
--- names and findings of a text that can be shown fail only for want of memory, where nothing else
+-- names and findings of a text that can be shown fail only if memory is refused, where nothing else
 -- fails
 pub fits_each : {R Q W : Type 0} {read : R → Option (List ℕ)} {asked : Q → Option (List ℕ)} {holds : W → Option (List ℕ)} {syntax : Syntax} {file file_after : Watched R} {answers answers_after : Watched Q} {out out_after : Watched W} (task : Task) (ending : Result Ending Failure) → RunsOn read asked holds task syntax file file_after answers answers_after out out_after ending → IsUnfailed answers → IsUnfailed file_after → IsUnfailed out_after → IsOnEach task → IsBuildable syntax → HoldsFit task syntax (read (stream_of file)) → IfErr ending IsMemory
 fits_each names ending runs unasked unread unwritten each builds fit =
@@ -126,7 +126,7 @@ fits_each code ending runs unasked unread unwritten each builds fit = absurd eac
 fits_each expression ending runs unasked unread unwritten each builds fit = absurd each
 fits_each (replay answers) ending runs unasked unread unwritten each builds fit = absurd each
 
--- a run that fails only for want of memory succeeds where memory did not run out
+-- a run that fails only if memory is refused succeeds where memory did not run out
 pub succeeds_in_memory : (ending : Result Ending Failure) (ran_out : Bool) → (IsErrAnd ending IsMemory → IsTrue ran_out) → ran_out ≡ false → IfErr ending IsMemory → IsSuccess (exit_status ending)
 succeeds_in_memory (Ok Done) ran_out told enough only = inl refl
 succeeds_in_memory (Ok Found) ran_out told enough only = inr refl

@@ -14,7 +14,7 @@ use Rattle.mjc_commands.specs.Usage.{Task, tokens, code, names, lint, expression
 use Rattle.mjc_commands.specs.declared.failure.Failure.{Failure}
 use Rattle.mjc_commands.specs.declared.watched.Watched.{Watched}
 
--- want of memory may be told of any text
+-- refused memory may be told of any text
 pub memory_told : (task : Task) (syntax : Syntax) (source : Text) (failure : Failure) → IsMemory failure → IsRefusalOf task syntax source failure
 memory_told tokens syntax source failure memory = inl memory
 memory_told code syntax source failure memory = inl memory

@@ -12,7 +12,7 @@ use Rattle.mjc_commands.specs.declared.failure.Failure.TheVariants.{Usage, Canno
 use Rattle.mjc_commands.specs.declared.run.Ending.{Ending}
 use Rattle.mjc_commands.specs.declared.run.Ending.TheVariants.{Done, Found}
 
--- 1 for a refused syntax or text and for want of memory, otherwise 2
+-- 1 for a refused syntax, text or memory, otherwise 2
 abbrev pub status_of : Failure → ℕ
 status_of (Refused kind line column) = 1
 status_of Usage = 2
@@ -63,7 +63,7 @@ IsBadAnswer P Usage = ⊥
 IsBadAnswer P (CannotRead path) = ⊥
 IsBadAnswer P CannotWrite = ⊥
 
--- the status that an error of a reader or a writer leads to: 1 for want of memory, otherwise 2
+-- the status that an error of a reader or a writer leads to: 1 if memory is refused, otherwise 2
 pub record IsStatusOf (error : io.Error) (status : ℕ) : Type 0 where
   pub memory : error_kind error ≡ kind.OutOfMemory → status ≡ 1
   pub other : error_kind error ≢ kind.OutOfMemory → status ≡ 2

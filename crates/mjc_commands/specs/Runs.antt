@@ -22,20 +22,20 @@ use Rattle.mjc_commands.specs.declared.watched.Watched.{Watched}
 -- its output the first one is how it was before the run. What of these is known, `read`, `asked` and
 -- `holds` say.
 --
--- A file that is no text fails (`unreadable`), and nothing is printed of it (`unprinted`). A success
--- has read all of it (`whole`), of a text that is not refused, by the tokenizer or the grammar
--- (`shown`), and has printed what is asked for and no more (`printed`). A refusal tells of the text's
--- own, or of want of memory (`told`).
+-- A file that is no text fails (`unreadable`), and nothing is printed of it (`unprinted`). A
+-- success has read all of it (`whole`), of a text that is not refused, by the tokenizer or the
+-- grammar (`shown`), and has printed what is asked for and no more (`printed`). A refusal tells of
+-- the text's own, or of refused memory (`told`).
 --
 -- Only a replay reads answers (`unasked`), and none where the text is refused (`unanswered`). Its
 -- success has read all of them (`answers_whole`), and each of their lines is one (`answered`).
 --
 -- Only a linter finds something (`found`): that of the tree of the text (`linted`).
 --
--- A text that is not refused, with answers that are some, is always a success where no read and no
--- write fails, memory and its length aside (`succeeds`). A read or a write that fails ends the run:
--- in status 1 for want of memory, otherwise 2 (`file_read`, `answers_read`, `out_written`). Where
--- none fails, what is wrong lies in what was read (`unfailed`).
+-- A text that is not refused, with answers that can be read, is always a success where no read and
+-- no write fails, memory and its length aside (`succeeds`). A read or a write that fails ends the
+-- run: in status 1 if memory is refused, otherwise 2 (`file_read`, `answers_read`, `out_written`).
+-- Where none fails, what is wrong lies in what was read (`unfailed`).
 pub record RunsOn {R Q W : Type 0} (read : R → Option (List ℕ)) (asked : Q → Option (List ℕ)) (holds : W → Option (List ℕ)) (task : Task) (syntax : Syntax) (file file_after : Watched R) (answers answers_after : Watched Q) (out out_after : Watched W) (ending : Result Ending Failure) : Type 0 where
   pub unreadable : IsNoText (read (stream_of file)) → IsErr ending
   pub unprinted : IsNoText (read (stream_of file)) → out_after ≡ out

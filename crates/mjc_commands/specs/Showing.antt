@@ -47,11 +47,11 @@ IsTooLarge (replay answers) syntax source = (2 ^ 32 ≤ length source) ⊎ HasTo
 abbrev pub IsMemory : Failure → Type 0
 IsMemory failure = IsRefusedAs OutOfMemory failure
 
--- a run on a text that can be shown ends in success, or by want of memory, or the text is too large
+-- a run on a text that can be shown ends in success, or memory is refused, or the text is too large
 abbrev pub Succeeds : {A : Type 0} → Task → Syntax → Text → Result A Failure → Type 0
 Succeeds task syntax source ending = IfErr ending (λ failure. IsMemory failure ⊎ IsTooLarge task syntax source)
 
--- a run on an expression that can be shown ends in success, or by want of memory, or the text is
+-- a run on an expression that can be shown ends in success, or memory is refused, or the text is
 -- too large
 abbrev pub SucceedsExpr : {A : Type 0} → Text → Result A Failure → Type 0
 SucceedsExpr source ending = IfErr ending (λ failure. IsMemory failure ⊎ IsTooLargeExpr source)

@@ -51,7 +51,7 @@ impl<'p> Failure<'p> {
         Failure::without_place(ErrorKind::SourceTooLong)
     }
 
-    /// A refusal for want of memory where the error is that, otherwise the other failure.
+    /// A refusal of memory where the error is that, otherwise the other failure.
     fn memory_or(error: &io::Error, other: Failure<'p>) -> Self
         ensures memory { error_kind error.now ≡ kind.OutOfMemory → IsRefusedAs OutOfMemory result }
         ensures other { error_kind error.now ≢ kind.OutOfMemory → result ≡ other.entry }
@@ -119,8 +119,7 @@ impl<'p> Failure<'p> {
         }
     }
 
-    /// The status of the process: 1 where the syntax or the text is refused and for want of memory,
-    /// otherwise 2.
+    /// The status of the process: 1 where the syntax, the text or memory is refused, otherwise 2.
     pub fn status(&self) -> u8
         ensures { result ≡ status_of self.now }
     {

@@ -164,8 +164,8 @@ pub fn run_watched<'a, R: Read, Q: Read, W: Write, X: Write>(
     ensures unasked { answers_of command.now ≡ None → answers.new ≡ answers.old }
     ensures found { IfOk result (λ ending. ending ≡ Ending.Found → IsLintCommand command.now) }
 
-    // A read or a write that fails ends the run: in status 1 for want of memory, otherwise 2. Where
-    // none fails, what is wrong lies in what was read.
+    // A read or a write that fails ends the run: in status 1 if memory is refused, otherwise 2.
+    // Where none fails, what is wrong lies in what was read.
     ensures file_read { Stops file.old file.new (ending_status result) }
     ensures answers_read { Stops answers.old answers.new (ending_status result) }
     ensures out_written { Stops out.old out.new (ending_status result) }

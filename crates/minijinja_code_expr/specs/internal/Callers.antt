@@ -14,8 +14,8 @@ use Rattle.minijinja_code_expr.specs.internal.Calling.{captured}
 use Rattle.minijinja_emitter.specs.internal.Making.{Made, Adds}
 use Rattle.minijinja_code_expr.specs.internal.Parts.{count_of, operands}
 
--- these are the counts of the arguments of a call with so many operands below them, whose last
--- keyword argument is a macro
+-- these are the counts of the arguments of a call with the given number of operands below them,
+-- whose last keyword argument is a macro
 pub record AreCounts {C : Type 0} (args : Args C) (front : ℕ) (c : Counts) : Type 0 where
   pub positional : count_of c.positional ≡ count_positional args (operands front)
   pub keyword : count_of c.keyword ≡ count_with_caller args
@@ -32,7 +32,7 @@ front_of (method e x) = 1
 front_of (block x) = 0
 front_of (object e) = 1
 
--- a call after its arguments, of which there are so many
+-- a call after its arguments, of which there is the given number
 abbrev pub called : {C : Type 0} → Callee C → Option ℕ → Piece C
 called (function x) n = one (Call CallFunction x n)
 called (method e x) n = one (Call CallMethod x n)

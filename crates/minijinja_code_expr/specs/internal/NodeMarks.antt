@@ -62,7 +62,7 @@ begun (list es s) = on_line s
 begun (tuple es s) = on_line s
 begun (map ks vs s) = on_line s
 
--- all the arguments of a call, with so many operands below them
+-- all the arguments of a call, with the given number of operands below them
 abbrev pub given_marks : {C F : Type 0} → Functions C F → Args C → (front : ℕ) → Marking
 given_marks f args front = arguments f args front (positional f args front) (keyword f args 0)
 

@@ -31,7 +31,7 @@ operator_of (Makes o) = Operate o
 operator_of Divides = Do Div [] 2
 operator_of _ = hole
 
--- all the arguments of a call, with so many operands below them
+-- all the arguments of a call, with the given number of operands below them
 abbrev pub given : {C F : Type 0} → Functions C F → Args C → (front : ℕ) → Piece C
 given f args front = arguments f args front (positional f args front) (keyword f args 0)
 
@@ -39,7 +39,7 @@ given f args front = arguments f args front (positional f args front) (keyword f
 abbrev pub count_of : Count → layout.Count
 count_of c = record { batches = c.batches; waiting = c.waiting }
 
--- no argument is counted yet, and so many operands are below the arguments
+-- no argument is counted yet, and the given number of operands is below the arguments
 abbrev pub operands : (front : ℕ) → layout.Count
 operands front = record { batches = 0; waiting = front }
 

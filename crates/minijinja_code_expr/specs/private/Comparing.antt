@@ -40,7 +40,7 @@ abbrev pub after_two : {C F : Type 0} → Functions C F → Comparisons C → Fa
 after_two f compared = plain nothing
 after_two f (against o e cs) = comparisons f o cs
 
--- what is left of comparisons after the operand of so many of them
+-- what is left of comparisons after the operand of the given number of them
 abbrev pub ahead : {V K C F : Type 0} → Functions C F → (V → C) → List (Comparison V K) → ℕ → Failing C
 ahead f c xs zero = after_one f (comparisons_of c xs)
 ahead f c xs (suc i) = after_two f (comparisons_of c (drop i xs))

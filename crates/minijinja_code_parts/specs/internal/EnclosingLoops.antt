@@ -42,9 +42,9 @@ abbrev pub AreOthers : ℕ → List ℕ → Type 0
 AreOthers n [] = Unit {0}
 AreOthers n (p ∷ ps) = (p ≡ n → ⊥) × AreOthers n ps
 
--- A piece was added within a loop, with so many bytes outside of tags: whatever the loop's end is,
--- once the reserved jumps lead there, the piece stands there with its jumps. Only new places are
--- reserved, and none outside of loops.
+-- A piece was added within a loop, with the given number of bytes outside of tags: whatever the
+-- loop's end is, once the reserved jumps lead there, the piece stands there with its jumps. Only
+-- new places are reserved, and none outside of loops.
 pub record Follows {C : Type 0} (t : Around) (old : Made C) (u : Around) (new : Made C) (more : ℕ) (p : Leading Exits C) : Type 0 where
   pub in_loop : u.in_loop ≡ t.in_loop
   pub iterate : u.iterate ≡ t.iterate
@@ -68,11 +68,11 @@ FollowsStmts f t old u new ss = Follows t old u new (all_data_bytes ss) (stmts f
 abbrev pub opening : Open → Around → Around
 opening o t = record t { opened = o ∷ t.opened }
 
--- the loop, with so many more bytes outside of tags
+-- the loop, with the given number of bytes more outside of tags
 abbrev pub counting : ℕ → Around → Around
 counting n t = record t { bytes = min 18446744073709551615 (t.bytes + n) }
 
--- so many more bytes outside of tags were counted, and nothing else
+-- the given number of bytes more outside of tags was counted, and nothing else
 pub record Counted (more : ℕ) (t u : Around) : Type 0 where
   pub same : u ≡ record t { bytes = u.bytes }
   pub bytes : min 18446744073709551615 u.bytes ≡ min 18446744073709551615 (t.bytes + more)

@@ -45,8 +45,8 @@ abbrev pub visited : Option ℕ → Option Text → (ℕ → List Text) → ℕ 
 visited (Some s) x others end = others s
 visited None x others end = and_name x (others end)
 
--- the names at the first so many places that are not below the start, and that are below the end;
--- the last first, without the bodies of macros that are made there
+-- the names at the given number of first places that are not below the start, and that are below
+-- the end; the last first, without the bodies of macros that are made there
 abbrev pub visited_below : {C : Type 0} → (start : ℕ) → List (Instr C) → ℕ → (end : ℕ) → List Text
 visited_below start code zero end = []
 visited_below start code (suc p) end =

@@ -80,7 +80,7 @@ Following C F = C → List C → State (Asked C) C F
 abbrev pub FollowingTwo : Type 0 → Type 0 → Type 0
 FollowingTwo C F = C → C → List C → State (Asked C) C F
 
--- whether so many values fit
+-- whether the given number of values fits
 abbrev pub fits : Fit → ℕ → Bool
 fits fit.Nothing n = n == 0
 fits fit.One n = n == 1
@@ -88,7 +88,7 @@ fits fit.AtMostOne n = nat_lt n 2
 fits (fit.Exactly k) n = n == k
 fits fit.Any n = true
 
--- the values, if so many fit
+-- the values, if they are that many
 abbrev pub fitting : {C : Type 0} → Fit → List C → Option (List C)
 fitting y vs = if fits y (length vs) then Some vs else None
 

@@ -254,7 +254,7 @@ variable [[ ]] | # délais␊host = "é"␊wait = «a ]]» => SyntaxError in app
     hold::<ExpressionsInFiles>(&rt, rt.alloc(), rows)
 }
 
-/// Whether a refusal is want of memory, which names no place.
+/// Whether memory is refused, which names no place.
 fn is_of_memory(error: Error<'_>) -> bool {
     error.kind() == ErrorKind::OutOfMemory && error.name().is_none() && error.span().is_none()
 }

@@ -207,7 +207,7 @@ fn is_answered<C: Refusable>(
     true
 }
 
-/// Whether a refusal is want of memory, which names no place.
+/// Whether memory is refused, which names no place.
 fn is_of_memory(error: Error<'_>) -> bool {
     error.kind() == ErrorKind::OutOfMemory && error.name().is_none() && error.span().is_none()
 }

@@ -70,7 +70,7 @@ tokens, --line-statement, #, --line-comment, ##, - < ## This block is␊## compl
     hold::<Commands>(&rt, rt.alloc(), rows)
 }
 
-/// A line for each of so many, and a tag after them.
+/// That many lines, and a tag after them.
 fn lines_and_a_tag(alloc: Global, count: usize) -> Result<String, Fail> {
     let mut source = String::new(alloc);
     for _ in 0..count {

@@ -1,6 +1,6 @@
 -- The rules of templates, called for the statements of a tree. The borrow checker covers no call
 -- whose bound names a lifetime, so this proof walks the function's code: the rules are met at that
--- type, by the contracts of `of_parts` and of how statements are let go, and what they answer is
+-- type, by the contracts of `of_parts` and of how statements are dropped, and what they answer is
 -- what the function answers.
 use mathlib.Core.Path.{◌≡◌, refl, sym, subst}
 use mathlib.Core.List.{[], ◌∷◌, ◌++◌}

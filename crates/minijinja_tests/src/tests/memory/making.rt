@@ -500,7 +500,7 @@ kwargs | 'a' | 1 => kwargs{"a": 1}
     refused_at_each::<Makes>(&rt, rt.alloc(), rows)
 }
 
-/// A map of so many integers, each with itself.
+/// A map of the given number of integers, each with itself.
 fn are_squares(map: &ValueMap, count: u64) -> bool {
     for key in 0..count {
         if map.get(&Value::of_u64(key)) != Some(&Value::of_u64(key)) {
