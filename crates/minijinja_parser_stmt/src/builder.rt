@@ -84,8 +84,12 @@ pub struct StatementParts<N, E, S> {
     pub names: Vec<(E, Option<E>)>,
     pub body: Vec<S>,
     pub else_body: Vec<S>,
-    /// Whether a loop is recursive, a block is required, or a template may be missing.
-    pub flag: bool,
+    /// Whether a loop is recursive.
+    pub recursive: bool,
+    /// Whether a block is required.
+    pub required: bool,
+    /// Whether a template that is included may be missing.
+    pub ignore_missing: bool,
 }
 
 /// A statement of that kind, without parts.
@@ -102,7 +106,9 @@ pub(crate) fn of_kind<N: Copy + Drop, E: Drop, S: Drop>(
     ensures names { result.names.items ≡ [] }
     ensures body { result.body.items ≡ [] }
     ensures else_body { result.else_body.items ≡ [] }
-    ensures flag { result.flag ≡ false }
+    ensures recursive { result.recursive ≡ false }
+    ensures required { result.required ≡ false }
+    ensures ignore_missing { result.ignore_missing ≡ false }
 {
     StatementParts {
         kind,
@@ -114,7 +120,9 @@ pub(crate) fn of_kind<N: Copy + Drop, E: Drop, S: Drop>(
         names: Vec::new(alloc),
         body: Vec::new(alloc),
         else_body: Vec::new(alloc),
-        flag: false,
+        recursive: false,
+        required: false,
+        ignore_missing: false,
     }
 }
 

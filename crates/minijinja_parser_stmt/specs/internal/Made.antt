@@ -93,29 +93,29 @@ unfoldable pub HasParts : {N E S C : Type 0} → (E → Expr C) → StatementPar
 HasParts of p = has_parts p.kind (is_some p.name) (is_some p.target) (is_some p.expr) (is_call of p.expr) ≡ true
 
 -- the statement of a kind, of its parts
-abbrev pub tree_of : {C : Type 0} → Kind → Option Text → (target expr filter : Option (Expr C)) → List (Expr C × Expr C) → List (Expr C × Option (Expr C)) → (body other : List (Stmt C)) → Bool → Span → Stmt C
-tree_of kind.Set x (Some t) (Some e) f bs ns b o r s = tree.assignment t e s
-tree_of kind.Template x t e f bs ns b o r s = tree.template (stmts_of b) s
-tree_of kind.For x (Some t) (Some e) f bs ns b o r s = tree.for_loop t e (optional_of f) r (stmts_of b) (stmts_of o) s
-tree_of kind.If x t (Some e) f bs ns b o r s = tree.if_cond e (stmts_of b) (stmts_of o) s
-tree_of kind.With x t e f bs ns b o r s = tree.with_block bs (stmts_of b) s
-tree_of kind.SetBlock x (Some t) e f bs ns b o r s = tree.set_block t (optional_of f) (stmts_of b) s
-tree_of kind.AutoEscape x t (Some e) f bs ns b o r s = tree.auto_escape e (stmts_of b) s
-tree_of kind.FilterBlock x t (Some e) f bs ns b o r s = tree.filter_block e (stmts_of b) s
-tree_of kind.Block (Some x) t e f bs ns b o r s = tree.named_block x r (stmts_of b) s
-tree_of kind.Extends x t (Some e) f bs ns b o r s = tree.extends e s
-tree_of kind.Include x t (Some e) f bs ns b o r s = tree.include e r s
-tree_of kind.Import x (Some t) (Some e) f bs ns b o r s = tree.import_all e t s
-tree_of kind.FromImport x t (Some e) f bs ns b o r s = tree.from_import e (with_aliases ns) s
-tree_of kind.Macro (Some x) t e f bs ns b o r s = tree.declare (macro_of x ns b s)
-tree_of kind.CallBlock x t (Some e) f bs ns b o r s = call_block_tree (call_of e) (macro_of (codes "caller") ns b s) s
-tree_of kind.Do x t (Some e) f bs ns b o r s = call_tree (call_of e) s
-tree_of kind.Continue x t e f bs ns b o r s = tree.continue_loop s
-tree_of _ x t e f bs ns b o r s = tree.break_loop s
+abbrev pub tree_of : {C : Type 0} → Kind → Option Text → (target expr filter : Option (Expr C)) → List (Expr C × Expr C) → List (Expr C × Option (Expr C)) → (body other : List (Stmt C)) → (recursive required ignore_missing : Bool) → Span → Stmt C
+tree_of kind.Set x (Some t) (Some e) f bs ns b o r q m s = tree.assignment t e s
+tree_of kind.Template x t e f bs ns b o r q m s = tree.template (stmts_of b) s
+tree_of kind.For x (Some t) (Some e) f bs ns b o r q m s = tree.for_loop t e (optional_of f) r (stmts_of b) (stmts_of o) s
+tree_of kind.If x t (Some e) f bs ns b o r q m s = tree.if_cond e (stmts_of b) (stmts_of o) s
+tree_of kind.With x t e f bs ns b o r q m s = tree.with_block bs (stmts_of b) s
+tree_of kind.SetBlock x (Some t) e f bs ns b o r q m s = tree.set_block t (optional_of f) (stmts_of b) s
+tree_of kind.AutoEscape x t (Some e) f bs ns b o r q m s = tree.auto_escape e (stmts_of b) s
+tree_of kind.FilterBlock x t (Some e) f bs ns b o r q m s = tree.filter_block e (stmts_of b) s
+tree_of kind.Block (Some x) t e f bs ns b o r q m s = tree.named_block x q (stmts_of b) s
+tree_of kind.Extends x t (Some e) f bs ns b o r q m s = tree.extends e s
+tree_of kind.Include x t (Some e) f bs ns b o r q m s = tree.include e m s
+tree_of kind.Import x (Some t) (Some e) f bs ns b o r q m s = tree.import_all e t s
+tree_of kind.FromImport x t (Some e) f bs ns b o r q m s = tree.from_import e (with_aliases ns) s
+tree_of kind.Macro (Some x) t e f bs ns b o r q m s = tree.declare (macro_of x ns b s)
+tree_of kind.CallBlock x t (Some e) f bs ns b o r q m s = call_block_tree (call_of e) (macro_of (codes "caller") ns b s) s
+tree_of kind.Do x t (Some e) f bs ns b o r q m s = call_tree (call_of e) s
+tree_of kind.Continue x t e f bs ns b o r q m s = tree.continue_loop s
+tree_of _ x t e f bs ns b o r q m s = tree.break_loop s
 
 -- the statement of these parts (no `abbrev`: where the rules are called for one type, the prover
 -- compares two of these by their arguments)
 unfoldable pub statement_tree : {N E S C : Type 0} → (N → Text) → (E → Expr C) → (S → Stmt C) → StatementParts N E S → Span → Stmt C
 statement_tree text of stmt p s =
     tree_of p.kind (option_map text p.name) (option_map of p.target) (option_map of p.expr) (option_map of p.filter) (map (binding_of of) p.assignments.items)
-    (map (param_of of) p.names.items) (map stmt p.body.items) (map stmt p.else_body.items) p.flag s
+    (map (param_of of) p.names.items) (map stmt p.body.items) (map stmt p.else_body.items) p.recursive p.required p.ignore_missing s

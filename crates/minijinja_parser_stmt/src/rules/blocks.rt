@@ -163,7 +163,7 @@ impl<
         let span = tokens.expand_span(from);
         let mut parts = of_kind(self.builder.alloc(), Kind::Block);
         parts.name = Some(name);
-        parts.flag = required;
+        parts.required = required;
         parts.body = body;
         Ok(self.builder.statement(parts, span)?)
     }

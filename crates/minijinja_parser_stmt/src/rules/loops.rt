@@ -86,7 +86,7 @@ impl<
         parts.target = Some(target);
         parts.expr = Some(iter);
         parts.filter = filter_expr;
-        parts.flag = recursive;
+        parts.recursive = recursive;
         parts.body = body;
         parts.else_body = else_body;
         Ok(self.builder.statement(parts, span)?)

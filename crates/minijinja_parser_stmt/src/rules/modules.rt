@@ -81,7 +81,7 @@ pub(super) fn include_stmt<S: StmtBuilder>(
     let span = tokens.expand_span(from);
     let mut parts = of_kind(builder.alloc(), Kind::Include);
     parts.expr = Some(name);
-    parts.flag = ignore_missing;
+    parts.ignore_missing = ignore_missing;
     Ok(builder.statement(parts, span)?)
 }
 
