@@ -97,8 +97,8 @@ impl<'t, 's> Machine<'t, 's> {
         Some(Value::Bool(turns.index == 0))
     }
 
-    /// Ends the innermost loop. One that was run again goes on where that was asked for, and without
-    /// what it says of its turns.
+    /// Ends the innermost loop. One that was run again goes on where that was asked for, and
+    /// without what it says of its turns.
     pub fn close_loop(&mut self) -> Option<()> {
         let turns = self.scopes.get(self.frame.scope?)?.turns?;
         self.close_scope()?;

@@ -1,5 +1,5 @@
-//! The machine: what it keeps of a run, and what each instruction does. A call returns none where an
-//! instruction cannot be done, and the run ends there.
+//! The machine: what it keeps of a run, and what each instruction does. A call returns none where
+//! an instruction cannot be done, and the run ends there.
 use crate::calls::Macro;
 use crate::filters::{filtered, tested};
 use crate::scopes::Scope;

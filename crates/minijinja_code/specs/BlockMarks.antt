@@ -47,6 +47,7 @@ abbrev mutual
   pub macro_marked_blocks : {C : Type 0} → Macro C → List (MarkedBlock C)
   macro_marked_blocks (macro x args defaults body s) = all_marked_blocks body
 
--- the list of each of these blocks has the lines and the spans of its body, and begins on the block's line
+-- the list of each of these blocks has the lines and the spans of its body, and begins on the
+-- block's line
 abbrev pub HaveMarks : {V E C F : Type 0} → Functions C F → List (MarkedBlock C) → BTreeMap (Bor Text) (Instructions V E) → Type 0
 HaveMarks {V} {E} f bs lists = All (λ b. (c : Instructions V E) × (list_of lists b.name ≡ Some c) × (marks_of c ≡ block_marks f b.span b.body)) bs

@@ -6,15 +6,15 @@ use Rattle.minijinja_semantics.specs.Jumps.{last_target, reach, with_target, wit
 use Rattle.minijinja_semantics.specs.Marks.{Margin, again, alone_at, here}
 
 -- A block that is open: a condition or an else part, by the index of the jump that leads past it; a
--- loop, by the index at which it asks for its next item; or a row of `and` or `or`, by the indices of
--- its jumps, the last one first.
+-- loop, by the index at which it asks for its next item; or a row of `and` or `or`, by the indices
+-- of its jumps, the last one first.
 pub data OpenBlock : Type 0 where
   Branch : ℕ → OpenBlock
   Loop : ℕ → OpenBlock
   Conditions : List ℕ → OpenBlock
 
--- the instructions so far with their marks, the line in force and the innermost open span; the spans
--- that are open round that one, and the open blocks, each the innermost first
+-- the instructions so far with their marks, the line in force and the innermost open span; the
+-- spans that are open round that one, and the open blocks, each the innermost first
 pub record Building (C : Type 0) : Type 0 where
   pub code : List (Instr C)
   pub margin : Margin

@@ -12,8 +12,8 @@ use minijinja_emitter::memory::OutOfMemory;
 use minijinja_instructions::instructions::Instruction;
 use minijinja_value::value::TemplateValue;
 
-/// The value that stands for a part that is absent: none for a bound of a slice, and for an else part
-/// the undefined value that writes nothing.
+/// The value that stands for a part that is absent: none for a bound of a slice, and for an else
+/// part the undefined value that writes nothing.
 #[derive(Clone, Copy)]
 pub(crate) enum Absent {
     None,

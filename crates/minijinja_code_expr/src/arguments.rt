@@ -315,7 +315,8 @@ fn close_list<V: TemplateValue>(
 ) -> Result<(), OutOfMemory>
     ensures added { OnOk result
         (Adds (made_of V.contents code.old) (made_of V.contents code.new) (list_batch waiting)) }
-    ensures marked { OnOk result (margin_of code.new ≡ marks.here (batch_count waiting) (margin_of code.old)) }
+    ensures marked { OnOk result (margin_of code.new ≡ marks.here (batch_count waiting) (margin_of
+        code.old)) }
 {
     if waiting > 0 {
         code.add(Instruction::BuildList(Some(waiting)))?;
@@ -327,7 +328,8 @@ fn close_list<V: TemplateValue>(
 fn close_map<V: TemplateValue>(code: &mut Emitter<'_, V>, waiting: usize) -> Result<(), OutOfMemory>
     ensures added { OnOk result
         (Adds (made_of V.contents code.old) (made_of V.contents code.new) (map_batch waiting)) }
-    ensures marked { OnOk result (margin_of code.new ≡ marks.here (batch_count waiting) (margin_of code.old)) }
+    ensures marked { OnOk result (margin_of code.new ≡ marks.here (batch_count waiting) (margin_of
+        code.old)) }
 {
     if waiting > 0 {
         code.add(Instruction::BuildKwargs(waiting))?;

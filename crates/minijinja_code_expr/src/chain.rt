@@ -135,10 +135,11 @@ fn fold_to<V: TemplateValue>(
     holds: bool,
     site: Site,
 ) -> Result<(), OutOfMemory>
-    ensures replaced { OnOk result (made_of V.contents code.new ≡ record (made_of V.contents code.old) {
-      code = take start (made_of V.contents code.old).code
-          ++ Load (V.functions.of_bool holds) ∷ [];
-    }) }
+    ensures replaced { OnOk result (made_of V.contents code.new ≡ record (made_of V.contents
+        code.old) {
+          code = take start (made_of V.contents code.old).code
+              ++ Load (V.functions.of_bool holds) ∷ [];
+        }) }
     ensures marked { OnOk result (margin_of code.new ≡ replaced start site (margin_of code.old)) }
 {
     code.replace(start, V::of_bool(holds), site)

@@ -33,9 +33,9 @@ use minijinja_syntax::tokens::Span;
 use minijinja_tree::ast::{BinOp, Call, CallType, Expr};
 use minijinja_value::value::TemplateValue;
 
-/// Adds the code of an expression. Before the leading operand of an if expression stand its test and
-/// the reserved place of the test's jump. Most leading operands begin with no operand themselves, so
-/// for one of them nothing is kept in a list.
+/// Adds the code of an expression. Before the leading operand of an if expression stand its test
+/// and the reserved place of the test's jump. Most leading operands begin with no operand
+/// themselves, so for one of them nothing is kept in a list.
 #[cycle(expr)]
 pub fn expression<'s, V: TemplateValue>(
     code: &mut Emitter<'s, V>,
@@ -69,8 +69,8 @@ pub fn expression<'s, V: TemplateValue>(
     Ok(())
 }
 
-/// Adds the code of an expression. A loop goes down the operands that nodes begin with, so that a row
-/// of operators, attributes, filters or calls takes no more stack than one of them.
+/// Adds the code of an expression. A loop goes down the operands that nodes begin with, so that a
+/// row of operators, attributes, filters or calls takes no more stack than one of them.
 #[cycle(expr)]
 #[inline(never)]
 fn nested<'s, V: TemplateValue>(
@@ -354,7 +354,8 @@ fn optional<'s, V: TemplateValue>(
 ) -> Result<(), OutOfMemory>
     requires { IsWholeIfAny (optional_of V.contents expr.now) }
     ensures added { OnOk result (Adds (made_of V.contents code.old) (made_of V.contents code.new)
-        (layout.optional V.functions (value_of V.functions absent) (optional_of V.contents expr.now))) }
+        (layout.optional V.functions (value_of V.functions absent) (optional_of V.contents
+        expr.now))) }
     ensures marked { OnOk result (margin_of code.new ≡ marks.optional V.functions
         (node.optional_of V.contents expr.now) (margin_of code.old)) }
 {

@@ -14,8 +14,8 @@ use minijinja_syntax::tokens::Span;
 use minijinja_tree::ast::{Call, CallType, Expr};
 use minijinja_value::value::TemplateValue;
 
-/// Begins a node: what is added from here on stands on the line where the node begins, and comes from
-/// its span if the node opens it. Returns the span that was open before.
+/// Begins a node: what is added from here on stands on the line where the node begins, and comes
+/// from its span if the node opens it. Returns the span that was open before.
 #[inline(always)]
 pub(crate) fn begin<'s, V: TemplateValue>(code: &mut Emitter<'s, V>, node: &Expr<'s, V>) -> Span
     ensures made { made_of V.contents code.new ≡ made_of V.contents code.old }

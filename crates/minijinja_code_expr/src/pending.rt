@@ -52,7 +52,8 @@ impl<'a, 's, V: TemplateValue> PendingNodes<'a, 's, V> {
     /// Removes the node that was added last.
     #[inline(always)]
     pub(crate) fn pop(&mut self) -> Option<PendingNode<'a, 's, V>>
-        ensures last { IfSome result (λ last. pending_of self.old ≡ pending_of self.new ++ last ∷ []) }
+        ensures last { IfSome result (λ last. pending_of self.old ≡ pending_of self.new ++ last ∷
+            []) }
         ensures fewer { IfSome result
             (λ _. length (pending_of self.new) + 1 ≡ length (pending_of self.old)) }
         ensures none { IfNone result (pending_of self.old ≡ []) }

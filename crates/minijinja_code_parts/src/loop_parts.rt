@@ -30,8 +30,8 @@ use minijinja_syntax::tokens::Span;
 use minijinja_tree::ast::{Expr, ForLoop};
 use minijinja_value::value::TemplateValue;
 
-/// Adds the items of a loop, begins the loop over them, and assigns an item to its target. Returns the
-/// loop, for its body; `data_bytes` bytes of data nodes came before it.
+/// Adds the items of a loop, begins the loop over them, and assigns an item to its target. Returns
+/// the loop, for its body; `data_bytes` bytes of data nodes came before it.
 pub fn begin<'s, V: TemplateValue>(
     code: &mut Emitter<'s, V>,
     each: &ForLoop<'s, V>,
@@ -157,8 +157,8 @@ fn count_item<V: TemplateValue>(code: &mut Emitter<'_, V>) -> Result<(), OutOfMe
 }
 
 /// Begins a loop over the items of the value on top, and assigns an item to its target. Returns the
-/// loop, for its body; `data_bytes` bytes of data nodes came before it, and `outer` is the span that
-/// was open before the items.
+/// loop, for its body; `data_bytes` bytes of data nodes came before it, and `outer` is the span
+/// that was open before the items.
 fn begin_turns<'s, V: TemplateValue>(
     code: &mut Emitter<'s, V>,
     recursive: bool,
@@ -169,8 +169,10 @@ fn begin_turns<'s, V: TemplateValue>(
     requires { IsTarget (expr_tree V.contents target.now) }
     ensures marked { OnOk result (margin_of code.new ≡ begun V.functions
         (node.expr_node V.contents target.now) outer (margin_of code.old)) }
-    ensures begun { IfOk result (λ enclosing. Begins V.functions (expr_tree V.contents target.now) recursive
-        data_bytes (made_of V.contents code.old) (made_of V.contents code.new) (around_of enclosing)) }
+    ensures begun { IfOk result (λ enclosing. Begins V.functions (expr_tree V.contents target.now)
+        recursive
+        data_bytes (made_of V.contents code.old) (made_of V.contents code.new) (around_of
+        enclosing)) }
 {
     code.add(Instruction::PushLoop(flags(recursive)))?;
     let iterate = code.reserve()?;

@@ -84,8 +84,8 @@ fn emit_variable<'s, V: TemplateValue>(
     code.add_again(Instruction::Emit)
 }
 
-/// Adds the code of an output that may be a call. A call of `super` without arguments, of `loop` with
-/// one positional argument, and of a block have instructions of their own.
+/// Adds the code of an output that may be a call. A call of `super` without arguments, of `loop`
+/// with one positional argument, and of a block have instructions of their own.
 fn emit_computed<'s, V: TemplateValue>(
     code: &mut Emitter<'s, V>,
     expr: &Expr<'s, V>,

@@ -53,11 +53,11 @@ pub record AreBlockLists {V E C F L : Type 0} (f : Functions C F) (contents : V 
 -- that has to be overridden (`required`). Each block has a list of its own, of which the same holds
 -- (`lists`).
 --
--- The nodes of that tree have places in the text (`nodes`, `bare`): each stands where the derivation
--- of the tree has it, so that they are those that `parse` returns and no others (`places`). Each goes
--- from token to token, and a variable and data stand where their own tokens do (`stands`). The
--- instructions have the lines and the spans of these nodes (`marks`), and so have the lists of the
--- blocks (`block_marks`).
+-- The nodes of that tree have places in the text (`nodes`, `bare`): each stands where the
+-- derivation of the tree has it, so that they are those that `parse` returns and no others
+-- (`places`). Each goes from token to token, and a variable and data stand where their own tokens
+-- do (`stands`). The instructions have the lines and the spans of these nodes (`marks`), and so
+-- have the lists of the blocks (`block_marks`).
 pub record IsCompiled {V E C F : Type 0} (f : Functions C F) (contents : V → C) (syntax : Syntax) (source filename : Text) (c : Compiled V E) : Type 0 where
   pub tree : Stmt C (Unit {0})
   pub derived : IsDerived f syntax source tree
@@ -83,8 +83,8 @@ pub record IsCompiled {V E C F : Type 0} (f : Functions C F) (contents : V → C
 -- of that tree. It does what the tree means, and leaves the value of the expression on top of the
 -- operands; this holds of answers that number, with the values in them, under 2^64. It has fewer
 -- than 2^32 instructions, where they lead lies within the list, and it is no block that has to be
--- overridden. The instructions have the lines and the spans of the tree's nodes, each of which stands
--- where the derivation has it, from token to token.
+-- overridden. The instructions have the lines and the spans of the tree's nodes, each of which
+-- stands where the derivation has it, from token to token.
 pub record IsCompiledExprAt {V E C F : Type 0} (f : Functions C F) (contents : V → C) (place : Place) (source filename : Text) (c : Instructions V E) : Type 0 where
   pub tree : Expr C
   pub derived : IsExprTree f place tree

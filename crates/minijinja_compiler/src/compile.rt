@@ -136,9 +136,9 @@ pub fn compile_expression<'s, V: TemplateValue>(
     Ok(instructions)
 }
 
-/// Compiles one expression that stands in a larger file, in a syntax of choice: it takes the bytes of
-/// `range`. Lines, columns and offsets, in errors and of the instructions, are those of the file,
-/// which `filename` names, and the `source()` of the instructions is the whole file.
+/// Compiles one expression that stands in a larger file, in a syntax of choice: it takes the bytes
+/// of `range`. Lines, columns and offsets, in errors and of the instructions, are those of the
+/// file, which `filename` names, and the `source()` of the instructions is the whole file.
 ///
 /// It takes time for what stands before `range`, whose lines are counted. Nothing is stripped from
 /// the end of the expression, and a dot that stands right before it counts as one before a number.
@@ -194,8 +194,8 @@ pub fn compile_expression_in<'s, V: TemplateValue>(
     // An error for memory has neither a place nor a name, and one for a length has no place.
     ensures unplaced { IfErr result IsCompileUnplaced }
 
-    // A file is too long exactly if it has 2^32 bytes or more, and code only if that of the tree has
-    // 2^32 instructions or more.
+    // A file is too long exactly if it has 2^32 bytes or more, and code only if that of the tree
+    // has 2^32 instructions or more.
     ensures too_long { 2 ^ 32 ≤ length file.now → IsErrAnd result IsTooLong }
     ensures too_long_only { IfErr result (λ e. IsTooLong e → 2 ^ 32 ≤ length file.now) }
     ensures too_many_only { IfErr result (λ e. IsTooMany e → HasTooLongExprCodeAt V.functions

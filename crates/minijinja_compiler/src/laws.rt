@@ -53,8 +53,8 @@ pub fn plain_names_are_undeclared<V: TemplateValue>()
 {}
 
 /// The names that occur free in a parsed tree are those of identifiers of the text. Where the text
-/// and the delimiters are UTF-8, as every `str` is, no identifier has a dot. So the first segments of
-/// the nested names that [`find_undeclared`](crate::meta::find_undeclared) returns are the plain
+/// and the delimiters are UTF-8, as every `str` is, no identifier has a dot. So the first segments
+/// of the nested names that [`find_undeclared`](crate::meta::find_undeclared) returns are the plain
 /// ones, as texts too.
 pub fn names_are_identifiers<V: TemplateValue>()
     ensures tokens { (syntax : Syntax) (source : Text) (s : Stmt V V.Fault) →
@@ -108,8 +108,8 @@ pub fn compiled_nodes_are_parsed<V: TemplateValue>()
 /// variables and data of the tree that have one: the line of each is the one on which its node
 /// begins, and its span is none, that of the node, of a node round it, or of the call of a call
 /// block round it. And a test that the spans of all nodes pass is passed by each span of the marks,
-/// and by a span that begins on the line of each. It is so in the list of each block, and in that of
-/// an expression.
+/// and by a span that begins on the line of each. It is so in the list of each block, and in that
+/// of an expression.
 pub fn compiled_marks_are_of_nodes<V: TemplateValue>()
     ensures template { (syntax : Syntax) (source filename : Text) (c : Compiled V V.Fault)
         (k : IsCompiled V.functions V.contents syntax source filename c) →

@@ -63,7 +63,8 @@ impl<'s, V: TemplateValue> Emitter<'s, V> {
 
     /// The instructions, and the line and the span of each.
     pub fn into_parts(self) -> (Vec<Instruction<'s, V>>, MarkList)
-        ensures code { map (instr_of V.contents) result.0.items ≡ (made_of V.contents self.entry).code }
+        ensures code { map (instr_of V.contents) result.0.items ≡ (made_of V.contents
+            self.entry).code }
         ensures marks { marks_in result.1 ≡ (margin_of self.entry).marks }
         ensures as_many { length (marks_in result.1) ≡ length result.0.items }
     {
@@ -90,8 +91,8 @@ impl<'s, V: TemplateValue> Emitter<'s, V> {
         reached(self.code.list.len())
     }
 
-    /// Reserves memory for `count` more instructions, with the line and the span of each, so that adding
-    /// them moves none.
+    /// Reserves memory for `count` more instructions, with the line and the span of each, so that
+    /// adding them moves none.
     pub fn make_room(&mut self, count: usize) -> Result<(), OutOfMemory>
         ensures made { made_of V.contents self.new ≡ made_of V.contents self.old }
         ensures marked { margin_of self.new ≡ margin_of self.old }
@@ -164,8 +165,8 @@ impl<'s, V: TemplateValue> Emitter<'s, V> {
         self.line
     }
 
-    /// The span of what is added: the one that is open if it begins on the line in force, otherwise one
-    /// of zeros.
+    /// The span of what is added: the one that is open if it begins on the line in force, otherwise
+    /// one of zeros.
     #[inline(always)]
     fn span_now(&self) -> Span
         ensures { record { line = Some (margin_of self.now).line; span = shown result }
@@ -220,7 +221,8 @@ impl<'s, V: TemplateValue> Emitter<'s, V> {
     #[inline(always)]
     pub fn add(&mut self, instruction: Instruction<'s, V>) -> Result<(), OutOfMemory>
         requires { place_in (instr_of V.contents instruction) ≡ None }
-        ensures added { OnOk result (Adds (made_of V.contents self.old) (made_of V.contents self.new)
+        ensures added { OnOk result (Adds (made_of V.contents self.old) (made_of V.contents
+            self.new)
             (one (instr_of V.contents instruction.entry))) }
         ensures marked { OnOk result (margin_of self.new ≡ marks.here 1 (margin_of self.old)) }
     {
@@ -231,7 +233,8 @@ impl<'s, V: TemplateValue> Emitter<'s, V> {
     #[inline(always)]
     pub fn add_at(&mut self, instruction: Instruction<'s, V>, span: Span) -> Result<(), OutOfMemory>
         requires { place_in (instr_of V.contents instruction) ≡ None }
-        ensures added { OnOk result (Adds (made_of V.contents self.old) (made_of V.contents self.new)
+        ensures added { OnOk result (Adds (made_of V.contents self.old) (made_of V.contents
+            self.new)
             (one (instr_of V.contents instruction.entry))) }
         ensures marked { OnOk result (margin_of self.new ≡ alone_at span (margin_of self.old)) }
     {
@@ -242,7 +245,8 @@ impl<'s, V: TemplateValue> Emitter<'s, V> {
     #[inline(always)]
     pub fn add_again(&mut self, instruction: Instruction<'s, V>) -> Result<(), OutOfMemory>
         requires { place_in (instr_of V.contents instruction) ≡ None }
-        ensures added { OnOk result (Adds (made_of V.contents self.old) (made_of V.contents self.new)
+        ensures added { OnOk result (Adds (made_of V.contents self.old) (made_of V.contents
+            self.new)
             (one (instr_of V.contents instruction.entry))) }
         ensures marked { OnOk result (margin_of self.new ≡ again (margin_of self.old)) }
     {
@@ -251,7 +255,8 @@ impl<'s, V: TemplateValue> Emitter<'s, V> {
 
     /// Adds a jump to a place.
     pub fn jump_to(&mut self, place: usize) -> Result<(), OutOfMemory>
-        ensures added { OnOk result (Adds (made_of V.contents self.old) (made_of V.contents self.new)
+        ensures added { OnOk result (Adds (made_of V.contents self.old) (made_of V.contents
+            self.new)
             (one (Jump place))) }
         ensures marked { OnOk result (margin_of self.new ≡ marks.here 1 (margin_of self.old)) }
     {
@@ -261,7 +266,8 @@ impl<'s, V: TemplateValue> Emitter<'s, V> {
     /// Adds an instruction that makes a macro from its name, the place where its body begins, and
     /// its flags.
     pub fn make_macro(&mut self, name: &'s str, entry: usize, flags: u8) -> Result<(), OutOfMemory>
-        ensures added { OnOk result (Adds (made_of V.contents self.old) (made_of V.contents self.new)
+        ensures added { OnOk result (Adds (made_of V.contents self.old) (made_of V.contents
+            self.new)
             (one (BuildMacro name.now entry flags))) }
         ensures marked { OnOk result (margin_of self.new ≡ marks.here 1 (margin_of self.old)) }
     {
@@ -373,7 +379,8 @@ impl<'s, V: TemplateValue> Emitter<'s, V> {
     /// that instead, for the node at `site`. If they do anything else, nothing changes. Returns
     /// whether it joined them.
     pub fn join(&mut self, place: usize, right: &V, site: Site) -> Result<bool, OutOfMemory>
-        ensures joined { IfOk result (λ joined. Joins V.functions place (V.contents right.now) joined
+        ensures joined { IfOk result (λ joined. Joins V.functions place (V.contents right.now)
+            joined
             (made_of V.contents self.old) (made_of V.contents self.new)) }
         ensures marked { IfOk result (λ joined. margin_of self.new ≡ replaced_if joined place site
             (margin_of self.old)) }

@@ -68,7 +68,8 @@ impl<I: Drop> MarkedList<I> {
 
     /// Removes the last instruction and returns it.
     pub(crate) fn pop(&mut self) -> Option<I>
-        ensures some { IfSome result (λ last. self.old.list.items ≡ self.new.list.items ++ last ∷ []) }
+        ensures some { IfSome result (λ last. self.old.list.items ≡ self.new.list.items ++ last ∷
+            []) }
         ensures none { IfNone result (self.old.list.items ≡ []) }
         ensures empty { IfNone result (self.new.list.items ≡ []) }
         ensures marks { marks_in self.new.marks ≡ take (length self.new.list.items)

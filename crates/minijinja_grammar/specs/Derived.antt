@@ -29,15 +29,15 @@ abbrev pub are_new : (old : List Text) → List Text → Bool
 are_new old [] = true
 are_new old (x ∷ xs) = not (list_any (bytes_eq x) old) && are_new old xs
 
--- Template = Body, of depth at most 300: the tokens that are left at the place end unrefused, and all
--- of them are its body. No two of its blocks have one name, and none has a name that was given before
--- the place.
+-- Template = Body, of depth at most 300: the tokens that are left at the place end unrefused, and
+-- all of them are its body. No two of its blocks have one name, and none has a name that was given
+-- before the place.
 pub data IsTemplateTree {C F : Type 0} (f : Functions C F) (p : Place) : Stmt C (Unit {0}) → Type 0 where
   template_tree : {ss : Stmts C (Unit {0})} → p.ending ≡ finished → IsBody f p.source outside at_end_of_text max_depth p.tokens [] ss →
       are_distinct (all_block_names ss) ≡ true → are_new p.names (all_block_names ss) ≡ true → IsTemplateTree f p (template ss)
 
--- one Expr of depth at most 300: the tokens that are left at the place end unrefused, and all of them
--- are the Expr
+-- one Expr of depth at most 300: the tokens that are left at the place end unrefused, and all of
+-- them are the Expr
 pub record IsExprTree {C F : Type 0} (f : Functions C F) (p : Place) (e : Expr C) : Type 0 where
   pub unrefused : p.ending ≡ finished
   pub derived : IsExpr f p.source max_depth p.tokens [] e
@@ -49,8 +49,8 @@ pub record IsExprTree {C F : Type 0} (f : Functions C F) (p : Place) (e : Expr C
 abbrev pub spanned_template : {C F : Type 0} (f : Functions C F) (p : Place) {t : Stmt C (Unit {0})} → IsTemplateTree f p t → spanned.Stmt C
 spanned_template f p (template_tree e m i j) = let ss = spanned_body f p.source p.last m in spanned.template (stmts_of ss.0) (expanded p.last ss.1)
 
--- the tokens that are left at the place have this tree, and its nodes stand where the derivation has
--- them
+-- the tokens that are left at the place have this tree, and its nodes stand where the derivation
+-- has them
 pub record IsSpannedTemplate {C F : Type 0} (f : Functions C F) (p : Place) (t : spanned.Stmt C) : Type 0 where
   pub derivation : IsTemplateTree f p (bare_stmt t)
   pub spans : spanned_template f p derivation ≡ t

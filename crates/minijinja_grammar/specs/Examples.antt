@@ -13,8 +13,8 @@ use Rattle.minijinja_grammar.specs.Words.{if_word, else_word, elif_word, not_wor
 use Rattle.minijinja_grammar.specs.Places.{Place}
 use Rattle.minijinja_grammar.specs.Derived.{IsExprTree, IsTemplateTree}
 
--- before the first of these tokens, which are all: where they stand doesn't matter here, so they stand
--- at one place
+-- before the first of these tokens, which are all: where they stand doesn't matter here, so they
+-- stand at one place
 abbrev pub text_place : Text → Span → List Tok → Place
 text_place source s ts = record { source = source; tokens = map (λ t. (t, s)) ts; ending = finished; last = s; names = [] }
 

@@ -1,6 +1,6 @@
--- The grammar of expressions, a relation for each rule: `IsX d ts rest e` says that the tokens ts, as
--- far as rest, are an X of depth at most d, and that e is its tree. The token that follows is the
--- first of rest.
+-- The grammar of expressions, a relation for each rule: `IsX d ts rest e` says that the tokens ts,
+-- as far as rest, are an X of depth at most d, and that e is its tree. The token that follows is
+-- the first of rest.
 use Rattle.std.specs.Prelude.{◌≡◌, ℕ, suc, ◌≤◌, Bool, true, false, List, ◌∷◌, ◌++◌, Some, None}
 use Rattle.minijinja_syntax.specs.Texts.{Text}
 use Rattle.minijinja_value.specs.Values.{Functions}

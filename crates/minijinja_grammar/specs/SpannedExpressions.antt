@@ -1,11 +1,11 @@
 -- Where the nodes of an expression stand: the tree of its derivation with spans.
 --
--- Each function takes where the token before a part stands, and gives the tree of the part and where
--- the token taken last stands then, which is the one before where the part takes none. A node ends
--- with the last token of its part, and begins at the first one, but for these: an if expression and a
--- comparison begin at the token before them, a filter, a test and the `not` of an `is not` at the name,
--- and an attribute, an item, a slice and a call at the postfix before them, or at the operand where
--- there is none.
+-- Each function takes where the token before a part stands, and gives the tree of the part and
+-- where the token taken last stands then, which is the one before where the part takes none. A node
+-- ends with the last token of its part, and begins at the first one, but for these: an if
+-- expression and a comparison begin at the token before them, a filter, a test and the `not` of an
+-- `is not` at the name, and an attribute, an item, a slice and a call at the postfix before them,
+-- or at the operand where there is none.
 use Rattle.std.specs.Prelude.{ℕ, true, false, List, [], ◌∷◌, ◌++◌, Option, Some, None}
 use Rattle.minijinja_syntax.specs.Texts.{Text}
 use Rattle.minijinja_syntax.specs.Positions.{expanded}

@@ -34,8 +34,8 @@ end_of_end_name before (same_name {s = s}) = s
 
 -- ---- parts
 
--- the parts of a call, which all expressions are that stand where one is wanted: what is called, the
--- arguments, and where the call stands
+-- the parts of a call, which all expressions are that stand where one is wanted: what is called,
+-- the arguments, and where the call stands
 abbrev pub call_parts : {C : Type 0} → Expr C → (before : Span) → Expr C × Args C × Span
 call_parts (call e xs s) before = (e, xs, s)
 call_parts e before = (e, no_args, before)

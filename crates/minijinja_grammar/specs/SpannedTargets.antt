@@ -1,7 +1,7 @@
 -- Where the nodes of targets stand: the tree of their derivation with spans, as for expressions
--- (SpannedExpressions). A variable stands where its identifier does, an attribute where its name does,
--- and a list goes from its first token to its last one, or, where it is empty, from the token after it
--- to the one before it.
+-- (SpannedExpressions). A variable stands where its identifier does, an attribute where its name
+-- does, and a list goes from its first token to its last one, or, where it is empty, from the token
+-- after it to the one before it.
 use Rattle.std.specs.Prelude.{ℕ, Bool, List, [], ◌∷◌}
 use Rattle.minijinja_syntax.specs.Positions.{expanded}
 use Rattle.minijinja_syntax.specs.declared.tokens.Span.{Span}

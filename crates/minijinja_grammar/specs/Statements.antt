@@ -1,6 +1,6 @@
--- The grammar of statements, a relation for each rule: `IsX .. d ts rest x` says that the tokens ts,
--- as far as rest, are an X of depth at most d, and that x is its tree. The token that follows is the
--- first of rest.
+-- The grammar of statements, a relation for each rule: `IsX .. d ts rest x` says that the tokens
+-- ts, as far as rest, are an X of depth at most d, and that x is its tree. The token that follows
+-- is the first of rest.
 use Rattle.std.specs.Prelude.{◌≡◌, ◌==◌, ℕ, suc, Bool, true, false, ◌||◌, List, [], ◌∷◌, length, map, if◌then◌else◌, nat_eq, codes}
 use Rattle.std.specs.List.{starts_with}
 use Rattle.std.specs.Str.{trim}

@@ -8,8 +8,9 @@ abbrev pub first : List SpannedTok → Option Tok
 first [] = None
 first (t ∷ ts) = Some t.0
 
--- Of the tokens that follow a stretch only the first counts, and not where it stands: the stretch is
--- one also before any others that begin with it. `Is ts rest` says that it lies between these two.
+-- Of the tokens that follow a stretch only the first counts, and not where it stands: the stretch
+-- is one also before any others that begin with it. `Is ts rest` says that it lies between these
+-- two.
 abbrev pub OnlyNextCounts : (List SpannedTok → List SpannedTok → Type 0) → Type 0
 OnlyNextCounts Is = (ts rest others : List SpannedTok) → Is ts rest → first rest ≡ first others →
     (stretch : List SpannedTok) × (ts ≡ stretch ++ rest) × Is (stretch ++ others) others

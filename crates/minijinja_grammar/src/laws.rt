@@ -25,8 +25,8 @@ pub fn one_tree<V: TemplateValue>()
         IsExprTree V.functions p u → t ≡ u }
 {}
 
-/// Where the nodes of a tree stand is told by the tokens: trees with spans that the grammar gives of
-/// the same tokens are one.
+/// Where the nodes of a tree stand is told by the tokens: trees with spans that the grammar gives
+/// of the same tokens are one.
 pub fn places_are_unique<V: TemplateValue>()
     ensures template { (p : Place) (t u : spanned.Stmt V.Contents) →
         IsSpannedTemplate V.functions p t → IsSpannedTemplate V.functions p u → t ≡ u }

@@ -35,8 +35,8 @@ is_required code = code.is_required_block
 abbrev pub IsAddError : Error → Type 0
 IsAddError e = (kind_of e ≡ OutOfMemory) ⊎ (kind_of e ≡ TooManyInstructions)
 
--- the refusal of an instruction has no place in the text, since no token is at fault, and no name of
--- a source; one for memory says no more than that
+-- the refusal of an instruction has no place in the text, since no token is at fault, and no name
+-- of a source; one for memory says no more than that
 pub record HasNoPlaceOrName (e : Error) : Type 0 where
   pub no_span : span_of e ≡ None
   pub no_name : error.name_of e ≡ None

@@ -94,9 +94,9 @@ fn names_of<'s, V: TemplateValue>(
     Ok(names.in_order)
 }
 
-/// The part of a list in which names count at an index. It begins with the innermost body of a macro
-/// round the index, or else with the list. It ends with the index, or before the body of a macro that
-/// has ended there while the macro is made only behind the index.
+/// The part of a list in which names count at an index. It begins with the innermost body of a
+/// macro round the index, or else with the list. It ends with the index, or before the body of a
+/// macro that has ended there while the macro is made only behind the index.
 fn reach<V: TemplateValue>(instructions: &[Instruction<'_, V>], index: usize) -> Part
     requires { index < length instructions.now }
     ensures reaches { result ≡ reach (map (instr_of V.contents) instructions.now) index }

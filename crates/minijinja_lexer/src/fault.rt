@@ -56,8 +56,8 @@ fn kind(fault: LexFault) -> ErrorKind
     }
 }
 
-/// Sets the result to the end, and the state to it. It is rare, so it stands out of line: the memory
-/// of what it makes would be zeroed for each token.
+/// Sets the result to the end, and the state to it. It is rare, so it stands out of line: the
+/// memory of what it makes would be zeroed for each token.
 #[cold]
 pub(crate) fn finish<'s>(
     state: &mut State,

@@ -46,8 +46,8 @@ pub fn are_slices()
         (tokens_of_expression_at s text at).tokens }
 {}
 
-/// Spans are in order and do not overlap. Those of an expression in a larger text begin at its place
-/// or after it.
+/// Spans are in order and do not overlap. Those of an expression in a larger text begin at its
+/// place or after it.
 pub fn are_in_order()
     ensures template { (s : Syntax) (source : Text) → IsBuildable s → AreInOrder 0
         (tokens_of_template s source).tokens }

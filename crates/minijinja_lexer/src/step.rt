@@ -21,8 +21,8 @@ pub(crate) enum State {
     NoMemory,
 }
 
-/// What a step yields: a token with its span, the end, or a refusal. Where a token changes the state,
-/// the step has changed it.
+/// What a step yields: a token with its span, the end, or a refusal. Where a token changes the
+/// state, the step has changed it.
 #[derive(Drop)]
 pub(crate) enum Step<'s> {
     Token(Token<'s>, Span),

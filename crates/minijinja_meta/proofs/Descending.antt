@@ -73,8 +73,6 @@ compare-base : {V F C : Type 0} (c : V → C) (q : block.the_data-4 V F) (s : Sp
 compare-base c (block.struct-Compare e k ops) s = tt
 
 module _ {V F C : Type 0} (c : V → C) where
-  }
-
   -- what is no attribute of nodes is none of trees
   pub not-attribute : (e : Node V F) → ((s : _) → e ≡ expr.GetAttr s → ⊥) → IsBase (expr_node c e)
   not-attribute (expr.GetAttr' p e x s) n = absurd (n (record { place = record { value = record { node = record { expr = e; name = x }; span = s }; ptr = p.ptr; alloc = p.alloc } }) refl)
@@ -116,8 +114,6 @@ module _ {V F C : Type 0} (c : V → C) where
   has-parts _ n h = tt
 
   module _ (s : Walker V F) (chain : Node V F) (part : Bor (Node V F)) (logged : IsLogged s.scopes) (based : (w : Way) → through (expr_node c chain) w ≡ chained (attributes_of (expr_node c chain)) (expr_node c part.now) w) where
-    }
-
     -- another expression
     pub reaches-base : ((s : _) → part.now ≡ expr.Var s → ⊥) → IsBase (expr_node c part.now) → Reaches c s s (through (expr_node c chain)) (Some part) (λ w. w)
     reaches-base n h = record {

@@ -94,7 +94,8 @@ fn next_side<'a, 's, V: TemplateValue>(
     requires logged { IsLogged walker.old.scopes }
     requires parts { HasParts (expr_node V.contents part.now) }
     ensures reaches { IfOk result (λ next. Reaches V.contents walker.old walker.new
-        (through (expr_node V.contents part.now)) next (parts.rest (expr_node V.contents part.now))) }
+        (through (expr_node V.contents part.now)) next (parts.rest (expr_node V.contents
+        part.now))) }
     ensures smaller { IfOk result (λ next. IfSome next (λ e. size_of e.now < size_of part.now)) }
 {
     match start_of(part) {
@@ -152,6 +153,7 @@ fn bounds<'a, 's, V: TemplateValue>(
     if_any(walker, slice.step.as_ref())
 }
 
+/// Walks through an expression that may be absent.
 #[cycle(walk)]
 pub fn if_any<'a, 's, V: TemplateValue>(
     walker: &mut Walker<'a, 's, V>,

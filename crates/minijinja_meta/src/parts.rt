@@ -18,8 +18,8 @@ pub enum Start<'a, 's, V: TemplateValue> {
     Parts,
 }
 
-/// What the attributes of a chain are taken of, as `a` of `a.b.c`. Of what is no attribute itself it
-/// is the expression.
+/// What the attributes of a chain are taken of, as `a` of `a.b.c`. Of what is no attribute itself
+/// it is the expression.
 pub fn base_of<'a, 's, V: TemplateValue>(chain: &'a Expr<'s, V>) -> &'a Expr<'s, V>
     ensures way { (w : Way) → through (expr_node V.contents chain.now) w ≡ chained
         (attributes_of (expr_node V.contents chain.now)) (expr_node V.contents result.now) w }

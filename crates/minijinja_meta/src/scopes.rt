@@ -18,6 +18,7 @@ pub struct Scopes<'s> {
 }
 
 impl<'s> Scopes<'s> {
+    /// Scopes in which nothing is stored.
     pub fn new(alloc: Global) -> Self
         ensures logged { IsLogged result }
         ensures none { log result ≡ [] }

@@ -38,6 +38,7 @@ pub fn statements<'a, 's, V: TemplateValue>(
     Ok(())
 }
 
+/// Walks through a statement.
 #[cycle(statements)]
 pub fn statement<'a, 's, V: TemplateValue>(
     walker: &mut Walker<'a, 's, V>,

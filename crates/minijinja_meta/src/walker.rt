@@ -28,6 +28,7 @@ pub struct Walker<'a, 's, V: TemplateValue> {
 }
 
 impl<'a, 's, V: TemplateValue> Walker<'a, 's, V> {
+    /// A walker that has met nothing.
     pub fn new(alloc: Global, names_only: bool) -> Self
         ensures { IsNew result names_only }
     {

@@ -23,6 +23,7 @@ abbrev pub IsRefusedSo : {A : Type 0} → ErrorKind → Option Span → Result A
 IsRefusedSo kind span (Ok x) = ⊥
 IsRefusedSo kind span (Err e) = ((kind_of e ≡ kind) × (span_of e ≡ span)) ⊎ (kind_of e ≡ OutOfMemory)
 
--- a tokenizer's refusal that stands after tokens which are the beginning of what has a tree is returned
+-- a tokenizer's refusal that stands after tokens which are the beginning of what has a tree is
+-- returned
 abbrev pub AnswersItsRefusal : {A X : Type 0} → (Place → X → Type 0) → Place → Result A Error → Type 0
 AnswersItsRefusal IsTree p r = (kind : ErrorKind) (span : Option Span) → p.ending ≡ refused kind span → FitsSoFar IsTree p → IsRefusedSo kind span r

@@ -70,7 +70,8 @@ pub fn literal<'s, V: TemplateValue>(
     alloc: Global,
     tokens: &mut TokenStream<'s, '_>,
 ) -> Result<Expr<'s, V>, Refusal>
-    ensures { Reads (expr_node V.contents) (reads (primaries.literal V.functions) tokens.old.place) result
+    ensures { Reads (expr_node V.contents) (reads (primaries.literal V.functions) tokens.old.place)
+        result
         tokens.new.place }
 {
     if let Some(value) = tokens.int_in_view() {
@@ -133,7 +134,8 @@ pub fn text<'s, V: TemplateValue>(
     text: &'s str,
     from: Span,
 ) -> Result<Expr<'s, V>, Refusal>
-    ensures { Reads (expr_node V.contents) (reads (form.texts V.functions from text.now) tokens.old.place)
+    ensures { Reads (expr_node V.contents) (reads (form.texts V.functions from text.now)
+        tokens.old.place)
         result tokens.new.place }
 {
     if !tokens.begins(Part::Text) {
@@ -153,7 +155,8 @@ pub fn joined_text<'s, V: TemplateValue>(
     from: Span,
 ) -> Result<Expr<'s, V>, Refusal>
     ensures { Reads (expr_node V.contents)
-        (reads (form.texts V.functions from (string_bytes text)) tokens.old.place) result tokens.new.place }
+        (reads (form.texts V.functions from (string_bytes text)) tokens.old.place) result
+        tokens.new.place }
 {
     let mut joined = text;
     while tokens.begins(Part::Text) {
@@ -180,7 +183,8 @@ fn push_text(joined: &mut String, token: &Token<'_>) -> Result<(), AllocError>
 #[tactic(auto, using(crate::proofs::Names::parts_done, crate::proofs::Names::parts_more, crate::proofs::Names::still_between, minijinja_parser_tokens::proofs::Turned::next_shorter, minijinja_parser_tokens::proofs::Turned::read_no_longer))]
 pub fn name_parts(tokens: &mut TokenStream<'_, '_>, first: Span) -> Result<Span, Refusal>
     requires { IsBetweenChars tokens.old.place.source first }
-    ensures read { Reads (λ s. s) (reads (form.name_parts first) tokens.old.place) result tokens.new.place }
+    ensures read { Reads (λ s. s) (reads (form.name_parts first) tokens.old.place) result
+        tokens.new.place }
     ensures between { IfOk result (IsBetweenChars tokens.new.place.source) }
 {
     let mut last = first;

@@ -94,7 +94,8 @@ pub trait ExprBuilder: Copy {
 
     /// Reads a constant, a text or a variable.
     fn atom(&self, tokens: &mut Self::Input) -> Result<Self::Expr, Refusal>
-        ensures { Parses Self.Input.place tree (primaries.atom functions) tokens.old result tokens.new };
+        ensures { Parses Self.Input.place tree (primaries.atom functions) tokens.old result
+            tokens.new };
 
     /// Reads what follows the `.` after an operand: the name of an attribute, or the number of an
     /// item.

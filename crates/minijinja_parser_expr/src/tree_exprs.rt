@@ -82,7 +82,8 @@ impl<'s, 'c, V: TemplateValue> ExprBuilder for TreeExprs<'s, 'c, V> {
 
     #[tactic(auto, using(crate::proofs::Primaries::atom_is))]
     fn atom(&self, tokens: &mut TokenStream<'s, 'c>) -> Result<Expr<'s, V>, Refusal>
-        ensures { Reads (expr_node V.contents) (reads (primaries.atom V.functions) tokens.old.place) result
+        ensures { Reads (expr_node V.contents) (reads (primaries.atom V.functions)
+            tokens.old.place) result
             tokens.new.place }
     {
         if let Some(name) = tokens.ident_in_view() {

@@ -66,7 +66,14 @@ fn for_loop<'s, V: TemplateValue>(
     let body = taken(alloc, &mut parts.body);
     let else_body = taken(alloc, &mut parts.else_body);
     stmt_nodes::for_loop(
-        alloc, target, iter, filter, parts.recursive, body, else_body, span,
+        alloc,
+        target,
+        iter,
+        filter,
+        parts.recursive,
+        body,
+        else_body,
+        span,
     )
 }
 
@@ -188,7 +195,12 @@ fn include<'s, V: TemplateValue>(
     ensures tree { IfOk result (λ s. stmt_node V.contents s ≡ statement_tree (λ x. x.now)
         (expr_node V.contents) (stmt_node V.contents) parts.old span) }
 {
-    stmt_nodes::include(alloc, parts.expr.take().unwrap(), parts.ignore_missing, span)
+    stmt_nodes::include(
+        alloc,
+        parts.expr.take().unwrap(),
+        parts.ignore_missing,
+        span,
+    )
 }
 
 /// A template whose exports are stored to a target.

@@ -120,7 +120,8 @@ impl<'s, 'c, V: TemplateValue, S: OfParts<'s, V>> StmtBuilder for TreeStmts<'s, 
         form: ExprForm,
         depth: usize,
     ) -> Result<Expr<'s, V>, Refusal>
-        ensures { Reads (expr_node V.contents) (reads (expr_of V.functions form depth) tokens.old.place)
+        ensures { Reads (expr_node V.contents) (reads (expr_of V.functions form depth)
+            tokens.old.place)
             result tokens.new.place }
     {
         expression(self.nodes, tokens, form, depth)
@@ -132,7 +133,8 @@ impl<'s, 'c, V: TemplateValue, S: OfParts<'s, V>> StmtBuilder for TreeStmts<'s, 
         form: IdentForm,
         wanted: Wanted,
     ) -> Result<(&'s str, Span), Refusal>
-        ensures { Reads (λ t. (t.0.now, t.1)) (reads (ident_of form) tokens.old.place) result tokens.new.place }
+        ensures { Reads (λ t. (t.0.now, t.1)) (reads (ident_of form) tokens.old.place) result
+            tokens.new.place }
     {
         match form {
             IdentForm::Any => ident(tokens, wanted),
@@ -218,7 +220,8 @@ pub fn template<'s, 'c, V: TemplateValue>(
     tokens: &mut TokenStream<'s, 'c>,
     depth: usize,
 ) -> Result<Stmt<'s, V>, Refusal>
-    ensures { Reads (stmt_node V.contents) (reads (template_at V.functions depth) tokens.old.place) result
+    ensures { Reads (stmt_node V.contents) (reads (template_at V.functions depth) tokens.old.place)
+        result
         tokens.new.place }
 {
     template_of(nodes, tokens, depth)

@@ -1,5 +1,5 @@
--- What a token stream is to its callers: the name of a text, and a place in it with the tokens after
--- that.
+-- What a token stream is to its callers: the name of a text, and a place in it with the tokens
+-- after that.
 use Rattle.std.specs.Borrow.{Bor}
 use Rattle.std.specs.Prelude.{◌≡◌, ◌≢◌, ◌⊎◌, ◌∷◌, [], List, Option, Some, None, Result, Ok, Err, IfOk, IfErr, IfSome}
 use Rattle.minijinja_syntax.specs.Texts.{Text}

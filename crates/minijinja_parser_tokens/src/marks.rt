@@ -265,6 +265,7 @@ pub fn compare_operator(token: &Token<'_>) -> Option<CompareOpKind>
     }
 }
 
+/// Whether a comparison goes on with the token: it is `not`, or an operator that compares.
 pub fn begins_comparison(token: &Token<'_>) -> bool
     ensures { result ≡ words.begins_comparison (tok_of token.now) }
 {

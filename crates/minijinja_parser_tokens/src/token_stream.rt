@@ -68,9 +68,9 @@ impl<'s, 'c> TokenStream<'s, 'c> {
         TokenStream::of_tokenizer(alloc, tokenizer, Span::default())
     }
 
-    /// The tokens of one expression, which takes the bytes of `range` in a larger file of fewer than
-    /// 2^32 bytes; they are those of [`Tokenizer::expression_in`]. Before the first is taken, the
-    /// last one taken is an empty one where the range begins. Errors name the file `filename`.
+    /// The tokens of one expression, which takes the bytes of `range` in a larger file of fewer
+    /// than 2^32 bytes; they are those of [`Tokenizer::expression_in`]. Before the first is taken,
+    /// the last one taken is an empty one where the range begins. Errors name the file `filename`.
     pub fn expression_in(
         alloc: Global,
         file: &'s str,

@@ -77,8 +77,8 @@ operands_of (Returned ops ls w) = ops
 operands_of (Halted w e) = []
 operands_of Jammed = []
 
--- the state after the first n steps of the run from an entry, with these operands alone, the topmost
--- first, no open loop, and these answers
+-- the state after the first n steps of the run from an entry, with these operands alone, the
+-- topmost first, no open loop, and these answers
 abbrev pub steps_of : {C F : Type 0} → Functions C F → List (Instr C) → Entry → List C → List (event.Answer C) → ℕ → State (Asked C) C F
 steps_of f code e given answers n = run f traced code (finish_of code e) n (At (place_of e) given [] (fresh answers))
 
@@ -94,8 +94,8 @@ IsOverWithin n f code e given answers = IsSome (ending_after n f code e given an
 abbrev pub EndsInTime : {C F : Type 0} → Functions C F → List (Instr C) → Entry → List C → List (event.Answer C) → Type 0
 EndsInTime f code e given answers = IsOverWithin ((length answers + 1) * (length code + 1)) f code e given answers
 
--- a run of this unit is over in time on these answers, with any value for a loop to go over, and with
--- any values for the parameters of a macro, one for each
+-- a run of this unit is over in time on these answers, with any value for a loop to go over, and
+-- with any values for the parameters of a macro, one for each
 abbrev pub UnitEndsInTime : {C F : Type 0} → Functions C F → List (Instr C) → List (event.Answer C) → Enterable C Extent → Type 0
 UnitEndsInTime f code answers (RecursiveLoop x e body has_else) = (v : _) → EndsInTime f code (entry.Loop x.begin) (v ∷ []) answers
 UnitEndsInTime f code answers (MacroBody x ps body) = (vs : List _) → length vs ≡ length ps → EndsInTime f code (entry.Macro x.begin) vs answers

@@ -1,4 +1,5 @@
--- The variables and the data of a tree that have an instruction of their own, in the order of the code, and what their marks say.
+-- The variables and the data of a tree that have an instruction of their own, in the order of the
+-- code, and what their marks say.
 use Rattle.std.specs.Prelude.{◌≡◌, ⊤, ℕ, List, [], ◌∷◌, ◌++◌, length, reverse, Option, Some, None, Contains, MatchOption}
 use Rattle.minijinja_syntax.specs.Texts.{Text}
 use Rattle.minijinja_value.specs.Values.{Functions}
@@ -11,8 +12,8 @@ use Rattle.minijinja_semantics.specs.Code.{Instr, Do}
 use Rattle.minijinja_semantics.specs.Events.{Lookup, EmitRaw}
 use Rattle.minijinja_semantics.specs.Marks.{Mark, span_of, stored_as}
 
--- a variable or data, where it stands, and the spans that its mark may have: its own, those of the nodes round it, and those of the
--- calls of the call blocks round it
+-- a variable or data, where it stands, and the spans that its mark may have: its own, those of the
+-- nodes round it, and those of the calls of the call blocks round it
 pub record Look : Type 0 where
   pub text : Text
   pub span : Span
@@ -184,8 +185,8 @@ sights [] ms = []
 sights (i ∷ is) [] = []
 sights (i ∷ is) (m ∷ ms) = and_sight (text_looked i) m (sights is ms)
 
--- the text is the node's, and the mark has the line where the node begins, and no span or one of those
--- round it
+-- the text is the node's, and the mark has the line where the node begins, and no span or one of
+-- those round it
 pub record IsSeen (p : Text × Mark) (l : Look) : Type 0 where
   pub text : p.0 ≡ l.text
   pub line : p.1.line ≡ Some l.span.start_line

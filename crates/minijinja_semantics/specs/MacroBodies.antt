@@ -1,4 +1,5 @@
--- The bodies of macros in the code of a tree, and the names that are referenced up to a place in it.
+-- The bodies of macros in the code of a tree, and the names that are referenced up to a place in
+-- it.
 use Rattle.std.specs.Prelude.{ℕ, zero, suc, ◌-◌, ◌==◌, ◌&&◌, Bool, not, max, min, List, [], ◌∷◌, length, filter, Option, Some, None, if◌then◌else◌, bit_and, bytes_eq, codes, nat_le, nat_lt, slice_get}
 use Rattle.std.specs.List.{list_any}
 use Rattle.std.specs.Option.{option_and_then}
@@ -73,9 +74,10 @@ abbrev pub each_once : List Text → List Text
 each_once [] = []
 each_once (x ∷ xs) = x ∷ filter (λ y. not (bytes_eq x y)) (each_once xs)
 
--- The names that are referenced at a place of a list with these bodies of macros: those at or before
--- the place, the last first and each once, in the innermost body round the place, or else in the
--- list, without the bodies that ended before the place. A place past the end counts as the last one.
+-- The names that are referenced at a place of a list with these bodies of macros: those at or
+-- before the place, the last first and each once, in the innermost body round the place, or else in
+-- the list, without the bodies that ended before the place. A place past the end counts as the last
+-- one.
 abbrev pub referenced : {C : Type 0} → List (Instr C) → List Extent → ℕ → List Text
 referenced code bodies i =
     let place = min i (length code - 1) in

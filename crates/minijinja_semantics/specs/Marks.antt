@@ -1,4 +1,5 @@
--- Which line and span each instruction of a tree's code has. They ride beside the layout: no instruction depends on them.
+-- Which line and span each instruction of a tree's code has. They ride beside the layout: no
+-- instruction depends on them.
 use Rattle.std.specs.Prelude.{ℕ, zero, suc, ◌==◌, ◌&&◌, Bool, true, false, List, [], ◌∷◌, ◌++◌, length, reverse, Option, Some, None, if◌then◌else◌}
 use Rattle.minijinja_value.specs.Values.{Functions}
 use Rattle.minijinja_syntax.specs.declared.tokens.Span.{Span}
@@ -54,7 +55,8 @@ pub record Margin : Type 0 where
   pub line : ℕ
   pub span : Span
 
--- the mark of what is added now: the span that is open, if it begins on the line in force, else that line alone
+-- the mark of what is added now: the span that is open, if it begins on the line in force, else
+-- that line alone
 abbrev pub mark_now : Margin → Mark
 mark_now t = if t.span.start_line == t.line then at_span t.span else at_line t.line
 
@@ -341,7 +343,8 @@ abbrev mutual
       on_line s ⟫ here 1 ⟫ taking f (reverse args) (reverse defaults) ⟫ stmts f [] body ⟫ here 1
       ⟫ here (length (enclosed (bare_macro (macro x args defaults body s)))) ⟫ here 3
 
--- where the code of a template begins, and that of a block, which has a list of its own: on the block's line
+-- where the code of a template begins, and that of a block, which has a list of its own: on the
+-- block's line
 abbrev pub start : Margin
 start = record { marks = []; line = 0; span = record { start_line = 0; start_col = 0; start_offset = 0; end_line = 0; end_col = 0; end_offset = 0 } }
 

@@ -207,7 +207,8 @@ abbrev mutual
     v ← expr f e
     keyword f args (with_batch f.kwargs v t)
 
--- how a statement ends: the next one follows, or the loop around it is left, or its next turn begins
+-- how a statement ends: the next one follows, or the loop around it is left, or its next turn
+-- begins
 pub data Signal : Type 0 where
   On Broke Continued : Signal
 

@@ -122,12 +122,12 @@ pub fn closures_are_enough<V: TemplateValue, N>()
         t (fresh answers)) }
 {}
 
-/// Closures are enough for runs of code that does what a tree means. Whatever is answered, each name
-/// that such a run looks up, calls or encloses while it is not stored is undeclared in the tree, or
-/// it is `self`. Where the run begins at what a macro runs, in the code of the tree or in the list
-/// of one of its blocks, each such name is in the macro's closure. Aside stand a macro's own name
-/// among those that it encloses, and the names that a from import looks up in its template. The
-/// answers and the values in them are fewer than 2^64.
+/// Closures are enough for runs of code that does what a tree means. Whatever is answered, each
+/// name that such a run looks up, calls or encloses while it is not stored is undeclared in the
+/// tree, or it is `self`. Where the run begins at what a macro runs, in the code of the tree or in
+/// the list of one of its blocks, each such name is in the macro's closure. Aside stand a macro's
+/// own name among those that it encloses, and the names that a from import looks up in its
+/// template. The answers and the values in them are fewer than 2^64.
 pub fn runs_need_only_closures<V: TemplateValue, L>()
     ensures template { (t : Stmt V.Contents L) (code : List (Instr V.Contents)) → IsWellFormed t →
         DoesStmt V.functions code 0 (length code) (placed_stmt V.functions t start) →
@@ -146,15 +146,17 @@ pub fn runs_need_only_closures<V: TemplateValue, L>()
 /// Marks, which are the lines and the spans of instructions, are those of nodes. There is one for
 /// each instruction of a layout. Variables and data that have an instruction, in the order of the
 /// code, are the instructions that look up a variable or write data: the line of each is the one on
-/// which its node begins, and its span is none, that of the node, of a node round it, or of the call
-/// of a call block round it. And a test that the spans of all nodes pass is passed by each span of the
-/// marks, and by a span that begins on the line of each.
+/// which its node begins, and its span is none, that of the node, of a node round it, or of the
+/// call of a call block round it. And a test that the spans of all nodes pass is passed by each
+/// span of the marks, and by a span that begins on the line of each.
 pub fn marks_are_of_nodes<V: TemplateValue>()
-    ensures template { (t : spanned.Stmt V.Contents) → AreMarksOf (stmt_code V.functions (bare_stmt t)
+    ensures template { (t : spanned.Stmt V.Contents) → AreMarksOf (stmt_code V.functions (bare_stmt
+        t)
         start) (stmt_marks V.functions t) (stmt_looks V.functions [] t) }
     ensures block { (at : Span) (ss : spanned.Stmts V.Contents) → AreMarksOf (block_code V.functions
         (bare_stmts ss)) (block_marks V.functions at ss) (stmts_looks V.functions [] ss) }
-    ensures expression { (e : spanned.Expr V.Contents) → AreMarksOf (expr_code V.functions (bare_expr e)
+    ensures expression { (e : spanned.Expr V.Contents) → AreMarksOf (expr_code V.functions
+        (bare_expr e)
         start) (expr_marks V.functions e) (looks V.functions [] e) }
     ensures each_of_template { (p : Span → Bool) (ss : spanned.Stmts V.Contents) (at : Span) →
         StmtStands (λ t. p t.1 ≡ true) (λ s. p s ≡ true) (spanned.template ss at) → All (IsMarkOf

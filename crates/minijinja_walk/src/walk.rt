@@ -19,11 +19,11 @@ pub enum Node<'a, 's, V: TemplateValue = Value> {
     Stmt(&'a Stmt<'s, V>),
 }
 
-/// The nodes right below a node, in the order in which its fields are declared in `ast`, and those of
-/// one list in order: of `a if b else c` these are `b`, `a` and `c`, and of
-/// `{% for x in xs %}{{ y }}{% endfor %}` the expressions `x` and `xs` and the output of `y`. A map
-/// has all its keys and then all its values, a `with` block each target before its value, and a
-/// `from` import each name before its alias. Targets are nodes like all other expressions.
+/// The nodes right below a node, in the order in which its fields are declared in `ast`, and those
+/// of one list in order: of `a if b else c` these are `b`, `a` and `c`, and of `{% for x in xs %}{{
+/// y }}{% endfor %}` the expressions `x` and `xs` and the output of `y`. A map has all its keys and
+/// then all its values, a `with` block each target before its value, and a `from` import each name
+/// before its alias. Targets are nodes like all other expressions.
 ///
 /// An argument, a call and a macro that stand in another node are no nodes: their parts count as
 /// that one's. So a `call` block has what is called, the arguments, and then the arguments, the

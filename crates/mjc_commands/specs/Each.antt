@@ -38,8 +38,8 @@ pub record AskForSeveral (args : List (Bor Text)) (task : Task) (syntax : Syntax
   pub several : 2 ≤ length paths
   pub apart : count_by (λ path. bytes_eq path (codes "-")) paths ≤ 1
 
--- where it is known what a file holds, a run on it may end with this status of success: its text can
--- be shown, and if the status is 0, a linter finds nothing in it
+-- where it is known what a file holds, a run on it may end with this status of success: its text
+-- can be shown, and if the status is 0, a linter finds nothing in it
 pub record MayEnd (task : Task) (syntax : Syntax) (held : Option (List ℕ)) (status : ℕ) : Type 0 where
   pub readable : ¬ IsNoText held
   pub shown : (source : Text) → held ≡ Some source → IsShowable task syntax source

@@ -65,8 +65,8 @@ pub record IsExprOutput (source printed : Text) : Type 0 where
   pub compiled : IsCompiledExpr value_functions contents_of source code
   pub words : printed ≡ expression_words code
 
--- the run of the code of a template, from its start, on the answers that the lines of a text say; it
--- goes as the tree means that the code was made of
+-- the run of the code of a template, from its start, on the answers that the lines of a text say;
+-- it goes as the tree means that the code was made of
 pub record IsRunOf (code : Compiled Value ValueFault) (given printed : Text) : Type 0 where
   pub answers : List (Answer Contents)
   pub said : SayAnswers (lines given) answers

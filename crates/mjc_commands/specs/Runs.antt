@@ -19,8 +19,8 @@ use Rattle.mjc_commands.specs.declared.run.Ending.TheVariants.{Found}
 use Rattle.mjc_commands.specs.declared.watched.Watched.{Watched}
 
 -- A run for a task on a file, whose text is in a syntax: of its file, of that of the answers and of
--- its output the first one is how it was before the run. What of these is known, `read`, `asked` and
--- `holds` say.
+-- its output the first one is how it was before the run. What of these is known, `read`, `asked`
+-- and `holds` say.
 --
 -- A file that is no text fails (`unreadable`), and nothing is printed of it (`unprinted`). A
 -- success has read all of it (`whole`), of a text that is not refused, by the tokenizer or the

@@ -21,7 +21,8 @@ use Rattle.mjc_commands.specs.declared.failure.Failure.{Failure}
 abbrev pub IsShowableExpr : Text → Type 0
 IsShowableExpr source = (tree : _) × IsExprDerived value_functions default_syntax source tree
 
--- the text's tokens end without a refusal, or the text has a tree, as a template or as an expression
+-- the text's tokens end without a refusal, or the text has a tree, as a template or as an
+-- expression
 abbrev pub IsShowable : Task → Syntax → Text → Type 0
 IsShowable tokens syntax source = (tokens_of_template syntax source).ending ≡ finished
 IsShowable code syntax source = (tree : _) × IsDerived value_functions syntax source tree

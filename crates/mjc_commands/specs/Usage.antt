@@ -20,9 +20,9 @@ abbrev pub IsFile : Mark → Text → Type 0
 IsFile bare word = starts_with nat_eq word (codes "--") ≡ false
 IsFile marked word = Unit {0}
 
--- what is shown of a file: its tokens, its code, the names that it needs from outside, what a linter
--- finds in it, the code of the expression that it is, or a run of its code on the answers that the
--- file of another path has
+-- what is shown of a file: its tokens, its code, the names that it needs from outside, what a
+-- linter finds in it, the code of the expression that it is, or a run of its code on the answers
+-- that the file of another path has
 pub data Task : Type 0 where
   tokens code names lint expression : Task
   replay : (answers : Text) → Task

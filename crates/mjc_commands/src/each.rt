@@ -89,8 +89,8 @@ pub fn run_each<F: Files, W: Write, X: Write>(
 ) -> Option<Endings>
     ensures within { IfSome result (λ endings. endings.status ≤ 3) }
 
-    // Where it ends with success, each file that the words name, if its bytes are known, holds a text
-    // that can be shown, and where that is with 0, a linter finds nothing in it.
+    // Where it ends with success, each file that the words name, if its bytes are known, holds a
+    // text that can be shown, and where that is with 0, a linter finds nothing in it.
     ensures through { IfSome result (λ endings. IsSuccess endings.status →
         HasGoneThrough args.now (F.held files.now) endings.status) }
 

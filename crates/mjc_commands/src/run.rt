@@ -83,8 +83,8 @@ pub fn run<R: Read, Q: Read, W: Write, X: Write>(
     ensures unbuilt_unread { IsUnbuildable args.now → file.new ≡ file.old }
     ensures unbuilt_unwritten { IsUnbuildable args.now → out.new ≡ out.old }
 
-    // A file that is no text is no success, and nothing is printed of it. An expression stands in the
-    // words: no file is read. Nor is one for what the program says of itself.
+    // A file that is no text is no success, and nothing is printed of it. An expression stands in
+    // the words: no file is read. Nor is one for what the program says of itself.
     ensures unreadable { IsFileUsage args.now → IsNoText (R.remaining file.old) →
         ¬ IsSuccess result }
     ensures unprinted { IsFileUsage args.now → IsNoText (R.remaining file.old) →
@@ -244,8 +244,8 @@ pub(crate) fn syntax_of<'a>(
     }
 }
 
-/// Does what a command asks of its file. A syntax that cannot be built is refused before anything is
-/// read.
+/// Does what a command asks of its file. A syntax that cannot be built is refused before anything
+/// is read.
 fn run_on_file<'a, R: Read, Q: Read, W: Write>(
     alloc: Global,
     command: &FileCommand<'a>,
@@ -279,8 +279,8 @@ fn say_of_itself<'a, W: Write>(text: &str, out: &mut Watched<'_, W>) -> Result<E
     Ok(Ending::Done)
 }
 
-/// Reads the file of a command and writes its tokens, its code, its names, what a linter finds in it,
-/// the code of the expression that it is, or a run of its code.
+/// Reads the file of a command and writes its tokens, its code, its names, what a linter finds in
+/// it, the code of the expression that it is, or a run of its code.
 pub(crate) fn show<'a, R: Read, Q: Read, W: Write>(
     alloc: Global,
     command: &FileCommand<'a>,

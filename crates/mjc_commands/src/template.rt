@@ -35,8 +35,8 @@ pub fn replay_template(
         (code_of contents_of code.now.instructions) entry.Start []
         (map (answer_of contents_of) answers.items)) }
 
-    // The record of the run, and how it ends, are those of the meaning of the tree that the code was
-    // made of.
+    // The record of the run, and how it ends, are those of the meaning of the tree that the code
+    // was made of.
     ensures meant { IfOk result
         (RunsAsMeant code.now (map (answer_of contents_of) answers.items)) }
     ensures memory { IfErr result IsOutOfMemory }

@@ -276,8 +276,8 @@ fn parse_about_command<'a>(args: &[&'a str]) -> Option<Command<'a>>
     }
 }
 
-/// Parses the words after the program's name: `expr` and a text, a command on a file, or a word that
-/// asks about the program itself.
+/// Parses the words after the program's name: `expr` and a text, a command on a file, or a word
+/// that asks about the program itself.
 pub fn parse<'a>(args: &[&'a str]) -> Option<Command<'a>>
     ensures usage { IsSome result ↔ IsUsage args.now }
     ensures asked { IfSome result (IsAskedBy args.now) }
@@ -331,8 +331,8 @@ fn are_apart(paths: &[&str]) -> bool
     paths.iter().filter(|path| **path == "-").count() <= 1
 }
 
-/// Parses the words of a command on several files: `names` or `lint`, options, and the files. One of
-/// them at most is standard input.
+/// Parses the words of a command on several files: `names` or `lint`, options, and the files. One
+/// of them at most is standard input.
 pub fn parse_several<'w, 'a>(args: &'w [&'a str]) -> Option<(FileCommand<'a>, &'w [&'a str])>
     ensures found { IfSome result (λ asked. AskForEach args.now (task_of asked.0.action)
         (syntax_of asked.0.options) (texts asked.1.now)) }

@@ -52,8 +52,8 @@ refusal_of g = g.refusal
 abbrev pub open_of : {V F : Type 0} → CodeGenerator V F → List OpenBlock
 open_of g = all_opened_in [] g.pending.items
 
--- the spans that are open round the innermost one, the nearest first; the outermost is one of zeros,
--- which is none
+-- the spans that are open round the innermost one, the nearest first; the outermost is one of
+-- zeros, which is none
 abbrev pub outer_spans : {V F : Type 0} → CodeGenerator V F → List Span
 outer_spans g = reverse g.spans.items
 

@@ -90,7 +90,8 @@ marked_bodies_of (spanned.do_call e args from s) = (spanned.done, spanned.done)
 marked_bodies_of (spanned.break_loop s) = (spanned.done, spanned.done)
 marked_bodies_of (spanned.continue_loop s) = (spanned.done, spanned.done)
 
--- the lists of these blocks were added with their marks, and lists under other names stay as they were
+-- the lists of these blocks were added with their marks, and lists under other names stay as they
+-- were
 pub record AddsMarks {V E C F : Type 0} (f : Functions C F) (bs : List (MarkedBlock C)) (old new : BTreeMap (Bor Text) (Instructions V E)) : Type 0 where
   pub added : HaveMarks f bs new
   pub others : (x : Text) → All (λ b. b.name ≢ x) bs → list_of new x ≡ list_of old x

@@ -50,6 +50,7 @@ call_block_tree c b = tree.call_block (expr_tree c (node_of (call_in b)).expr) (
 abbrev pub macro_node : {V F C : Type 0} → (V → C) → Spanned (Macro V F) → spanned.Macro C
 macro_node c m = spanned.macro (node_of m).name.now (node.trees c (node_of m).args.items) (node.trees c (node_of m).defaults.items) (spanned.stmts_of (node.stmt_nodes c (node_of m).body.items)) (span_of m)
 
--- the marks of a call of this, with these arguments and a macro, whose marks are these; its value is written
+-- the marks of a call of this, with these arguments and a macro, whose marks are these; its value
+-- is written
 abbrev pub call_block_marks : {C F : Type 0} → Functions C F → spanned.Expr C → spanned.Args C → (from : Span) → Marking → Marking
 call_block_marks f e args from m = within from (marks.call_of (callee (bare_expr e)) (marks.base f e) (marks.expr f e) (λ n. marks.arguments_with f args n m)) ⟫ here 1

@@ -145,8 +145,8 @@ fn nests<V: TemplateValue>(stmt: &Stmt<'_, V>) -> bool
     }
 }
 
-/// The statements of a template, or the body of a statement: of an `if` the part for a true condition,
-/// of a loop what runs for each item. It is empty where there is none.
+/// The statements of a template, or the body of a statement: of an `if` the part for a true
+/// condition, of a loop what runs for each item. It is empty where there is none.
 fn body<'a, 's, V: TemplateValue>(stmt: &'a Stmt<'s, V>) -> &'a [Stmt<'s, V>]
     ensures is { stmts_of (map (stmt_tree V.contents) result.now)
         ≡ (bodies_of (stmt_tree V.contents stmt.now)).0 }

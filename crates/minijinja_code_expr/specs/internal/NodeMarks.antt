@@ -25,7 +25,8 @@ called_on_node (method o x) e = base_node e
 called_on_node (block x) e = None
 called_on_node (object o) e = Some e
 
--- the operand that a node's code begins with, if there is one; of an if expression the one after its test
+-- the operand that a node's code begins with, if there is one; of an if expression the one after
+-- its test
 abbrev pub leading_node : {C : Type 0} → Expr C → Option (Expr C)
 leading_node (slice e start stop step s) = Some e
 leading_node (unary o e s) = Some e

@@ -19,7 +19,8 @@ pub record Begins {C F : Type 0} (f : Functions C F) (e : Expr C) (recursive : B
   pub target_added : Adds held new (target f e)
   pub within : t ≡ record { in_loop = true; iterate = length pushed.code; opened = []; breaks = []; bytes = bytes }
 
--- the items of a loop were added, those alone that pass its test if it has one, and then the loop was begun
+-- the items of a loop were added, those alone that pass its test if it has one, and then the loop
+-- was begun
 pub record BeginsOver {C F : Type 0} (f : Functions C F) (e v : Expr C) (only : Optional C) (recursive : Bool) (bytes : ℕ) (old new : Made C) (t : Around) : Type 0 where
   pub given : Made C
   pub items_added : Adds old given (passing f e only (expr f v))

@@ -16,7 +16,8 @@ closed s t = record t { span = s }
 abbrev pub trimmed : ℕ → Margin → Margin
 trimmed n t = record t { marks = take n t.marks }
 
--- one instruction stands from a place on for a whole node: on the line where the node begins, and within what was open before
+-- one instruction stands from a place on for a whole node: on the line where the node begins, and
+-- within what was open before
 abbrev pub replaced : (place : ℕ) → Site → Margin → Margin
 replaced place site t = here 1 (record { marks = take place t.marks; line = site.node.start_line; span = site.outer })
 

@@ -1,5 +1,5 @@
--- Forms, which a reader that looks one token ahead follows: what they derive, and how they are read from
--- the left.
+-- Forms, which a reader that looks one token ahead follows: what they derive, and how they are read
+-- from the left.
 use Rattle.std.specs.Prelude.{◌≡◌, ◌⊎◌, ℕ, Bool, true, false, zero, suc, List, [], ◌∷◌, length, if◌then◌else◌, Option, Some, None}
 use Rattle.std.specs.Str.{bytes_eq}
 use Rattle.std.specs.Ordering.{nat_cmp}

@@ -278,8 +278,8 @@ abbrev pub begins_set_block : Tok → Bool
 begins_set_block t = is block_end t || is pipe t
 
 -- What statements are made of: expressions, those that no `if` part ends, values that may be
--- tuples, chains of filters, targets, those of a `with`, bodies, the bodies of loops, of blocks and of
--- macros, and the If after an `elif`, from where that word stands.
+-- tuples, chains of filters, targets, those of a `with`, bodies, the bodies of loops, of blocks and
+-- of macros, and the If after an `elif`, from where that word stands.
 pub record Parts (C : Type 0) : Type 1 where
   pub expr : Form (Expr C)
   pub or : Form (Expr C)
@@ -326,8 +326,8 @@ module _ {C : Type 0} (p : Parts C) where
   unfoldable pub otherwise : Form (List (Stmt C))
   otherwise = either (is elif_word) (next elif_word >>= p.if_ >>= (λ s. pure (s ∷ []))) (else_body at_endif endif_word)
 
-  -- If = Or %} Body endif,else,elif ( "endif" | "else" %} Body endif "endif" | "elif" If ), after the
-  -- `if` or `elif` at the span
+  -- If = Or %} Body endif,else,elif ( "endif" | "else" %} Body endif "endif" | "elif" If ), after
+  -- the `if` or `elif` at the span
   unfoldable pub if_level : Span → Form (Stmt C)
   if_level from = do
     e ← p.or
@@ -445,14 +445,14 @@ stmt_of c p (continue_keyword, from) = continue_stmt c from
 abbrev pub or_at : {C F : Type 0} → Functions C F → ℕ → Form (Expr C)
 or_at f d = or_level f (below f d)
 
--- what nests in a part of a statement, beside its expressions: a Stmt in a body, and the If after an
--- `elif`, from where that word stands
+-- what nests in a part of a statement, beside its expressions: a Stmt in a body, and the If after
+-- an `elif`, from where that word stands
 pub record Within (C : Type 0) : Type 1 where
   pub stmt : Context → Form (Stmt C)
   pub if_ : Context → Span → Form (Stmt C)
 
--- the parts of a statement in which such expressions and such statements nest, and targets so deep at
--- most
+-- the parts of a statement in which such expressions and such statements nest, and targets so deep
+-- at most
 abbrev pub parts_of : {C F : Type 0} → Functions C F → ℕ → Below C → Within C → Context → Parts C
 parts_of f d b w c = record {
   expr = b.expr;

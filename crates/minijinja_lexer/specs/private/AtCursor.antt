@@ -10,8 +10,8 @@ use Rattle.minijinja_lexer.specs.private.Plain.{IsPlain}
 abbrev pub cursor_view : Inside → Place
 cursor_view a = record { text = a.text.now; at = a.at }
 
--- it is between characters, and its line and column are those of its place; in the exact part of the
--- plain text ahead the columns are at most 65535
+-- it is between characters, and its line and column are those of its place; in the exact part of
+-- the plain text ahead the columns are at most 65535
 pub record IsCursor (a : Inside) : Type 0 where
   pub short : length a.text.now < 2 ^ 32
   pub boundary : IsCharBoundary a.text.now a.at

@@ -38,8 +38,8 @@ StateFits p state.Over = Unit {0}
 StateFits p (state.Failed f span) = Unit {0}
 StateFits p state.NoMemory = Unit {0}
 
--- a step takes the first token of what was to come, and the rest comes from the state that it leaves;
--- or it says how what was to come ends, or there is no memory for that token
+-- a step takes the first token of what was to come, and the rest comes from the state that it
+-- leaves; or it says how what was to come ends, or there is no memory for that token
 abbrev pub Steps : Syntax → Stream → State → Step → Place → Type 0
 Steps s old new (step.Token t span) p = (old ≡ before ((tok_of t, span) ∷ []) (stream_from s p new)) × StateFits p new
 Steps s old new step.Over p = old ≡ ended finished

@@ -14,7 +14,8 @@ use Rattle.minijinja_meta.specs.Mentions.{Way, in_turn, chained, through, throug
 use Rattle.minijinja_meta.specs.declared.parts.Start.{Start}
 use Rattle.minijinja_meta.specs.declared.parts.Start.TheVariants.{Side, Parts}
 
--- the way through the parts of an expression but its long side, and but the test of an if expression
+-- the way through the parts of an expression but its long side, and but the test of an if
+-- expression
 abbrev pub rest : {C : Type 0} → Expr C → Way → Way
 rest (variable x s) w = w
 rest (constant c s) w = w

@@ -20,8 +20,8 @@ log s = scoped.log s.scopes
 abbrev pub noted : {V F C : Type 0} → (V → C) → Walker V F → Way → List (Mention × Bool) × List (Text × Span)
 noted c s w = (found_of c s.found.items ++ marked (log s) w, macros_of s.macros.items ++ declared w)
 
--- occurrences say the same as others where all is wanted, or where only names are: which names occur
--- free
+-- occurrences say the same as others where all is wanted, or where only names are: which names
+-- occur free
 abbrev pub SayTheSame : (names_only : Bool) → List (Mention × Bool) → List (Mention × Bool) → Type 0
 SayTheSame true xs ys = (y : Text) → is_among y (names_of (free_of xs)) ≡ is_among y (names_of (free_of ys))
 SayTheSame false xs ys = xs ≡ ys

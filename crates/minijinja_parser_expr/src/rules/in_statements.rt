@@ -79,8 +79,8 @@ fn value<N: ExprBuilder>(
     Ok(builder.node(Node::Tuple(items), span)?)
 }
 
-/// Reads a chain of filters, the innermost of which has no operand, in which parts nest `depth` deep
-/// at most.
+/// Reads a chain of filters, the innermost of which has no operand, in which parts nest `depth`
+/// deep at most.
 #[tactic(auto, using(crate::proofs::FilterChains::chain_is, crate::proofs::FilterChains::links_is))]
 fn chain<N: ExprBuilder>(
     builder: N,

@@ -122,7 +122,8 @@ impl<
         requires nests { Nests N.Input.place N.tree N.functions self.now.depth F.pre F.post
             self.now.parser }
         requires comes { comes begins_comparison (N.Input.place tokens.old).tokens ≡ true }
-        ensures { Parses N.Input.place N.tree (comparisons (level_at N.functions self.now.depth level.Sum) before (N.tree expr)) tokens.old result tokens.new }
+        ensures { Parses N.Input.place N.tree (comparisons (level_at N.functions self.now.depth
+            level.Sum) before (N.tree expr)) tokens.old result tokens.new }
     {
         let (op, right) = self.comparison(tokens)?;
         if !tokens.begins(Part::Comparison) {
@@ -162,7 +163,8 @@ impl<
         requires nests { Nests N.Input.place N.tree N.functions self.now.depth F.pre F.post
             self.now.parser }
         ensures { Reads (λ c. (compare_op c.0, N.tree c.1))
-            (comparison_at (level_at N.functions self.now.depth level.Sum) (N.Input.place tokens.old))
+            (comparison_at (level_at N.functions self.now.depth level.Sum) (N.Input.place
+            tokens.old))
             result (N.Input.place tokens.new) }
     {
         let op = tokens.compare_operator()?;

@@ -32,7 +32,8 @@ impl<
     pub(crate) fn postfixed(&self, tokens: &mut N::Input) -> Result<N::Expr, Refusal>
         requires { Nests N.Input.place N.tree N.functions self.now.depth F.pre F.post
             self.now.parser }
-        ensures { Parses N.Input.place N.tree (form.postfixed N.functions (below N.functions self.now.depth)) tokens.old result tokens.new }
+        ensures { Parses N.Input.place N.tree (form.postfixed N.functions (below N.functions
+            self.now.depth)) tokens.old result tokens.new }
     {
         let mut from = tokens.current_span();
         let mut expr = self.primary(tokens)?;

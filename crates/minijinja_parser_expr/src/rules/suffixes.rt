@@ -31,7 +31,8 @@ impl<
     pub(crate) fn suffixed(&self, tokens: &mut N::Input) -> Result<N::Expr, Refusal>
         requires { Nests N.Input.place N.tree N.functions self.now.depth F.pre F.post
             self.now.parser }
-        ensures { Parses N.Input.place N.tree (form.unary_level N.functions (below N.functions self.now.depth)) tokens.old result tokens.new }
+        ensures { Parses N.Input.place N.tree (form.unary_level N.functions (below N.functions
+            self.now.depth)) tokens.old result tokens.new }
     {
         let mut expr = self.operand(tokens)?;
         while tokens.begins(Part::Suffix) {
@@ -60,7 +61,8 @@ impl<
     fn filter(&self, tokens: &mut N::Input, expr: N::Expr) -> Result<N::Expr, Refusal>
         requires { Nests N.Input.place N.tree N.functions self.now.depth F.pre F.post
             self.now.parser }
-        ensures { Parses N.Input.place N.tree (form.filtered N.functions (below N.functions self.now.depth) (N.tree expr)) tokens.old result
+        ensures { Parses N.Input.place N.tree (form.filtered N.functions (below N.functions
+            self.now.depth) (N.tree expr)) tokens.old result
             tokens.new }
     {
         let from = tokens.current_span();
@@ -75,7 +77,8 @@ impl<
     fn any_test(&self, tokens: &mut N::Input, expr: N::Expr) -> Result<N::Expr, Refusal>
         requires { Nests N.Input.place N.tree N.functions self.now.depth F.pre F.post
             self.now.parser }
-        ensures { Parses N.Input.place N.tree (form.any_test N.functions (below N.functions self.now.depth) (N.tree expr)) tokens.old result
+        ensures { Parses N.Input.place N.tree (form.any_test N.functions (below N.functions
+            self.now.depth) (N.tree expr)) tokens.old result
             tokens.new }
     {
         if !tokens.eat(Mark::Not)? {
@@ -90,7 +93,8 @@ impl<
     fn named_test(&self, tokens: &mut N::Input, expr: N::Expr) -> Result<N::Expr, Refusal>
         requires { Nests N.Input.place N.tree N.functions self.now.depth F.pre F.post
             self.now.parser }
-        ensures { Parses N.Input.place N.tree (form.named_test N.functions (below N.functions self.now.depth) (N.tree expr)) tokens.old result
+        ensures { Parses N.Input.place N.tree (form.named_test N.functions (below N.functions
+            self.now.depth) (N.tree expr)) tokens.old result
             tokens.new }
     {
         let from = tokens.current_span();
@@ -104,7 +108,8 @@ impl<
     fn test_args(&self, tokens: &mut N::Input) -> Result<Vec<N::Arg>, Refusal>
         requires { Nests N.Input.place N.tree N.functions self.now.depth F.pre F.post
             self.now.parser }
-        ensures { Parses N.Input.place (λ v. map N.arg v.items) (form.test_args N.functions (below N.functions self.now.depth)) tokens.old result
+        ensures { Parses N.Input.place (λ v. map N.arg v.items) (form.test_args N.functions (below
+            N.functions self.now.depth)) tokens.old result
             tokens.new }
     {
         if tokens.eat(Mark::ParenOpen)? {

@@ -64,7 +64,8 @@ fn bindings<S: StmtBuilder>(
     depth: usize,
 ) -> Result<Vec<(S::Expr, S::Expr)>, Refusal>
     ensures { Parses S.Input.place (λ v. map (binding_of S.tree) v.items)
-        (form.bindings (form.bound_target depth) (expr_at S.functions depth)) tokens.old result tokens.new }
+        (form.bindings (form.bound_target depth) (expr_at S.functions depth)) tokens.old result
+        tokens.new }
 {
     let mut bindings = Vec::with_capacity(builder.alloc(), ROOM_AT_FIRST)?;
     if tokens.at(Mark::BlockEnd) {

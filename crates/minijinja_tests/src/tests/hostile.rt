@@ -72,7 +72,8 @@ line_statement #, line_comment ## | 524288 * ␠ | # x => 3
     hold::<Large>(&rt, rt.alloc(), rows)
 }
 
-/// A template in pieces: how many instructions it has. Its tree and its code are dropped after that.
+/// A template in pieces: how many instructions it has. Its tree and its code are dropped after
+/// that.
 enum Rows {}
 
 impl Subject for Rows {

@@ -273,7 +273,8 @@ impl Subject for Spans {
     }
 }
 
-/// Columns count characters, and offsets bytes. Lines and columns stop at 65535, and offsets do not.
+/// Columns count characters, and offsets bytes. Lines and columns stop at 65535, and offsets do
+/// not.
 #[test]
 fn lines_columns_and_offsets_are_counted(rt: HostRuntime) -> Result<(), Fail> {
     let rows = r#"

@@ -67,8 +67,8 @@ x{{ a }}x␊{{ a␊+ a }}x => 1 1@1:4-1:5 1@1:4-1:5 1 2@2:3-3:3 3 3 3 3 end
     hold::<Places>(&rt, rt.alloc(), rows)
 }
 
-/// Files in which an expression stands between `«` and `»`, after a syntax: the lines and the spans of
-/// its instructions.
+/// Files in which an expression stands between `«` and `»`, after a syntax: the lines and the spans
+/// of its instructions.
 enum PlacesInFiles {}
 
 impl Subject for PlacesInFiles {

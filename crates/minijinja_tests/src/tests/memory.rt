@@ -106,9 +106,9 @@ fn smaller(size: usize) -> usize {
 
 /// Calls on a text.
 trait Refusable {
-    /// Prepares with ample memory, narrows the ballast, makes the calls, and appends their answers in
-    /// words, for which there is room. Where memory is refused, it gives a stock back, and looks at
-    /// what the calls left.
+    /// Prepares with ample memory, narrows the ballast, makes the calls, and appends their answers
+    /// in words, for which there is room. Where memory is refused, it gives a stock back, and looks
+    /// at what the calls left.
     fn attempt<'t>(
         alloc: Global,
         text: &'t str,

@@ -189,6 +189,7 @@ pub struct Refusal {
     pub span: Option<Span>,
 }
 
+/// What is compared of an error.
 pub fn refusal_of(error: Error<'_>) -> Refusal {
     Refusal {
         kind: error.kind(),

@@ -1,7 +1,8 @@
-//! Worked templates that are cut off at each place, and one with a character too many at each place.
+//! Worked templates that are cut off at each place, and one with a character too many at each
+//! place.
 //!
-//! Such a text is accepted, or it is refused as no template or for a bad escape, and a second answer
-//! is the first one.
+//! Such a text is accepted, or it is refused as no template or for a bad escape, and a second
+//! answer is the first one.
 use super::parser::{Refusal, refusal_of};
 use super::{Subject, hold, parted, repeated, syntax_of};
 use minijinja_compiler::compile::compile;

@@ -19,8 +19,8 @@ impl Subject for Walks {
     }
 }
 
-/// The name of each variable below a statement, in the order of the fields. It is generic, as what it
-/// calls is, since a function with locals of large types takes long to prove.
+/// The name of each variable below a statement, in the order of the fields. It is generic, as what
+/// it calls is, since a function with locals of large types takes long to prove.
 fn names_met<V: TemplateValue>(
     alloc: Global,
     stmt: &Stmt<'_, V>,

@@ -332,8 +332,8 @@ fn push_names(words: &mut String, names: &BTreeSet<String>) -> Result<(), AllocE
     Ok(())
 }
 
-/// Appends the names that a template needs, with the attributes that stand right after them if `nested`
-/// is set.
+/// Appends the names that a template needs, with the attributes that stand right after them if
+/// `nested` is set.
 fn push_undeclared(
     alloc: Global,
     words: &mut String,

@@ -203,8 +203,8 @@ fn push_syntaxes(
     push_flagged(alloc, words, ballast)
 }
 
-/// Syntaxes: what they have, and where they find a marker. Each function above owns one of them: the
-/// proof of one that owns them all takes minutes.
+/// Syntaxes: what they have, and where they find a marker. Each function above owns one of them:
+/// the proof of one that owns them all takes minutes.
 enum Syntaxes {}
 
 impl Refusable for Syntaxes {
