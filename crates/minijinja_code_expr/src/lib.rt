@@ -1,4 +1,4 @@
-//! The code of expressions: from the expressions of a tree to their instructions.
+//! The code of expressions, for `minijinja_code`. No user calls it.
 #![tactic(auto)]
 
 mod absent;

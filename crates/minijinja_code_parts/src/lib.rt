@@ -1,4 +1,6 @@
-//! The code of the parts of statements in which no statements are nested.
+//! The code of parts of statements, for `minijinja_code`. No user calls it.
+//!
+//! No statements are nested in these parts.
 #![tactic(auto)]
 
 pub mod block_parts;

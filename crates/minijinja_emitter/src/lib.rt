@@ -1,5 +1,6 @@
-//! What takes up the instructions of a unit while its code is made, with the line and the span of
-//! each.
+//! Takes up the instructions of a unit, for `minijinja_code`. No user calls it.
+//!
+//! Each instruction has its line and its span.
 #![tactic(auto)]
 
 pub mod emit;

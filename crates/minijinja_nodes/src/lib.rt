@@ -1,4 +1,4 @@
-//! Makes the nodes of trees, for parsers. No user calls it.
+//! Makes the nodes of trees, for `minijinja_parser`. No user calls it.
 #![tactic(auto)]
 
 pub mod expr_nodes;

@@ -1,4 +1,6 @@
-//! The rules of expressions: from tokens to the nodes of a tree.
+//! The rules of expressions, for `minijinja_parser`. No user calls it.
+//!
+//! They make the nodes of a tree of tokens.
 #![tactic(auto)]
 
 mod atoms;

@@ -1,4 +1,6 @@
-//! The rules of templates, over any tokens that are read and any statements that are made.
+//! The rules of templates, for `minijinja_parser`. No user calls it.
+//!
+//! They read any tokens, and make any statements.
 #![tactic(auto)]
 
 pub mod builder;

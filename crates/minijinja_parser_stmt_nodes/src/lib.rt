@@ -1,4 +1,6 @@
-//! The nodes of statements, made by the rules of templates.
+//! The nodes of statements, for `minijinja_parser`. No user calls it.
+//!
+//! The rules of templates make them.
 #![tactic(auto)]
 
 mod of_parts;

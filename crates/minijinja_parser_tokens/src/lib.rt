@@ -1,4 +1,6 @@
-//! The tokens of a text, and how the rules of the grammar look at them and take them.
+//! The tokens of a text, for the rules of `minijinja_parser`. A user needs `token_stream` alone.
+//!
+//! It has how the rules look at tokens and take them.
 #![tactic(auto)]
 
 pub mod forms;

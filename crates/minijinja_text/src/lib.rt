@@ -1,3 +1,4 @@
-//! What a text is, a part of it, and how it stands between quotes. It has no code: its definitions
-//! are in `specs/`.
+//! What a text is, as definitions alone. No user calls it.
+//!
+//! `specs/` has a part of a text, and how a text stands between quotes.
 #![tactic(auto)]

@@ -1,4 +1,4 @@
-//! The tree of a template: the nodes of its statements.
+//! The statements of a template. A user reaches them as `ast` of `minijinja_compiler`.
 #![tactic(auto)]
 
 pub mod ast;
