@@ -1,5 +1,5 @@
 -- The code of the arguments of a call: positional ones, the map of keyword ones, and spreading.
-use Rattle.std.proofs.Common.{◌≡◌, ℕ, zero, suc, ◌+◌, ◌<◌, ◌≤◌, Bool, true, false, List, [], ◌∷◌, length, drop, get_or, Option, Some, None, Result, Ok, Err, refl, sym, ap, ◌∙◌, subst, arith, ◌⊎◌, inl, inr, Bor}
+use Rattle.std.proofs.Common.{◌≡◌, ℕ, zero, suc, ◌+◌, ◌<◌, ◌≤◌, Bool, true, false, List, [], ◌∷◌, ◌++◌, length, map, drop, get_or, Option, Some, None, Result, Ok, Err, refl, sym, ap, ◌∙◌, subst, arith, append_assoc, ◌⊎◌, inl, inr, Bor}
 use Rattle.std.specs.Prelude.{OnOk}
 use Rattle.std.proofs.lemmas.List.{at_drop_more, at_drop_all}
 use denote.Param.Weighed.{most, at_most}
@@ -13,12 +13,13 @@ use Rattle.minijinja_tree_expr.specs.declared.ast.CallArg.{CallArg, Pos, Kwarg, 
 use Rattle.minijinja_tree_expr.specs.declared.ast.Expr.{Expr}
 use Rattle.minijinja_semantics.specs.Code.{Load, Do}
 use Rattle.minijinja_semantics.specs.Events.{MergeKwargs, UnpackLists}
-use Rattle.minijinja_semantics.specs.Pieces.{Piece, nothing, one, ◌▸◌}
+use Rattle.minijinja_semantics.specs.Pieces.{Here, Piece, nothing, one, ◌▸◌}
 use Rattle.minijinja_semantics.specs.Layout.{Count, batch_count, count_one, count_batch, count_positional, count_keyword, argument_count, list_batch, map_batch, merged, map_count, spreading, counted, expr, positional, keyword}
-use Rattle.minijinja_emitter.specs.internal.Making.{Made, Adds}
+use Rattle.minijinja_emitter.specs.internal.Making.{Made, here_of, capped, Adds}
 use Rattle.minijinja_code_expr.specs.internal.Parts.{operands, given, keyword_map, AddsIf}
 use Rattle.minijinja_semantics.proofs.Arguments.{AllCounted, all_counted, one_map, none_counted}
 use Rattle.minijinja_semantics.proofs.FoldedCode.{folded_some, folded_none}
+use Rattle.minijinja_semantics.proofs.Runs.{append_nil}
 use Rattle.minijinja_emitter.proofs.Adding.{adds_then, adds_as, adds_nothing}
 use Rattle.minijinja_code_expr.proofs.InOrder.{Leads}
 
@@ -118,11 +119,29 @@ keyword_bound args k few e = omega (arith, ap size e, count_keyword_few args (op
 pub element_size : {X : Type 0} (measure : X → ℕ) (xs : List X) (i : ℕ) (x : X) → i < length xs → x ≡ get_or xs i x → measure x ≤ most measure xs
 element_size measure xs i x within e = subst (λ y. measure y ≤ most measure xs) (sym e) (at_most measure xs i x within)
 
+module _ {C : Type 0} where
+  -- one piece, and what stands after it
+  adds_one : {a b c : Made C} (p r : Piece C) → Adds a b (p ▸ nothing) → Adds b c r → Adds a c (p ▸ r)
+  adds_one {a} {b} p r s t =
+      let last : Adds a b p = record { code = s.code ∙ ap (λ l. a.code ++ map capped l) (append_nil (p.code (here_of a))); past = s.past } in
+      adds_then last t
+
+  -- two pieces, and what stands after them
+  adds_two : {a b c : Made C} (p q r : Piece C) → Adds a b (p ▸ q ▸ nothing) → Adds b c r → Adds a c (p ▸ q ▸ r)
+  adds_two {a} {b} {c} p q r s t =
+      let h : Here = here_of a in
+      let k : Here = p.past h in
+      let both : Adds a b (p ▸ q) = record { code = s.code ∙ ap (λ l. a.code ++ map capped (p.code h ++ l)) (append_nil (q.code k)); past = s.past } in
+      let all = adds_then both t in
+      record { code = all.code ∙ ap (λ l. a.code ++ map capped l) (append_assoc (p.code h) (q.code k) (r.code (q.past k))); past = all.past }
+
 module _ (K : Type 0) {V C : Type 0} (v : V → C) where
-  -- how arguments are taken one after another: none adds nothing, and each counts at most one more
+  -- how arguments are taken one after another: each adds its piece, and counts
   pub record Walk (piece : Args C → ℕ → Piece C) (count : Args C → Count → Count) : Type 0 where
     pub piece_end : (n : ℕ) → piece no_args n ≡ nothing
     pub count_end : (k : Count) → count no_args k ≡ k
+    pub adds_next : (a b c : Made C) (x : CallArg V K) (rest : Args C) (k : Count) → Adds a b (piece (arg_tree v x no_args) k.waiting) → Adds b c (piece rest (count (arg_tree v x no_args) k).waiting) → Adds a c (piece (arg_tree v x rest) k.waiting)
+    pub count_next : (x : CallArg V K) (rest : Args C) (k : Count) → count (arg_tree v x rest) k ≡ count rest (count (arg_tree v x no_args) k)
     pub few : (x : CallArg V K) (k : Count) → size (count (arg_tree v x no_args) k) ≤ suc (size k)
 
 module _ {V K C : Type 0} (v : V → C) where
@@ -131,6 +150,12 @@ module _ {V K C : Type 0} (v : V → C) where
   whole_first (Kwarg name e) rest w = (w.0, tt)
   whole_first (PosSplat e) rest w = (w.0, tt)
   whole_first (KwargSplat e) rest w = (w.0, tt)
+
+  whole_rest : (x : CallArg V K) (rest : Args C) → AreArguments (arg_tree v x rest) → AreArguments rest
+  whole_rest (Pos e) rest w = w.1
+  whole_rest (Kwarg name e) rest w = w.1
+  whole_rest (PosSplat e) rest w = w.1
+  whole_rest (KwargSplat e) rest w = w.1
 
   one_argument : (x : CallArg V K) (rest : Args C) → arg_count (arg_tree v x rest) ≡ suc (arg_count rest)
   one_argument (Pos e) rest = refl
@@ -182,7 +207,31 @@ module _ {V K C : Type 0} (v : V → C) where
         pub taken_whole : AreArguments (arg_tree v x no_args)
         taken_whole = whole_first x after_it (subst (λ args. AreArguments args) next t.whole)
 
+        pub taken_next : {after : Made C} {m : Count} → m ≡ count (arg_tree v x no_args) k → Adds now after (piece (arg_tree v x no_args) k.waiting) → Taken piece count xs front a after (i + 1) m
+        taken_next {after} {m} e s =
+            let l : Leads a now (piece (arg_tree v x after_it) k.waiting) (piece (args_of v xs) front) = subst (λ args. Leads a now (piece args k.waiting) (piece (args_of v xs) front)) next t.leads in
+            let n : Count = count (arg_tree v x no_args) k in
+            let there : Leads a after (piece after_it n.waiting) (piece (args_of v xs) front) = record { adds = λ c r. l.adds c (walk.adds_next now after c x after_it k s r) } in
+            record {
+              leads = subst (λ (m : Count). Leads a after (piece after_it m.waiting) (piece (args_of v xs) front)) (sym e) there;
+              counts = ap (count after_it) e ∙ sym (walk.count_next x after_it k) ∙ sym (ap (λ args. count args k) next) ∙ t.counts;
+              few = omega (arith, ap size e, walk.few x k, t.few);
+              whole = whole_rest x after_it (subst (λ args. AreArguments args) next t.whole);
+            }
+
 module _ {V K C F : Type 0} (v : V → C) (f : Functions C F) where
+  positional_adds : (a b c : Made C) (x : CallArg V K) (rest : Args C) (k : Count) → Adds a b (positional f (arg_tree v x no_args) k.waiting) → Adds b c (positional f rest (count_positional (arg_tree v x no_args) k).waiting) → Adds a c (positional f (arg_tree v x rest) k.waiting)
+  positional_adds a b c (Pos e) rest k s t = adds_one (expr f (expr_tree v e)) (positional f rest (suc k.waiting)) s t
+  positional_adds a b c (PosSplat e) rest k s t = adds_two (list_batch k.waiting) (expr f (expr_tree v e)) (positional f rest 0) s t
+  positional_adds a b c (Kwarg name e) rest k s t = adds_then s t
+  positional_adds a b c (KwargSplat e) rest k s t = adds_then s t
+
+  positional_count : (x : CallArg V K) (rest : Args C) (k : Count) → count_positional (arg_tree v x rest) k ≡ count_positional rest (count_positional (arg_tree v x no_args) k)
+  positional_count (Pos e) rest k = refl
+  positional_count (PosSplat e) rest k = refl
+  positional_count (Kwarg name e) rest k = refl
+  positional_count (KwargSplat e) rest k = refl
+
   positional_few : (x : CallArg V K) (k : Count) → size (count_positional (arg_tree v x no_args) k) ≤ suc (size k)
   positional_few (Pos e) k = omega arith
   positional_few (PosSplat e) k = omega (arith, batch_few k.waiting)
@@ -193,8 +242,22 @@ module _ {V K C F : Type 0} (v : V → C) (f : Functions C F) where
   positional_walk = record {
     piece_end = λ n. refl;
     count_end = λ k. refl;
+    adds_next = positional_adds;
+    count_next = positional_count;
     few = positional_few;
   }
+
+  keyword_adds : (a b c : Made C) (x : CallArg V K) (rest : Args C) (k : Count) → Adds a b (keyword f (arg_tree v x no_args) k.waiting) → Adds b c (keyword f rest (count_keyword (arg_tree v x no_args) k).waiting) → Adds a c (keyword f (arg_tree v x rest) k.waiting)
+  keyword_adds a b c (Pos e) rest k s t = adds_then s t
+  keyword_adds a b c (PosSplat e) rest k s t = adds_then s t
+  keyword_adds a b c (Kwarg name e) rest k s t = adds_two (one (Load (f.of_str name.now))) (expr f (expr_tree v e)) (keyword f rest (suc k.waiting)) s t
+  keyword_adds a b c (KwargSplat e) rest k s t = adds_two (map_batch k.waiting) (expr f (expr_tree v e)) (keyword f rest 0) s t
+
+  keyword_count : (x : CallArg V K) (rest : Args C) (k : Count) → count_keyword (arg_tree v x rest) k ≡ count_keyword rest (count_keyword (arg_tree v x no_args) k)
+  keyword_count (Pos e) rest k = refl
+  keyword_count (PosSplat e) rest k = refl
+  keyword_count (Kwarg name e) rest k = refl
+  keyword_count (KwargSplat e) rest k = refl
 
   keyword_few : (x : CallArg V K) (k : Count) → size (count_keyword (arg_tree v x no_args) k) ≤ suc (size k)
   keyword_few (Pos e) k = omega arith
@@ -206,6 +269,8 @@ module _ {V K C F : Type 0} (v : V → C) (f : Functions C F) where
   keyword_walk = record {
     piece_end = λ n. refl;
     count_end = λ k. refl;
+    adds_next = keyword_adds;
+    count_next = keyword_count;
     few = keyword_few;
   }
 

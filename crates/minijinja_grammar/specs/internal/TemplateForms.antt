@@ -2,7 +2,7 @@
 use Rattle.std.specs.Prelude.{ℕ}
 use Rattle.minijinja_value.specs.Values.{Functions}
 use Rattle.minijinja_tree.specs.SpannedTrees.{Stmt, template, stmts_of}
-use Rattle.minijinja_grammar.specs.internal.Forms.{Form, last}
+use Rattle.minijinja_grammar.specs.internal.Forms.{Form, last, ◌>>=◌}
 use Rattle.minijinja_grammar.specs.internal.ExprForms.{spanned, expr_at}
 use Rattle.minijinja_grammar.specs.internal.StmtForms.{body, stmt_at}
 use Rattle.minijinja_grammar.specs.Statements.{outside, at_end_of_text}
