@@ -1,4 +1,4 @@
-"""Writes what Jinja2 renders for the templates in `stdin`, which is what the program has to print.
+"""Writes what the program has to print: what Jinja2 renders, and the code of templates by the model of `fuzz/`.
 
     python3 expected.py > stdout
 
@@ -6,12 +6,20 @@ Made with Jinja2 3.1.6.
 """
 import hashlib
 import json
+import sys
 from pathlib import Path
 
 import jinja2
 
-parts = (Path(__file__).parent / "stdin").read_text().split("=== ")[1:]
+here = Path(__file__).resolve().parent
+sys.path.insert(0, str(here.parent.parent / "fuzz"))
+import config
+import model
+
+parts = (here / "stdin").read_text().split("=== ")[1:]
 templates = dict(part.split("\n", 1) for part in parts)
+files = {name: (here / "data" / name).read_text() for name in (here / "args").read_text().split()}
+templates.update(files)
 # What Jinja2 refuses or breaks is given to it in other words that mean the same.
 for name, written, instead in [
     # A comma behind the last name of an import.
@@ -22,6 +30,13 @@ for name, written, instead in [
     ("deployment.yaml", " without context", ""),
 ]:
     templates[name] = templates[name].replace(written, instead)
+
+
+def code_of(name):
+    """What `mjc code` has to print of a file."""
+    return model.Text(files[name], config.of_options([]), True).answer("code").out.rstrip("\n")
+
+
 environment = jinja2.Environment(
     loader=jinja2.DictLoader(templates), extensions=["jinja2.ext.do", "jinja2.ext.loopcontrols"]
 )
@@ -29,6 +44,7 @@ environment = jinja2.Environment(
 environment.filters["markdown"] = lambda text: f"<p>{text}</p>"
 environment.filters["quote"] = json.dumps
 environment.filters["sha256"] = lambda text: hashlib.sha256(text.encode()).hexdigest()
+environment.globals["code_of"] = code_of
 environment.globals["remarks_of"] = lambda order, *topics: topics
 environment.tests["startingwith"] = str.startswith
 print(environment.get_template(next(iter(templates))).render())

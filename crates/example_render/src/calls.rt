@@ -40,6 +40,10 @@ impl<'t, 's> Machine<'t, 's> {
                 let (_, named) = self.pop_named(count)?;
                 self.namespace(named)
             }
+            "code_of" => {
+                let name = self.pop_many(count)?;
+                self.code_of(name.first()?)
+            }
             "remarks_of" => {
                 let remarks = self.pop_many(count.checked_sub(1)?)?;
                 self.operands.pop();

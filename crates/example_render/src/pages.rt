@@ -1,8 +1,29 @@
-//! Templates that others include, import and extend, and blocks.
+//! Templates that others include, import and extend, blocks, and the code of templates.
 use crate::machine::{Frame, Machine};
-use crate::values::{items, text};
+use crate::values::{items, string, text};
+use minijinja_compiler::compile::Compiled;
 use minijinja_compiler::instructions::Instructions;
 use minijinja_compiler::value::Value;
+use std::alloc::AllocError;
+
+/// Writes a list of instructions, each with its index.
+fn write_list(out: &mut String, code: &Instructions) -> Result<(), AllocError> {
+    for (index, instruction) in code.iter().enumerate() {
+        writeln!(out, "{index} {instruction}")?;
+    }
+    Ok(())
+}
+
+/// Writes the list of a template, those of its blocks, and a hint for the size of its output.
+fn write_code(out: &mut String, template: &Compiled) -> Result<(), AllocError> {
+    out.push_str("template\n")?;
+    write_list(out, &template.instructions)?;
+    for (name, code) in &template.blocks {
+        writeln!(out, "block {name}")?;
+        write_list(out, code)?;
+    }
+    write!(out, "hint {}", template.buffer_size_hint)
+}
 
 impl<'t, 's> Machine<'t, 's> {
     /// Goes on at the start of a template, whose blocks come behind those of the page so far.
@@ -69,6 +90,14 @@ impl<'t, 's> Machine<'t, 's> {
         let name = self.pop()?;
         self.frame.parent = Some(self.template(name)?);
         self.begin_capture()
+    }
+
+    /// The code of the template of a name, as a text.
+    pub fn code_of(&self, name: &Value) -> Option<Value> {
+        let template = self.templates.get(self.template(name)?)?;
+        let mut code = String::new(self.alloc);
+        write_code(&mut code, template).ok()?;
+        Some(string(code))
     }
 
     fn first_template(&self, names: &[Value]) -> Option<usize> {

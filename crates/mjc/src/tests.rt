@@ -15,12 +15,12 @@ mod names;
 mod print;
 mod replay;
 mod several;
-mod shipped;
 mod statements;
 mod tokens;
 mod walk;
 mod words;
 
+use minijinja_test_rows::rows::{Subject, hold};
 use mjc_commands::run::run;
 use std::alloc::{AllocError, Global};
 use std::io::{self, Read, Write};
@@ -90,46 +90,6 @@ impl Write for Short {
     }
 }
 
-/// What a test says of a text.
-trait Subject {
-    fn words(alloc: Global, text: &str) -> Result<String, Fail>;
-}
-
-/// Asserts each row: a line `TEXT => WORDS`, or a text alone, of which nothing is to be said.
-fn hold<S: Subject>(rt: &impl Abort, alloc: Global, rows: &str) -> Result<(), Fail> {
-    for row in rows.lines() {
-        if !row.is_empty() {
-            let (text, wanted) = parted(row, " => ");
-            let (text, wanted) = (decoded(alloc, text)?, decoded(alloc, wanted)?);
-            let words = S::words(alloc, text.as_str())?;
-            assert!(rt; words.as_str() == wanted.as_str(), "{row}: {words}");
-        }
-    }
-    Ok(())
-}
-
-/// What stands before and after the first of these marks. With no mark nothing stands after it.
-fn parted<'t>(text: &'t str, mark: &str) -> (&'t str, &'t str) {
-    text.split_once(mark).unwrap_or((text, ""))
-}
-
-/// The text that a row writes, in which each symbol of a control character or a space is that
-/// character. `␀` is nothing.
-fn decoded(alloc: Global, written: &str) -> Result<String, AllocError> {
-    written.chars().filter_map(character).collect(alloc)
-}
-
-fn character(symbol: char) -> Option<char> {
-    match symbol {
-        '␀' => None,
-        '␊' => Some('\n'),
-        '␍' => Some('\r'),
-        '␉' => Some('\t'),
-        '␠' => Some(' '),
-        _ => Some(symbol),
-    }
-}
-
 /// What a run on a reader prints that wants no answers: see [`output_on`].
 fn output<R: Read>(alloc: Global, args: &[&str], file: &mut R) -> Result<String, Fail> {
     output_on(alloc, args, file, &mut io::empty())
@@ -190,7 +150,7 @@ a"b\c␊d␍e␉f => 0 EmitRaw("a\"b\\c\nd\re\tf")␊hint 32␊
 {{ self.b(x) }} => 0 CallBlock("b")␊hint 1␊
 {{ y.loop(x) }} => 0 Lookup("y")␊1 Lookup("x")␊2 CallMethod("loop", 2)␊3 Emit␊hint 1␊
 "#;
-    hold::<Code>(&rt, rt.alloc(), rows)
+    hold::<Code>(rt.alloc(), rows)
 }
 
 /// Templates: why and where they are refused.
@@ -213,7 +173,7 @@ fn names_the_refusal_and_its_place(rt: HostRuntime) -> Result<(), Fail> {
 {{ 'a => SyntaxError at 1:5␊
 {% raw %}x => SyntaxError at 1:10␊
 "#;
-    hold::<Refused>(&rt, rt.alloc(), rows)
+    hold::<Refused>(rt.alloc(), rows)
 }
 
 #[test]

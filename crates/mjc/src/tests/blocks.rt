@@ -1,8 +1,9 @@
 //! Blocks, and the list of each.
 //!
 //! Unless a test says otherwise, its rows are the upstream program's.
+use super::Code;
 use super::statements::RefusedSomewhere;
-use super::{Code, hold};
+use minijinja_test_rows::rows::hold;
 use std::test::Fail;
 
 #[test]
@@ -27,7 +28,7 @@ fn each_block_has_a_list(rt: HostRuntime) -> Result<(), Fail> {
 {% extends 'p' %} => 0 LoadConst("p")␊1 LoadBlocks␊hint 1␊
 {% extends a if b else c %} => 0 Lookup("b")␊1 JumpIfFalse(4)␊2 Lookup("a")␊3 Jump(5)␊4 Lookup("c")␊5 LoadBlocks␊hint 1␊
 "#;
-    hold::<Code>(&rt, rt.alloc(), rows)
+    hold::<Code>(rt.alloc(), rows)
 }
 
 /// Each statement in a block.
@@ -49,7 +50,7 @@ fn each_statement_in_a_block(rt: HostRuntime) -> Result<(), Fail> {
 {% block b %}{% extends 'p' %}{% endblock %} => 0 CallBlock("b")␊block b␊0 LoadConst("p")␊1 LoadBlocks␊hint 1␊
 {% block b %}{% include 'p' ignore missing %}{% endblock %} => 0 CallBlock("b")␊block b␊0 LoadConst("p")␊1 Include(true)␊hint 1␊
 "#;
-    hold::<Code>(&rt, rt.alloc(), rows)
+    hold::<Code>(rt.alloc(), rows)
 }
 
 /// Rows that differ from the upstream program's: a macro encloses what its defaults name, and a
@@ -62,7 +63,7 @@ fn what_differs_in_a_block(rt: HostRuntime) -> Result<(), Fail> {
 {% block b %}{% from 'p' import g, h as k %}{% endblock %} => 0 CallBlock("b")␊block b␊0 BeginCapture(Discard)␊1 PushWith␊2 LoadConst("p")␊3 Include(false)␊4 Lookup("g")␊5 Lookup("h")␊6 PopFrame␊7 StoreLocal("k")␊8 StoreLocal("g")␊9 EndCapture␊10 DiscardTop␊hint 1␊
 {% block b %}{% do f(x) %}{% endblock %} => 0 CallBlock("b")␊block b␊0 Lookup("x")␊1 CallFunction("f", 1)␊2 DiscardTop␊hint 1␊
 "#;
-    hold::<Code>(&rt, rt.alloc(), rows)
+    hold::<Code>(rt.alloc(), rows)
 }
 
 /// A block in each statement.
@@ -79,7 +80,7 @@ fn a_block_in_each_statement(rt: HostRuntime) -> Result<(), Fail> {
 {% filter f(x) %}{% block b %}v{% endblock %}{% endfilter %} => 0 BeginCapture(Capture)␊1 CallBlock("b")␊2 EndCapture␊3 Lookup("x")␊4 ApplyFilter("f", 2, 0)␊5 Emit␊block b␊0 EmitRaw("v")␊hint 1␊
 {% autoescape z %}{% block b %}v{% endblock %}{% endautoescape %} => 0 Lookup("z")␊1 PushAutoEscape␊2 CallBlock("b")␊3 PopAutoEscape␊block b␊0 EmitRaw("v")␊hint 1␊
 "#;
-    hold::<Code>(&rt, rt.alloc(), rows)
+    hold::<Code>(rt.alloc(), rows)
 }
 
 #[test]
@@ -111,5 +112,5 @@ fn refuses_what_is_no_block(rt: HostRuntime) -> Result<(), Fail> {
 {% extends %} => ! 1 mjc: SyntaxError
 {% extends 'a', 'b' %} => ! 1 mjc: SyntaxError
 "#;
-    hold::<RefusedSomewhere>(&rt, rt.alloc(), rows)
+    hold::<RefusedSomewhere>(rt.alloc(), rows)
 }

@@ -1,8 +1,9 @@
 //! Call blocks.
 //!
 //! Unless a test says otherwise, its rows are the upstream program's.
+use super::Code;
 use super::statements::RefusedSomewhere;
-use super::{Code, hold};
+use minijinja_test_rows::rows::hold;
 use std::test::Fail;
 
 #[test]
@@ -32,7 +33,7 @@ fn each_call_alone(rt: HostRuntime) -> Result<(), Fail> {
 {% call(a) f(caller=1) %}{% endcall %} => 0 LoadConst("caller")␊1 LoadConst(1)␊2 LoadConst("caller")␊3 Jump(6)␊4 StoreLocal("a")␊5 Return␊6 GetClosure␊7 LoadConst(["a"])␊8 BuildMacro("caller", 4, 0)␊9 BuildKwargs(2)␊10 CallFunction("f", 1)␊11 Emit␊hint 1␊
 {% call f() %}{{ x|f }}{% endcall %}{{ x|f|g }} => 0 LoadConst("caller")␊1 Jump(6)␊2 Lookup("x")␊3 ApplyFilter("f", 1, 0)␊4 Emit␊5 Return␊6 Enclose("x")␊7 GetClosure␊8 LoadConst([])␊9 BuildMacro("caller", 2, 0)␊10 BuildKwargs(1)␊11 CallFunction("f", 1)␊12 Emit␊13 Lookup("x")␊14 ApplyFilter("f", 1, 0)␊15 ApplyFilter("g", 1, 1)␊16 Emit␊hint 1␊
 "#;
-    hold::<Code>(&rt, rt.alloc(), rows)
+    hold::<Code>(rt.alloc(), rows)
 }
 
 /// Each statement in a call block.
@@ -53,7 +54,7 @@ fn each_statement_in_a_call_block(rt: HostRuntime) -> Result<(), Fail> {
 {% call(a, b=c) f(x) %}{% extends 'p' %}{% endcall %} => 0 Lookup("x")␊1 LoadConst("caller")␊2 Jump(13)␊3 DupTop␊4 IsUndefined␊5 JumpIfFalse(8)␊6 DiscardTop␊7 Lookup("c")␊8 StoreLocal("b")␊9 StoreLocal("a")␊10 LoadConst("p")␊11 LoadBlocks␊12 Return␊13 Enclose("c")␊14 GetClosure␊15 LoadConst(["a", "b"])␊16 BuildMacro("caller", 3, 0)␊17 BuildKwargs(1)␊18 CallFunction("f", 2)␊19 Emit␊hint 1␊
 {% call(a, b=c) f(x) %}{% include 'p' ignore missing %}{% endcall %} => 0 Lookup("x")␊1 LoadConst("caller")␊2 Jump(13)␊3 DupTop␊4 IsUndefined␊5 JumpIfFalse(8)␊6 DiscardTop␊7 Lookup("c")␊8 StoreLocal("b")␊9 StoreLocal("a")␊10 LoadConst("p")␊11 Include(true)␊12 Return␊13 Enclose("c")␊14 GetClosure␊15 LoadConst(["a", "b"])␊16 BuildMacro("caller", 3, 0)␊17 BuildKwargs(1)␊18 CallFunction("f", 2)␊19 Emit␊hint 1␊
 "#;
-    hold::<Code>(&rt, rt.alloc(), rows)
+    hold::<Code>(rt.alloc(), rows)
 }
 
 /// Rows that differ from the upstream program's: a macro encloses what its defaults name, and a
@@ -66,7 +67,7 @@ fn what_differs_in_a_call_block(rt: HostRuntime) -> Result<(), Fail> {
 {% call(a, b=c) f(x) %}{% from 'p' import g, h as k %}{% endcall %} => 0 Lookup("x")␊1 LoadConst("caller")␊2 Jump(22)␊3 DupTop␊4 IsUndefined␊5 JumpIfFalse(8)␊6 DiscardTop␊7 Lookup("c")␊8 StoreLocal("b")␊9 StoreLocal("a")␊10 BeginCapture(Discard)␊11 PushWith␊12 LoadConst("p")␊13 Include(false)␊14 Lookup("g")␊15 Lookup("h")␊16 PopFrame␊17 StoreLocal("k")␊18 StoreLocal("g")␊19 EndCapture␊20 DiscardTop␊21 Return␊22 Enclose("c")␊23 GetClosure␊24 LoadConst(["a", "b"])␊25 BuildMacro("caller", 3, 0)␊26 BuildKwargs(1)␊27 CallFunction("f", 2)␊28 Emit␊hint 1␊
 {% call(a, b=c) f(x) %}{% do f(x) %}{% endcall %} => 0 Lookup("x")␊1 LoadConst("caller")␊2 Jump(14)␊3 DupTop␊4 IsUndefined␊5 JumpIfFalse(8)␊6 DiscardTop␊7 Lookup("c")␊8 StoreLocal("b")␊9 StoreLocal("a")␊10 Lookup("x")␊11 CallFunction("f", 1)␊12 DiscardTop␊13 Return␊14 Enclose("c")␊15 Enclose("f")␊16 Enclose("x")␊17 GetClosure␊18 LoadConst(["a", "b"])␊19 BuildMacro("caller", 3, 0)␊20 BuildKwargs(1)␊21 CallFunction("f", 2)␊22 Emit␊hint 1␊
 "#;
-    hold::<Code>(&rt, rt.alloc(), rows)
+    hold::<Code>(rt.alloc(), rows)
 }
 
 /// A call block in each statement.
@@ -83,7 +84,7 @@ fn a_call_block_in_each_statement(rt: HostRuntime) -> Result<(), Fail> {
 {% filter f(x) %}{% call(a, b=c) f(x) %}v{% endcall %}{% endfilter %} => 0 BeginCapture(Capture)␊1 Lookup("x")␊2 LoadConst("caller")␊3 Jump(13)␊4 DupTop␊5 IsUndefined␊6 JumpIfFalse(9)␊7 DiscardTop␊8 Lookup("c")␊9 StoreLocal("b")␊10 StoreLocal("a")␊11 EmitRaw("v")␊12 Return␊13 Enclose("c")␊14 GetClosure␊15 LoadConst(["a", "b"])␊16 BuildMacro("caller", 4, 0)␊17 BuildKwargs(1)␊18 CallFunction("f", 2)␊19 Emit␊20 EndCapture␊21 Lookup("x")␊22 ApplyFilter("f", 2, 0)␊23 Emit␊hint 2␊
 {% autoescape z %}{% call(a, b=c) f(x) %}v{% endcall %}{% endautoescape %} => 0 Lookup("z")␊1 PushAutoEscape␊2 Lookup("x")␊3 LoadConst("caller")␊4 Jump(14)␊5 DupTop␊6 IsUndefined␊7 JumpIfFalse(10)␊8 DiscardTop␊9 Lookup("c")␊10 StoreLocal("b")␊11 StoreLocal("a")␊12 EmitRaw("v")␊13 Return␊14 Enclose("c")␊15 GetClosure␊16 LoadConst(["a", "b"])␊17 BuildMacro("caller", 5, 0)␊18 BuildKwargs(1)␊19 CallFunction("f", 2)␊20 Emit␊21 PopAutoEscape␊hint 2␊
 "#;
-    hold::<Code>(&rt, rt.alloc(), rows)
+    hold::<Code>(rt.alloc(), rows)
 }
 
 #[test]
@@ -107,5 +108,5 @@ fn refuses_what_is_no_call_block(rt: HostRuntime) -> Result<(), Fail> {
 {% call f(a=1, b) %}{% endcall %} => ! 1 mjc: SyntaxError
 {% call self.b() %}{% set loop = 1 %}{% endcall %} => ! 1 mjc: SyntaxError
 "#;
-    hold::<RefusedSomewhere>(&rt, rt.alloc(), rows)
+    hold::<RefusedSomewhere>(rt.alloc(), rows)
 }

@@ -1,7 +1,8 @@
 //! Expressions, and the upstream program's code for them.
 //!
 //! Constants are folded as this project's values are.
-use super::{Subject, after_head, hold, output};
+use super::{after_head, output};
+use minijinja_test_rows::rows::{Subject, hold};
 use std::alloc::Global;
 use std::test::Fail;
 
@@ -38,7 +39,7 @@ none => 0 LoadConst(none)␊
 [[1]] => 0 LoadConst([1])␊1 BuildList(1)␊
 {'a': x, 'b': 2} => 0 LoadConst("a")␊1 Lookup("x")␊2 LoadConst("b")␊3 LoadConst(2)␊4 BuildMap(2)␊
 "#;
-    hold::<Code>(&rt, rt.alloc(), rows)
+    hold::<Code>(rt.alloc(), rows)
 }
 
 #[test]
@@ -87,7 +88,7 @@ a if b if c else d => 0 Lookup("c")␊1 JumpIfFalse(8)␊2 Lookup("b")␊3 JumpI
 a if b and c else d => 0 Lookup("b")␊1 JumpIfFalseOrPop(3)␊2 Lookup("c")␊3 JumpIfFalse(6)␊4 Lookup("a")␊5 Jump(7)␊6 Lookup("d")␊
 a + 1 * 2 => 0 Lookup("a")␊1 LoadConst(2)␊2 Add␊
 "#;
-    hold::<Code>(&rt, rt.alloc(), rows)
+    hold::<Code>(rt.alloc(), rows)
 }
 
 #[test]
@@ -122,7 +123,7 @@ f(1, *a, 2, *b, 3, k=4, **c, l=m) => 0 LoadConst(1)␊1 BuildList(1)␊2 Lookup(
 f(a=x, b=1) => 0 LoadConst("a")␊1 Lookup("x")␊2 LoadConst("b")␊3 LoadConst(1)␊4 BuildKwargs(2)␊5 CallFunction("f", 1)␊
 o.m(*x, y) => 0 Lookup("o")␊1 BuildList(1)␊2 Lookup("x")␊3 Lookup("y")␊4 BuildList(1)␊5 UnpackLists(3)␊6 CallMethod("m", none)␊
 "#;
-    hold::<Code>(&rt, rt.alloc(), rows)
+    hold::<Code>(rt.alloc(), rows)
 }
 
 #[test]
@@ -144,7 +145,7 @@ not a is defined => 0 Lookup("a")␊1 PerformTest("defined", 1, 0)␊2 Not␊
 a is in [1] => 0 Lookup("a")␊1 LoadConst([1])␊2 PerformTest("in", 2, 0)␊
 o|f(*x, y) => 0 Lookup("o")␊1 BuildList(1)␊2 Lookup("x")␊3 Lookup("y")␊4 BuildList(1)␊5 UnpackLists(3)␊6 ApplyFilter("f", none, 0)␊
 "#;
-    hold::<Code>(&rt, rt.alloc(), rows)
+    hold::<Code>(rt.alloc(), rows)
 }
 
 #[test]
@@ -173,7 +174,7 @@ x and 1 => 0 Lookup("x")␊1 JumpIfFalseOrPop(3)␊2 LoadConst(1)␊
 'a' in 'ab' not in 1 => 0 LoadConst("a")␊1 LoadConst("ab")␊2 CompareAndPreserve(In)␊3 JumpIfFalseOrPop(8)␊4 LoadConst(1)␊5 In␊6 Not␊7 Jump(10)␊8 Swap␊9 DiscardTop␊
 [1, 1 + 1] => 0 LoadConst(1)␊1 LoadConst(2)␊2 BuildList(2)␊
 "#;
-    hold::<Code>(&rt, rt.alloc(), rows)
+    hold::<Code>(rt.alloc(), rows)
 }
 
 /// Expressions: why and where they are refused.
@@ -232,7 +233,7 @@ a..b => SyntaxError at 1:2␊
 a is 3 => SyntaxError at 1:5␊
 a|3 => SyntaxError at 1:2␊
 "#;
-    hold::<Refused>(&rt, rt.alloc(), rows)
+    hold::<Refused>(rt.alloc(), rows)
 }
 
 /// Expressions on standard input: what `expr -` prints, and the status.
@@ -256,5 +257,5 @@ a.b␊ => expression␊0 Lookup("a")␊1 GetAttr("b")␊
 '\q'␊ => ! 1 mjc: BadEscape at 1:0␊
 ␀ => ! 1 mjc: SyntaxError at 0:0␊
 "#;
-    hold::<Input>(&rt, rt.alloc(), rows)
+    hold::<Input>(rt.alloc(), rows)
 }

@@ -1,8 +1,9 @@
 //! Statements that join templates: `include`, `import` and `from`.
 //!
 //! Unless a test says otherwise, its rows are the upstream program's.
+use super::Code;
 use super::statements::RefusedSomewhere;
-use super::{Code, hold};
+use minijinja_test_rows::rows::hold;
 use std::test::Fail;
 
 #[test]
@@ -17,7 +18,7 @@ fn includes(rt: HostRuntime) -> Result<(), Fail> {
 {% include a if b else c %} => 0 Lookup("b")␊1 JumpIfFalse(4)␊2 Lookup("a")␊3 Jump(5)␊4 Lookup("c")␊5 Include(false)␊hint 1␊
 {% include a if b %} => 0 Lookup("b")␊1 JumpIfFalse(4)␊2 Lookup("a")␊3 Jump(5)␊4 LoadConst(silent)␊5 Include(false)␊hint 1␊
 "#;
-    hold::<Code>(&rt, rt.alloc(), rows)
+    hold::<Code>(rt.alloc(), rows)
 }
 
 /// The upstream program's rows, except for the `DiscardTop` that drops what is captured.
@@ -41,7 +42,7 @@ fn imports(rt: HostRuntime) -> Result<(), Fail> {
 {% from 'a' import as as in %} => 0 BeginCapture(Discard)␊1 PushWith␊2 LoadConst("a")␊3 Include(false)␊4 Lookup("as")␊5 PopFrame␊6 StoreLocal("in")␊7 EndCapture␊8 DiscardTop␊hint 1␊
 {% from 'a' import x, x as x %} => 0 BeginCapture(Discard)␊1 PushWith␊2 LoadConst("a")␊3 Include(false)␊4 Lookup("x")␊5 Lookup("x")␊6 PopFrame␊7 StoreLocal("x")␊8 StoreLocal("x")␊9 EndCapture␊10 DiscardTop␊hint 1␊
 "#;
-    hold::<Code>(&rt, rt.alloc(), rows)
+    hold::<Code>(rt.alloc(), rows)
 }
 
 /// `extends` and `include` in each statement.
@@ -73,7 +74,7 @@ fn templates_in_each_statement(rt: HostRuntime) -> Result<(), Fail> {
 {% macro m(a, b=c) %}{% include 'p' ignore missing %}{% endmacro %} => 0 Jump(11)␊1 DupTop␊2 IsUndefined␊3 JumpIfFalse(6)␊4 DiscardTop␊5 Lookup("c")␊6 StoreLocal("b")␊7 StoreLocal("a")␊8 LoadConst("p")␊9 Include(true)␊10 Return␊11 Enclose("c")␊12 GetClosure␊13 LoadConst(["a", "b"])␊14 BuildMacro("m", 1, 0)␊15 StoreLocal("m")␊hint 1␊
 {% call(a, b=c) f(x) %}{% include 'p' ignore missing %}{% endcall %} => 0 Lookup("x")␊1 LoadConst("caller")␊2 Jump(13)␊3 DupTop␊4 IsUndefined␊5 JumpIfFalse(8)␊6 DiscardTop␊7 Lookup("c")␊8 StoreLocal("b")␊9 StoreLocal("a")␊10 LoadConst("p")␊11 Include(true)␊12 Return␊13 Enclose("c")␊14 GetClosure␊15 LoadConst(["a", "b"])␊16 BuildMacro("caller", 3, 0)␊17 BuildKwargs(1)␊18 CallFunction("f", 2)␊19 Emit␊hint 1␊
 "#;
-    hold::<Code>(&rt, rt.alloc(), rows)
+    hold::<Code>(rt.alloc(), rows)
 }
 
 /// `import` and `from` in each statement: the upstream program's, except for the `DiscardTop` that
@@ -106,7 +107,7 @@ fn imports_in_each_statement(rt: HostRuntime) -> Result<(), Fail> {
 {% macro m(a, b=c) %}{% from 'p' import g, h as k %}{% endmacro %} => 0 Jump(20)␊1 DupTop␊2 IsUndefined␊3 JumpIfFalse(6)␊4 DiscardTop␊5 Lookup("c")␊6 StoreLocal("b")␊7 StoreLocal("a")␊8 BeginCapture(Discard)␊9 PushWith␊10 LoadConst("p")␊11 Include(false)␊12 Lookup("g")␊13 Lookup("h")␊14 PopFrame␊15 StoreLocal("k")␊16 StoreLocal("g")␊17 EndCapture␊18 DiscardTop␊19 Return␊20 Enclose("c")␊21 GetClosure␊22 LoadConst(["a", "b"])␊23 BuildMacro("m", 1, 0)␊24 StoreLocal("m")␊hint 1␊
 {% call(a, b=c) f(x) %}{% from 'p' import g, h as k %}{% endcall %} => 0 Lookup("x")␊1 LoadConst("caller")␊2 Jump(22)␊3 DupTop␊4 IsUndefined␊5 JumpIfFalse(8)␊6 DiscardTop␊7 Lookup("c")␊8 StoreLocal("b")␊9 StoreLocal("a")␊10 BeginCapture(Discard)␊11 PushWith␊12 LoadConst("p")␊13 Include(false)␊14 Lookup("g")␊15 Lookup("h")␊16 PopFrame␊17 StoreLocal("k")␊18 StoreLocal("g")␊19 EndCapture␊20 DiscardTop␊21 Return␊22 Enclose("c")␊23 GetClosure␊24 LoadConst(["a", "b"])␊25 BuildMacro("caller", 3, 0)␊26 BuildKwargs(1)␊27 CallFunction("f", 2)␊28 Emit␊hint 1␊
 "#;
-    hold::<Code>(&rt, rt.alloc(), rows)
+    hold::<Code>(rt.alloc(), rows)
 }
 
 #[test]
@@ -143,5 +144,5 @@ fn refuses_what_joins_no_templates(rt: HostRuntime) -> Result<(), Fail> {
 {% from 'a' import x with context with context %} => ! 1 mjc: SyntaxError
 {% from 'a' import (x, y) %} => ! 1 mjc: SyntaxError
 "#;
-    hold::<RefusedSomewhere>(&rt, rt.alloc(), rows)
+    hold::<RefusedSomewhere>(rt.alloc(), rows)
 }

@@ -1,5 +1,6 @@
 //! What a linter finds in templates.
-use super::{Subject, hold, output};
+use super::output;
+use minijinja_test_rows::rows::{Subject, hold};
 use std::alloc::Global;
 use std::test::Fail;
 
@@ -28,5 +29,5 @@ fn names_from_outside_come_first_and_then_unused_macros(rt: HostRuntime) -> Resu
 {% set f = 1 %}{% macro f() %}{% endmacro %}{{ f }} => ␀
 {% call f() %}{{ caller }}{% endcall %} => free f at 1:8␊! 3 ␀
 "#;
-    hold::<Lints>(&rt, rt.alloc(), rows)
+    hold::<Lints>(rt.alloc(), rows)
 }

@@ -1,8 +1,9 @@
 //! Macros.
 //!
 //! Unless a test says otherwise, its rows are the upstream program's.
+use super::Code;
 use super::statements::RefusedSomewhere;
-use super::{Code, hold};
+use minijinja_test_rows::rows::hold;
 use std::test::Fail;
 
 #[test]
@@ -30,7 +31,7 @@ fn each_macro_alone(rt: HostRuntime) -> Result<(), Fail> {
 {% for x in y %}{% macro f() %}{{ x }}{% endmacro %}{% break %}{% endfor %} => 0 Lookup("y")␊1 PushLoop(1)␊2 Iterate(15)␊3 StoreLocal("x")␊4 Jump(8)␊5 Lookup("x")␊6 Emit␊7 Return␊8 Enclose("x")␊9 GetClosure␊10 LoadConst([])␊11 BuildMacro("f", 5, 0)␊12 StoreLocal("f")␊13 Jump(15)␊14 Jump(2)␊15 PopLoopFrame␊hint 1␊
 {% macro f() %}{% call(a, b=c) g(d) %}{{ a }}{{ b }}{{ e }}{{ caller }}{% endcall %}{{ caller }}{% endmacro %} => 0 Jump(31)␊1 Lookup("d")␊2 LoadConst("caller")␊3 Jump(20)␊4 DupTop␊5 IsUndefined␊6 JumpIfFalse(9)␊7 DiscardTop␊8 Lookup("c")␊9 StoreLocal("b")␊10 StoreLocal("a")␊11 Lookup("a")␊12 Emit␊13 Lookup("b")␊14 Emit␊15 Lookup("e")␊16 Emit␊17 Lookup("caller")␊18 Emit␊19 Return␊20 Enclose("c")␊21 Enclose("e")␊22 GetClosure␊23 LoadConst(["a", "b"])␊24 BuildMacro("caller", 4, 2)␊25 BuildKwargs(1)␊26 CallFunction("g", 2)␊27 Emit␊28 Lookup("caller")␊29 Emit␊30 Return␊31 Enclose("c")␊32 Enclose("d")␊33 Enclose("e")␊34 Enclose("g")␊35 GetClosure␊36 LoadConst([])␊37 BuildMacro("f", 1, 2)␊38 StoreLocal("f")␊hint 1␊
 "#;
-    hold::<Code>(&rt, rt.alloc(), rows)
+    hold::<Code>(rt.alloc(), rows)
 }
 
 /// Each statement in a macro.
@@ -51,7 +52,7 @@ fn each_statement_in_a_macro(rt: HostRuntime) -> Result<(), Fail> {
 {% macro m(a, b=c) %}{% extends 'p' %}{% endmacro %} => 0 Jump(11)␊1 DupTop␊2 IsUndefined␊3 JumpIfFalse(6)␊4 DiscardTop␊5 Lookup("c")␊6 StoreLocal("b")␊7 StoreLocal("a")␊8 LoadConst("p")␊9 LoadBlocks␊10 Return␊11 Enclose("c")␊12 GetClosure␊13 LoadConst(["a", "b"])␊14 BuildMacro("m", 1, 0)␊15 StoreLocal("m")␊hint 1␊
 {% macro m(a, b=c) %}{% include 'p' ignore missing %}{% endmacro %} => 0 Jump(11)␊1 DupTop␊2 IsUndefined␊3 JumpIfFalse(6)␊4 DiscardTop␊5 Lookup("c")␊6 StoreLocal("b")␊7 StoreLocal("a")␊8 LoadConst("p")␊9 Include(true)␊10 Return␊11 Enclose("c")␊12 GetClosure␊13 LoadConst(["a", "b"])␊14 BuildMacro("m", 1, 0)␊15 StoreLocal("m")␊hint 1␊
 "#;
-    hold::<Code>(&rt, rt.alloc(), rows)
+    hold::<Code>(rt.alloc(), rows)
 }
 
 /// Rows that differ from the upstream program's: a macro encloses what its defaults name, and a
@@ -64,7 +65,7 @@ fn what_differs_in_a_macro(rt: HostRuntime) -> Result<(), Fail> {
 {% macro m(a, b=c) %}{% from 'p' import g, h as k %}{% endmacro %} => 0 Jump(20)␊1 DupTop␊2 IsUndefined␊3 JumpIfFalse(6)␊4 DiscardTop␊5 Lookup("c")␊6 StoreLocal("b")␊7 StoreLocal("a")␊8 BeginCapture(Discard)␊9 PushWith␊10 LoadConst("p")␊11 Include(false)␊12 Lookup("g")␊13 Lookup("h")␊14 PopFrame␊15 StoreLocal("k")␊16 StoreLocal("g")␊17 EndCapture␊18 DiscardTop␊19 Return␊20 Enclose("c")␊21 GetClosure␊22 LoadConst(["a", "b"])␊23 BuildMacro("m", 1, 0)␊24 StoreLocal("m")␊hint 1␊
 {% macro m(a, b=c) %}{% do f(x) %}{% endmacro %} => 0 Jump(12)␊1 DupTop␊2 IsUndefined␊3 JumpIfFalse(6)␊4 DiscardTop␊5 Lookup("c")␊6 StoreLocal("b")␊7 StoreLocal("a")␊8 Lookup("x")␊9 CallFunction("f", 1)␊10 DiscardTop␊11 Return␊12 Enclose("c")␊13 Enclose("f")␊14 Enclose("x")␊15 GetClosure␊16 LoadConst(["a", "b"])␊17 BuildMacro("m", 1, 0)␊18 StoreLocal("m")␊hint 1␊
 "#;
-    hold::<Code>(&rt, rt.alloc(), rows)
+    hold::<Code>(rt.alloc(), rows)
 }
 
 /// A macro in each statement.
@@ -81,7 +82,7 @@ fn a_macro_in_each_statement(rt: HostRuntime) -> Result<(), Fail> {
 {% filter f(x) %}{% macro m(a, b=c) %}v{% endmacro %}{% endfilter %} => 0 BeginCapture(Capture)␊1 Jump(11)␊2 DupTop␊3 IsUndefined␊4 JumpIfFalse(7)␊5 DiscardTop␊6 Lookup("c")␊7 StoreLocal("b")␊8 StoreLocal("a")␊9 EmitRaw("v")␊10 Return␊11 Enclose("c")␊12 GetClosure␊13 LoadConst(["a", "b"])␊14 BuildMacro("m", 2, 0)␊15 StoreLocal("m")␊16 EndCapture␊17 Lookup("x")␊18 ApplyFilter("f", 2, 0)␊19 Emit␊hint 2␊
 {% autoescape z %}{% macro m(a, b=c) %}v{% endmacro %}{% endautoescape %} => 0 Lookup("z")␊1 PushAutoEscape␊2 Jump(12)␊3 DupTop␊4 IsUndefined␊5 JumpIfFalse(8)␊6 DiscardTop␊7 Lookup("c")␊8 StoreLocal("b")␊9 StoreLocal("a")␊10 EmitRaw("v")␊11 Return␊12 Enclose("c")␊13 GetClosure␊14 LoadConst(["a", "b"])␊15 BuildMacro("m", 3, 0)␊16 StoreLocal("m")␊17 PopAutoEscape␊hint 2␊
 "#;
-    hold::<Code>(&rt, rt.alloc(), rows)
+    hold::<Code>(rt.alloc(), rows)
 }
 
 /// A macro encloses all that it uses before it has it: these are the upstream program's except for
@@ -98,7 +99,7 @@ fn what_a_macro_encloses(rt: HostRuntime) -> Result<(), Fail> {
 {% macro f() %}{% for a in loop %}{% endfor %}{% endmacro %} => 0 Jump(8)␊1 Lookup("loop")␊2 PushLoop(1)␊3 Iterate(6)␊4 StoreLocal("a")␊5 Jump(3)␊6 PopLoopFrame␊7 Return␊8 Enclose("loop")␊9 GetClosure␊10 LoadConst([])␊11 BuildMacro("f", 1, 0)␊12 StoreLocal("f")␊hint 1␊
 {% macro f() %}{% set a.b = c %}{% for x in y if x %}{% else %}{{ x }}{% endfor %}{% endmacro %} => 0 Jump(30)␊1 Lookup("c")␊2 Lookup("a")␊3 SetAttr("b")␊4 LoadConst(0)␊5 Lookup("y")␊6 PushLoop(0)␊7 Iterate(18)␊8 DupTop␊9 StoreLocal("x")␊10 Lookup("x")␊11 JumpIfFalse(16)␊12 Swap␊13 LoadConst(1)␊14 Add␊15 Jump(17)␊16 DiscardTop␊17 Jump(7)␊18 PopLoopFrame␊19 BuildList(none)␊20 PushLoop(1)␊21 Iterate(24)␊22 StoreLocal("x")␊23 Jump(21)␊24 PushDidNotIterate␊25 PopLoopFrame␊26 JumpIfFalse(29)␊27 Lookup("x")␊28 Emit␊29 Return␊30 Enclose("a")␊31 Enclose("c")␊32 Enclose("x")␊33 Enclose("y")␊34 GetClosure␊35 LoadConst([])␊36 BuildMacro("f", 1, 0)␊37 StoreLocal("f")␊hint 1␊
 "#;
-    hold::<Code>(&rt, rt.alloc(), rows)
+    hold::<Code>(rt.alloc(), rows)
 }
 
 #[test]
@@ -124,5 +125,5 @@ fn refuses_what_is_no_macro(rt: HostRuntime) -> Result<(), Fail> {
 {% for x in y %}{% macro f() %}{% break %}{% endmacro %}{% endfor %} => ! 1 mjc: SyntaxError
 {% for x in y %}{% macro f() %}{% continue %}{% endmacro %}{% endfor %} => ! 1 mjc: SyntaxError
 "#;
-    hold::<RefusedSomewhere>(&rt, rt.alloc(), rows)
+    hold::<RefusedSomewhere>(rt.alloc(), rows)
 }

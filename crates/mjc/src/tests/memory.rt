@@ -1,89 +1,17 @@
-//! Memory that is refused: a run then ends so, or as with ample memory, and in no other way.
-//!
-//! A test takes all memory there is from the C library's `malloc`, and gives back a little more
-//! each time. So a request is refused early in a run at first, then later and later, until none
-//! is. These tests fail where `malloc` never runs out, as under an address sanitizer.
-use super::{decoded, parted};
+//! Memory that is refused: a run then ends so, or as with ample memory, and in no other way. Each
+//! time a little more is left, until no request of a run is refused.
+use minijinja_test_rows::memory::{Ballast, GRAIN};
+use minijinja_test_rows::rows::{decoded, parted};
 use mjc_commands::run::run;
 use std::alloc::{AllocError, Global};
 use std::process::Abort;
 use std::test::Fail;
 
-/// The bytes of a stock: more than any run needs.
-const STOCK: usize = 16_384;
-
-/// How many stocks there are: one for each attempt.
-const STOCKS: usize = 1_000;
-
-/// The bytes of the largest block that is looked for.
-const MOST: usize = 1 << 40;
-
-/// The bytes by which an attempt has more than the one before: those by which `malloc` counts.
-const GRAIN: usize = 16;
+/// How many times a run is tried, each time with a little more memory.
+const ATTEMPTS: usize = 1_000;
 
 /// What a refused run says.
 const REFUSED: &[u8] = b"mjc: OutOfMemory at 0:0\n";
-
-/// Memory that is held, in blocks that nothing is written to.
-#[derive(Drop)]
-struct Ballast {
-    alloc: Global,
-    blocks: Vec<Vec<u8>>,
-    stocks: Vec<Vec<u8>>,
-}
-
-impl Ballast {
-    /// Stocks, and a small block between any two, so that they stay apart.
-    fn new(alloc: Global) -> Result<Ballast, AllocError> {
-        let mut ballast = Ballast {
-            alloc,
-            blocks: Vec::with_capacity(alloc, 200_000)?,
-            stocks: Vec::with_capacity(alloc, STOCKS)?,
-        };
-        for _ in 0..STOCKS {
-            let stock = Vec::with_capacity(alloc, STOCK)?;
-            ballast.stocks.push(stock)?;
-            ballast.hold(1);
-        }
-        Ok(ballast)
-    }
-
-    /// Takes a block of this size, if there is one.
-    fn hold(&mut self, size: usize) -> bool {
-        match Vec::with_capacity(self.alloc, size) {
-            Ok(block) => self.blocks.push(block).is_ok(),
-            Err(_) => false,
-        }
-    }
-
-    /// Takes all blocks that are free, none of them larger than this.
-    fn fill(&mut self, most: usize) {
-        let mut size = most;
-        for _ in 0..100_000 {
-            if size == 0 {
-                return;
-            }
-            if !self.hold(size) {
-                size = smaller(size);
-            }
-        }
-    }
-
-    /// Gives a stock back, and takes all but so much of it.
-    fn leave(&mut self, room: usize) -> bool {
-        drop(self.stocks.pop());
-        self.hold(STOCK.saturating_sub(room))
-    }
-}
-
-/// The next size to look for. Small blocks that were freed are kept by their size.
-fn smaller(size: usize) -> usize {
-    if size > 1_056 {
-        size / 2
-    } else {
-        size.saturating_sub(GRAIN)
-    }
-}
 
 /// A run, and what it prints.
 #[derive(Clone, Copy)]
@@ -143,14 +71,14 @@ impl Case<'_> {
         };
         let mut ballast = Ballast::new(alloc)?;
         assert!(rt; self.succeeds(rt, alloc, &mut output), "{}", self.source);
-        ballast.fill(MOST);
-        for step in 0..STOCKS {
+        ballast.take_all();
+        for step in 0..ATTEMPTS {
             assert!(rt; ballast.leave(step * GRAIN));
             if self.succeeds(rt, alloc, &mut output) {
                 assert!(rt; step > 0);
                 return Ok(());
             }
-            ballast.fill(STOCK);
+            ballast.take_rest();
         }
         panic!(rt; "no room is enough");
     }

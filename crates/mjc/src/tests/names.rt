@@ -1,5 +1,6 @@
 //! The names that templates need from outside.
-use super::{Subject, hold, output};
+use super::output;
+use minijinja_test_rows::rows::{Subject, hold};
 use std::alloc::Global;
 use std::test::Fail;
 
@@ -31,5 +32,5 @@ x => ␀
 {% set d.e.f = 1 %} => plain d␊nested d.e␊
 {% set loop = a %} => ! 1 mjc: SyntaxError at 1:7␊
 "#;
-    hold::<Names>(&rt, rt.alloc(), rows)
+    hold::<Names>(rt.alloc(), rows)
 }

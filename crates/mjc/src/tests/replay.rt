@@ -1,8 +1,9 @@
 //! Runs of code on answers: what `mjc replay` prints, and units that it does not enter.
-use super::{Subject, Trickle, hold, output_on, parted};
+use super::{Trickle, output_on};
 use minijinja_compiler::compile::compile;
 use minijinja_compiler::syntax::SyntaxConfig;
 use minijinja_compiler::value::{TemplateValue, Value};
+use minijinja_test_rows::rows::{Subject, hold, parted};
 use mjc_commands::answers::read_answers;
 use mjc_commands::replay::{End, Entry, Run, replay_within};
 use std::alloc::Global;
@@ -43,7 +44,7 @@ fn prints_the_record_and_the_ending(rt: HostRuntime) -> Result<(), Fail> {
 {{ x[1:] }} | [none]␊[true]␊[] => Lookup("x") <- [] -> [none]␊Slice <- [none, 1, none, none] -> [true]␊Emit <- [true] -> []␊finished, 6 steps␊
 {{ f(*a, **b) }} | ["a"]␊["b"]␊["m"]␊[1]␊["r"]␊[] => Lookup("a") <- [] -> ["a"]␊Lookup("b") <- [] -> ["b"]␊MergeKwargs(1) <- ["b"] -> ["m"]␊UnpackLists(2) <- ["a", ["m"]] -> [1]␊CallFunction("f", none) <- [1] -> ["r"]␊Emit <- ["r"] -> []␊finished, 7 steps␊
 "#;
-    hold::<Replay>(&rt, rt.alloc(), rows)
+    hold::<Replay>(rt.alloc(), rows)
 }
 
 /// The lines before the bad one are not run.
@@ -60,7 +61,7 @@ fn refuses_answers_that_are_none(rt: HostRuntime) -> Result<(), Fail> {
 {{ a }} | [b] => ! 2 mjc: bad answer on line 1␊
 {{ a | [ => ! 1 mjc: SyntaxError at 1:3␊
 "#;
-    hold::<Replay>(&rt, rt.alloc(), rows)
+    hold::<Replay>(rt.alloc(), rows)
 }
 
 #[test]

@@ -1,5 +1,6 @@
 //! Names and findings of several files.
-use super::{Subject, Trickle, hold, parted};
+use super::Trickle;
+use minijinja_test_rows::rows::{Subject, hold, parted};
 use mjc_commands::each::{Files, run_each};
 use std::alloc::Global;
 use std::io;
@@ -67,7 +68,7 @@ lint, c, a, b | {{ x }} | {{ y => a: free x at 1:3␊! 2 c: mjc: cannot read c�
 names, a, c, -, b | {{ x | y => ! 2 a: mjc: SyntaxError at 1:3␊c: mjc: cannot read c␊-: mjc: cannot read -␊
 lint, --block, {{, %}, a, b | x | y => ! 1 mjc: InvalidDelimiter at 0:0␊
 "#;
-    hold::<Several>(&rt, rt.alloc(), rows)
+    hold::<Several>(rt.alloc(), rows)
 }
 
 /// What asks for one file, and what is bad usage.
@@ -86,5 +87,5 @@ lint, a, --trim-blocks, b | x | y => another
 lint, --unknown, a, b | x | y => another
 names, -, a, - | x | y => another
 "#;
-    hold::<Several>(&rt, rt.alloc(), rows)
+    hold::<Several>(rt.alloc(), rows)
 }

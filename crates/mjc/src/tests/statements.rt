@@ -2,7 +2,8 @@
 //!
 //! Unless a test says otherwise, its rows are the upstream program's.
 use super::words::Commands;
-use super::{CODE, Code, Subject, hold, output, parted};
+use super::{CODE, Code, output};
+use minijinja_test_rows::rows::{Subject, hold, parted};
 use std::alloc::Global;
 use std::test::Fail;
 
@@ -23,7 +24,7 @@ fn each_statement_alone(rt: HostRuntime) -> Result<(), Fail> {
 {% filter f(x)|g %}x{% endfilter %} => 0 BeginCapture(Capture)␊1 EmitRaw("x")␊2 EndCapture␊3 Lookup("x")␊4 ApplyFilter("f", 2, 0)␊5 ApplyFilter("g", 1, 1)␊6 Emit␊hint 2␊
 {% autoescape z %}x{% endautoescape %} => 0 Lookup("z")␊1 PushAutoEscape␊2 EmitRaw("x")␊3 PopAutoEscape␊hint 2␊
 "#;
-    hold::<Code>(&rt, rt.alloc(), rows)
+    hold::<Code>(rt.alloc(), rows)
 }
 
 /// Each statement in each body.
@@ -175,7 +176,7 @@ fn each_statement_in_each(rt: HostRuntime) -> Result<(), Fail> {
 {% autoescape z %}{% filter f(x)|g %}x{% endfilter %}{% endautoescape %} => 0 Lookup("z")␊1 PushAutoEscape␊2 BeginCapture(Capture)␊3 EmitRaw("x")␊4 EndCapture␊5 Lookup("x")␊6 ApplyFilter("f", 2, 0)␊7 ApplyFilter("g", 1, 1)␊8 Emit␊9 PopAutoEscape␊hint 2␊
 {% autoescape z %}{% autoescape z %}x{% endautoescape %}{% endautoescape %} => 0 Lookup("z")␊1 PushAutoEscape␊2 Lookup("z")␊3 PushAutoEscape␊4 EmitRaw("x")␊5 PopAutoEscape␊6 PopAutoEscape␊hint 2␊
 "#;
-    hold::<Code>(&rt, rt.alloc(), rows)
+    hold::<Code>(rt.alloc(), rows)
 }
 
 #[test]
@@ -195,7 +196,7 @@ fn targets_and_their_values(rt: HostRuntime) -> Result<(), Fail> {
 {% for a, in b %}{% endfor %} => 0 Lookup("b")␊1 PushLoop(1)␊2 Iterate(6)␊3 UnpackList(1)␊4 StoreLocal("a")␊5 Jump(2)␊6 PopLoopFrame␊hint 1␊
 {% for in x %}{% endfor %} => 0 Lookup("x")␊1 PushLoop(1)␊2 Iterate(5)␊3 UnpackList(0)␊4 Jump(2)␊5 PopLoopFrame␊hint 1␊
 "#;
-    hold::<Code>(&rt, rt.alloc(), rows)
+    hold::<Code>(rt.alloc(), rows)
 }
 
 #[test]
@@ -220,7 +221,7 @@ fn loops_and_conditions(rt: HostRuntime) -> Result<(), Fail> {
 {% if not a %}x{% endif %} => 0 Lookup("a")␊1 Not␊2 JumpIfFalse(4)␊3 EmitRaw("x")␊hint 2␊
 {% if 1 %}x{% endif %} => 0 LoadConst(1)␊1 JumpIfFalse(3)␊2 EmitRaw("x")␊hint 2␊
 "#;
-    hold::<Code>(&rt, rt.alloc(), rows)
+    hold::<Code>(rt.alloc(), rows)
 }
 
 #[test]
@@ -239,7 +240,7 @@ fn scopes_and_captures(rt: HostRuntime) -> Result<(), Fail> {
 {% autoescape true %}{{ x }}{% endautoescape %} => 0 LoadConst(true)␊1 PushAutoEscape␊2 Lookup("x")␊3 Emit␊4 PopAutoEscape␊hint 1␊
 {% autoescape a if b else c %}{% endautoescape %} => 0 Lookup("b")␊1 JumpIfFalse(4)␊2 Lookup("a")␊3 Jump(5)␊4 Lookup("c")␊5 PushAutoEscape␊6 PopAutoEscape␊hint 1␊
 "#;
-    hold::<Code>(&rt, rt.alloc(), rows)
+    hold::<Code>(rt.alloc(), rows)
 }
 
 /// `break` and `continue` close what is open, and `do` drops its value: here the layout decides.
@@ -252,7 +253,7 @@ fn what_is_open_is_closed_on_the_way_out(rt: HostRuntime) -> Result<(), Fail> {
 {% for x in y %}{% set s %}a{% continue %}{% endset %}{% endfor %} => 0 Lookup("y")␊1 PushLoop(1)␊2 Iterate(12)␊3 StoreLocal("x")␊4 BeginCapture(Capture)␊5 EmitRaw("a")␊6 EndCapture␊7 DiscardTop␊8 Jump(2)␊9 EndCapture␊10 StoreLocal("s")␊11 Jump(2)␊12 PopLoopFrame␊hint 2␊
 {% for x in y %}{% filter f %}{% with %}{% continue %}{% endwith %}{% endfilter %}{% endfor %} => 0 Lookup("y")␊1 PushLoop(1)␊2 Iterate(15)␊3 StoreLocal("x")␊4 BeginCapture(Capture)␊5 PushWith␊6 PopFrame␊7 EndCapture␊8 DiscardTop␊9 Jump(2)␊10 PopFrame␊11 EndCapture␊12 ApplyFilter("f", 1, 0)␊13 Emit␊14 Jump(2)␊15 PopLoopFrame␊hint 1␊
 "#;
-    hold::<Code>(&rt, rt.alloc(), rows)
+    hold::<Code>(rt.alloc(), rows)
 }
 
 /// What cuts data beside a block tag.
@@ -268,7 +269,7 @@ code, --block, \BLOCK{, }, --variable, \VAR{, }, --comment, \#{, }, - < \BLOCK{i
 code, --line-statement, %, - < % for x in y␊␠␠% if x␊{{ x }}␊␠␠% else␊n␊␠␠% endif␊% endfor␊ => template␊0 Lookup("y")␊1 PushLoop(1)␊2 Iterate(12)␊3 StoreLocal("x")␊4 Lookup("x")␊5 JumpIfFalse(10)␊6 Lookup("x")␊7 Emit␊8 EmitRaw("\n")␊9 Jump(11)␊10 EmitRaw("n\n")␊11 Jump(2)␊12 PopLoopFrame␊hint 8␊
 code, --keep-newline, - < {% with a = 1 %}␊{%- endwith -%}␊ => template␊0 PushWith␊1 LoadConst(1)␊2 StoreLocal("a")␊3 PopFrame␊hint 1␊
 "#;
-    hold::<Commands>(&rt, rt.alloc(), rows)
+    hold::<Commands>(rt.alloc(), rows)
 }
 
 /// Templates that are refused as syntax errors, whatever place is named.
@@ -324,5 +325,5 @@ fn refuses_what_is_no_statement(rt: HostRuntime) -> Result<(), Fail> {
 {% if %}{% endif %} => ! 1 mjc: SyntaxError
 {% with a = 1 %}{% endset %} => ! 1 mjc: SyntaxError
 "#;
-    hold::<RefusedSomewhere>(&rt, rt.alloc(), rows)
+    hold::<RefusedSomewhere>(rt.alloc(), rows)
 }

@@ -1,6 +1,7 @@
 //! The lines that `mjc tokens` prints.
 use super::words::Commands;
-use super::{Short, Subject, hold, output};
+use super::{Short, output};
+use minijinja_test_rows::rows::{Subject, hold};
 use mjc_commands::run::run;
 use std::alloc::Global;
 use std::io;
@@ -31,7 +32,7 @@ a {#-#} b => 1:0-1:1 TemplateData("a")␊1:7-1:9 TemplateData(" b")␊
 {{ 'a' 18446744073709551616 }} => 1:0-1:2 VariableStart␊1:3-1:6 Str("a")␊1:7-1:27 Int128(18446744073709551616)␊1:28-1:30 VariableEnd␊
 {{ a+b**2//1 }} => 1:0-1:2 VariableStart␊1:3-1:4 Ident("a")␊1:4-1:5 Plus␊1:5-1:6 Ident("b")␊1:6-1:8 Pow␊1:8-1:9 Int(2)␊1:9-1:11 FloorDiv␊1:11-1:12 Int(1)␊1:13-1:15 VariableEnd␊
 "#;
-    hold::<Tokens>(&rt, rt.alloc(), rows)
+    hold::<Tokens>(rt.alloc(), rows)
 }
 
 #[test]
@@ -39,7 +40,7 @@ fn prints_the_tokens_before_a_refusal(rt: HostRuntime) -> Result<(), Fail> {
     let rows = r#"
 {{ a ? => 1:0-1:2 VariableStart␊1:3-1:4 Ident("a")␊! 1 mjc: SyntaxError at 1:5␊
 "#;
-    hold::<Tokens>(&rt, rt.alloc(), rows)
+    hold::<Tokens>(rt.alloc(), rows)
 }
 
 /// An end that begins with whitespace is met after a control byte alone. The words of an option may
@@ -59,7 +60,7 @@ tokens, --keep-newline, - < a␊ => 1:0-2:0 TemplateData("a\n")␊
 tokens, --block, --block, --, - < --block x -- => 1:0-1:7 BlockStart␊1:8-1:9 Ident("x")␊1:10-1:12 BlockEnd␊
 tokens, --variable, <<, >>, --variable, [[, ]], - < <<[[ x ]] => 1:0-1:2 TemplateData("<<")␊1:2-1:4 VariableStart␊1:5-1:6 Ident("x")␊1:7-1:9 VariableEnd␊
 "#;
-    hold::<Commands>(&rt, rt.alloc(), rows)
+    hold::<Commands>(rt.alloc(), rows)
 }
 
 #[test]
@@ -67,7 +68,7 @@ fn removes_lines_of_comments(rt: HostRuntime) -> Result<(), Fail> {
     let rows = r#"
 tokens, --line-statement, #, --line-comment, ##, - < ## This block is␊## completely removed␊<ul>␊  # for item in [1, 2]␊    ## this is a comment that is also removed including leading whitespace␊    <li>{{ item }}␊  # endfor␊</ul> => 3:0-4:0 TemplateData("<ul>\n")␊4:2-4:3 BlockStart␊4:4-4:7 Ident("for")␊4:8-4:12 Ident("item")␊4:13-4:15 Ident("in")␊4:16-4:17 BracketOpen␊4:17-4:18 Int(1)␊4:18-4:19 Comma␊4:20-4:21 Int(2)␊4:21-4:22 BracketClose␊4:22-5:0 BlockEnd␊6:0-6:8 TemplateData("    <li>")␊6:8-6:10 VariableStart␊6:11-6:15 Ident("item")␊6:16-6:18 VariableEnd␊6:18-7:0 TemplateData("\n")␊7:2-7:3 BlockStart␊7:4-7:10 Ident("endfor")␊7:10-8:0 BlockEnd␊8:0-8:5 TemplateData("</ul>")␊
 "#;
-    hold::<Commands>(&rt, rt.alloc(), rows)
+    hold::<Commands>(rt.alloc(), rows)
 }
 
 /// That many lines, and a tag after them.

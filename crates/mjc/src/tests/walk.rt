@@ -1,8 +1,8 @@
 //! A walk over trees, from each node to the nodes right below it.
-use super::{Subject, hold};
 use minijinja_parser::parser::parse;
 use minijinja_syntax::error::Error;
 use minijinja_syntax::syntax::SyntaxConfig;
+use minijinja_test_rows::rows::{Subject, hold};
 use minijinja_tree::ast::{Expr, Stmt};
 use minijinja_value::value::{TemplateValue, Value};
 use minijinja_walk::walk::{Node, children};
@@ -63,5 +63,5 @@ fn nodes_come_in_the_order_of_the_fields(rt: HostRuntime) -> Result<(), Fail> {
 {% macro a(b, c=d) %}{{ e }}{% endmacro %} => names b c d e
 {% call(a, b=c) d(e) %}{{ f }}{% endcall %}{% do g(h) %} => names d e a b c f g h
 "#;
-    hold::<Walks>(&rt, rt.alloc(), rows)
+    hold::<Walks>(rt.alloc(), rows)
 }

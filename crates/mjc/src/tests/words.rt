@@ -1,5 +1,6 @@
 //! The words of a command, and the syntax that its options specify.
-use super::{GREETING, Subject, Trickle, hold, output, parted};
+use super::{GREETING, Trickle, output};
+use minijinja_test_rows::rows::{Subject, hold, parted};
 use std::alloc::Global;
 use std::io::{self, Read};
 use std::test::Fail;
@@ -88,7 +89,7 @@ tokens, --line-statement
 tokens, --line-comment, a
 tokens, --keep-newline, a, b
 "#;
-    hold::<Misused>(&rt, rt.alloc(), rows)
+    hold::<Misused>(rt.alloc(), rows)
 }
 
 #[test]
@@ -97,7 +98,7 @@ fn heeds_options_of_code(rt: HostRuntime) -> Result<(), Fail> {
 code, --trim-blocks, --variable, [[, ]], - < [[ x ]] => template␊0 Lookup("x")␊1 Emit␊hint 1␊
 names, --trim-blocks, --variable, [[, ]], - < [[ x.y ]] => plain x␊nested x.y␊
 "#;
-    hold::<Commands>(&rt, rt.alloc(), rows)
+    hold::<Commands>(rt.alloc(), rows)
 }
 
 /// Options before it keep the words that they take.
@@ -112,7 +113,7 @@ replay, --, --a, --b < x => starved, 1 steps␊
 code, --line-statement, --, a < -- if a␊x␊-- endif => template␊0 Lookup("a")␊1 JumpIfFalse(3)␊2 EmitRaw("x\n")␊hint 4␊
 code, --line-statement, --, --, --a < -- if a␊x␊-- endif => template␊0 Lookup("a")␊1 JumpIfFalse(3)␊2 EmitRaw("x\n")␊hint 4␊
 "#;
-    hold::<Commands>(&rt, rt.alloc(), rows)
+    hold::<Commands>(rt.alloc(), rows)
 }
 
 /// Commands: what they print of a file that cannot be read to its end, and of one that is no text.
@@ -144,7 +145,7 @@ lint, --, --a => ! 2 mjc: cannot read --a␊
 expr, - => ! 2 mjc: cannot read -␊
 replay, a/b, answers => ! 2 mjc: cannot read a/b␊
 "#;
-    hold::<Unread>(&rt, rt.alloc(), rows)
+    hold::<Unread>(rt.alloc(), rows)
 }
 
 /// What a command prints of a file of which each read fails.
@@ -183,7 +184,7 @@ fn tells_its_version(rt: HostRuntime) -> Result<(), Fail> {
     let rows = r#"
 --version => mjc 1.0.0␊
 "#;
-    hold::<About>(&rt, rt.alloc(), rows)
+    hold::<About>(rt.alloc(), rows)
 }
 
 /// The first word of each line of the help but the first two, as far as it has one.
@@ -229,7 +230,7 @@ expr, --help, a
 --Version
 version
 "#;
-    hold::<Misused>(&rt, rt.alloc(), rows)
+    hold::<Misused>(rt.alloc(), rows)
 }
 
 /// Also where the file cannot be read.
@@ -242,5 +243,5 @@ names, --block, {{, %}, - => ! 1 mjc: InvalidDelimiter at 0:0␊
 code, --comment, {#, ␀, - => ! 1 mjc: InvalidDelimiter at 0:0␊
 code, --line-statement, #, --line-comment, #, - => ! 1 mjc: InvalidDelimiter at 0:0␊
 "#;
-    hold::<Unread>(&rt, rt.alloc(), rows)
+    hold::<Unread>(rt.alloc(), rows)
 }
