@@ -28,7 +28,7 @@ from values import Value
 
 WANTED = {FINISHED: 30, ANSWER_FAULT: 17, OPERATOR_FAULT: 18, STARVED: 17, UNFIT: 18}
 ATTEMPTS = 25
-# After so many events no loop gets a further item.
+# After this number of events no loop gets a further item.
 MANY_EVENTS = 150
 OTHER_LETTERS = ["\x00", "\x0b", "\u2028", "\x7f", "/", "\b", "\f", "\ufeff", "日本"]
 BAD_LINES = [

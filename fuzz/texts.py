@@ -167,7 +167,7 @@ class File(NamedTuple):
 
 
 def make(seed: int, count: int, broken: int, expressions: int, odd_syntaxes: int = 0) -> File:
-    """The file of a seed, with so many templates, broken texts, expressions by themselves and odd syntaxes."""
+    """The file of a seed, with these numbers of templates, broken texts, expressions by themselves and odd syntaxes."""
     random = Random(f"file {seed}")
     syntax = SYNTAXES[seed % len(SYNTAXES)].with_flags(it for it in FLAGS if random.random() < 0.08)
     maker = TextMaker(random, syntax)

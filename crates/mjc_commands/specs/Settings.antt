@@ -1,5 +1,5 @@
 -- The options of a command: their words, and the syntax that they specify.
-use Rattle.std.specs.Prelude.{List, map, true, codes}
+use Rattle.std.specs.Prelude.{List, [], ◌∷◌, map, true, codes}
 use Rattle.std.specs.List.{fold}
 use Rattle.std.specs.Borrow.{Bor}
 use Rattle.minijinja_syntax.specs.Texts.{Text}

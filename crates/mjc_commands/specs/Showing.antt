@@ -57,7 +57,7 @@ Succeeds task syntax source ending = IfErr ending (λ failure. IsMemory failure 
 abbrev pub SucceedsExpr : {A : Type 0} → Text → Result A Failure → Type 0
 SucceedsExpr source ending = IfErr ending (λ failure. IsMemory failure ⊎ IsTooLargeExpr source)
 
--- what was written of tokens is all of them, or what ends them is the text's own refusal or want of
+-- what was written of tokens is all of them, or what ends them is the text's own refusal or refused
 -- memory
 abbrev pub EndsBy : Ending → Option Error → Type 0
 EndsBy ending refusal = MatchOption refusal
